@@ -1,0 +1,4 @@
+pub mod Bools
+pub mod Rows
+pub mod Walk
+pub mod Turns

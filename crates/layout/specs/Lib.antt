@@ -1,0 +1,6 @@
+pub mod Bounds
+pub mod Kinds
+pub mod Tests
+pub mod Records
+pub mod Scan
+pub mod Questions

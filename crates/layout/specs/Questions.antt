@@ -1,0 +1,134 @@
+-- Questions 1 to 5: the bytes and the records.
+use mathlib.Core.List.{List, [], _∷_}
+use mathlib.Core.Option.{Option, none, some}
+use mathlib.Core.Bool.{Bool, true, false, cond, not, _||_}
+use Prim.Native.Nat.{ℕ, _+_, _-_, _*_}
+use lib.ListN.{length}
+use lib.Dec.{ltb, leb, eqb}
+use Rattle.layout.specs.Bounds.{IMAGE, FUNCTIONS, VERSIONS, ALL-VERSIONS, REGISTERS, PARAMETERS, BLOCKS, INSTRUCTIONS, OPERANDS, MARKS, OPERATIONS}
+use Rattle.layout.specs.Kinds as kind
+use Rattle.layout.specs.Tests.{_and_}
+use Rattle.layout.specs.Records.{Rec, _!_, recAt, choose}
+use Rattle.layout.specs.Scan.{scan}
+use Rattle.layout.specs.declared.Found.{Found}
+use Rattle.layout.specs.declared.Found.the-variants.{Nothing, At}
+use Rattle.layout.specs.declared.Due.{Due}
+use Rattle.layout.specs.declared.Turn.{Turn}
+use Rattle.layout.specs.declared.Turn.the-variants.{Next, Refused}
+
+-- 1: has the image 1..32,768 bytes?
+unfoldable pub question1 : List ℕ → Found
+question1 s = cond (ltb 0 (length s) and leb (length s) IMAGE) Nothing (At 0)
+
+-- a question that keeps nothing, and one that asks nothing at the end
+abbrev pub same : Unit {0} → Rec → Unit {0}
+same st r = st
+
+abbrev pub nothing : {S : Type 0} → S → Found
+nothing st = Nothing
+
+-- 2: does each record have a full head, a length of at least 4, and end inside the image? `scan` asks that of every record
+abbrev pub whole : Unit {0} → Rec → Bool
+whole st r = true
+
+unfoldable pub question2 : List Rec → Found
+question2 rs = scan whole same nothing tt rs
+
+-- the length that a kind and its fields make; no record has length 0
+unfoldable pub lengthOf : ℕ → List ℕ → ℕ
+lengthOf k b = choose k 0 (
+    (kind.VERSION, 10 + b ! 3) ∷
+    (kind.BLOCK, 7) ∷
+    (kind.LIT, 9) ∷
+    (kind.MOVE, 6) ∷
+    (kind.USE, 6) ∷
+    (kind.DUP, 6) ∷
+    (kind.VEC, 6 + b ! 1) ∷
+    (kind.LEN, 6) ∷
+    (kind.GET, 7) ∷
+    (kind.SET, 7) ∷
+    (kind.ARITH, 8) ∷
+    (kind.SELECT, 8) ∷
+    (kind.CAST, 6) ∷
+    (kind.NAMED, 6) ∷
+    (kind.STORE, 6) ∷
+    (kind.PROM, 6) ∷
+    (kind.FORCE, 6) ∷
+    (kind.PEEK, 7) ∷
+    (kind.POKE, 7) ∷
+    (kind.CALL, 8 + b ! 3) ∷
+    (kind.DISPATCH, 9 + 2 * b ! 4) ∷ [])
+
+-- 3: is each kind known, its length the one its fields make?
+abbrev pub fitting : Unit {0} → Rec → Bool
+fitting st r = eqb (r .size) (lengthOf (r .kind) (r .body))
+
+unfoldable pub question3 : List Rec → Found
+question3 rs = scan fitting same nothing tt rs
+
+-- a VERSION's numbers and counts: function, version, parameters, registers, blocks
+unfoldable pub numbered : List ℕ → Bool
+numbered b =
+    ltb (b ! 0) FUNCTIONS and ltb (b ! 1) VERSIONS and leb (b ! 2) PARAMETERS and leb (b ! 2) (b ! 3)
+    and ltb 0 (b ! 3) and leb (b ! 3) REGISTERS and ltb 0 (b ! 5) and leb (b ! 5) BLOCKS
+
+-- the bounds that question 4 names: a VERSION's, marks, instruction counts, n and op
+unfoldable pub inBounds : ℕ → List ℕ → Bool
+inBounds k b = choose k true (
+    (kind.VERSION, numbered b) ∷
+    (kind.BLOCK, ltb (b ! 0) MARKS and leb (b ! 2) INSTRUCTIONS) ∷
+    (kind.VEC, leb (b ! 1) OPERANDS) ∷
+    (kind.ARITH, ltb (b ! 1) OPERATIONS) ∷
+    (kind.CALL, leb (b ! 3) OPERANDS) ∷
+    (kind.DISPATCH, ltb (b ! 2) MARKS and leb (b ! 4) OPERANDS) ∷ [])
+
+-- may a record of this kind stand here, by what is due?
+unfoldable pub inOrder : Due → ℕ → Bool
+inOrder due k = choose k (ltb 0 (due .instructions)) (
+    (kind.VERSION, ltb (due .versions) ALL-VERSIONS and eqb (due .blocks) 0 and eqb (due .instructions) 0) ∷
+    (kind.BLOCK, ltb 0 (due .blocks) and eqb (due .instructions) 0) ∷ [])
+
+-- what is due after it
+unfoldable pub dueAfter : Due → Rec → Due
+dueAfter due r = choose (r .kind) (record { versions = due .versions; blocks = due .blocks; instructions = due .instructions - 1 }) (
+    (kind.VERSION, record { versions = due .versions + 1; blocks = r .body ! 5; instructions = 0 }) ∷
+    (kind.BLOCK, record { versions = due .versions; blocks = due .blocks - 1; instructions = r .body ! 2 }) ∷ [])
+
+-- what is due at the start
+abbrev pub start : Due
+start = record { versions = 0; blocks = 0; instructions = 0 }
+
+-- where records are missing, the offset is the image length
+unfoldable pub noneDue : ℕ → Due → Found
+noneDue end due = cond (eqb (due .blocks) 0 and eqb (due .instructions) 0) Nothing (At end)
+
+-- 4: are a VERSION's numbers and counts, the count of versions so far, instruction counts, marks, op and n in bounds, and records in order?
+abbrev pub placed : Due → Rec → Bool
+placed due r = inBounds (r .kind) (r .body) and inOrder due (r .kind)
+
+unfoldable pub question4 : ℕ → List Rec → Found
+question4 end rs = scan placed dueAfter (noneDue end) start rs
+
+-- does the version w of the function f follow on the VERSION before?
+unfoldable pub follows : Option Rec → ℕ → ℕ → Bool
+follows none f w = eqb f 0 and eqb w 0
+follows (some r) f w = (eqb f (r .body ! 0) and eqb w (r .body ! 1 + 1)) || (eqb f (r .body ! 0 + 1) and eqb w 0)
+
+abbrev pub lastVersion : Option Rec → Rec → Option Rec
+lastVersion before r = cond (eqb (r .kind) kind.VERSION) (some r) before
+
+-- 5: is the first version 0.0, and each next one the same function with version + 1, or function + 1 with version 0?
+abbrev pub following : Option Rec → Rec → Bool
+following before r = not (eqb (r .kind) kind.VERSION) || follows before (r .body ! 0) (r .body ! 1)
+
+unfoldable pub question5 : List Rec → Found
+question5 rs = scan following lastVersion nothing none rs
+
+-- the record at an offset that the code keeps; none stands at the end of the image or past it
+unfoldable pub lastAt : List ℕ → ℕ → Option Rec
+lastAt s p = cond (ltb p (length s)) (some (recAt s p)) none
+
+-- what question 4 says to a record, as the code says it
+abbrev pub turnOf : Bool → Due → Turn
+turnOf true due = Next due
+turnOf false due = Refused

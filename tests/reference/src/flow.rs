@@ -1,0 +1,116 @@
+//! "Flow": what a version reads before assigning, assigns, empties and captures.
+
+use crate::instruction::{Instruction, Register};
+use crate::program::{Program, Version};
+use std::collections::BTreeSet;
+
+/// A set of registers.
+pub type Registers = BTreeSet<Register>;
+
+/// An action: four register sets.
+#[derive(Clone, Default, PartialEq, Eq, Debug)]
+pub struct Action {
+    /// R: read before assigned.
+    pub reads: Registers,
+    /// W: assigned.
+    pub assigns: Registers,
+    /// U: emptied.
+    pub empties: Registers,
+    /// C: captured.
+    pub captures: Registers,
+}
+
+impl Action {
+    /// The action that reads these registers.
+    fn reading(registers: impl IntoIterator<Item = Register>) -> Action {
+        Action {
+            reads: registers.into_iter().collect(),
+            ..Action::default()
+        }
+    }
+
+    /// The action that assigns these registers.
+    fn assigning(registers: impl IntoIterator<Item = Register>) -> Action {
+        Action {
+            assigns: registers.into_iter().collect(),
+            ..Action::default()
+        }
+    }
+
+    /// The action that empties these registers.
+    fn emptying(registers: impl IntoIterator<Item = Register>) -> Action {
+        Action {
+            empties: registers.into_iter().collect(),
+            ..Action::default()
+        }
+    }
+
+    /// A then A′: none unless U meets none of R′, W′, U′, C′ and C does not meet U′.
+    pub fn then(&self, next: &Action) -> Option<Action> {
+        let emptied_before = [&next.reads, &next.assigns, &next.empties, &next.captures];
+        let allowed = emptied_before
+            .iter()
+            .all(|set| self.empties.is_disjoint(set))
+            && self.captures.is_disjoint(&next.empties);
+        allowed.then(|| Action {
+            reads: &self.reads | &(&next.reads - &self.assigns),
+            assigns: &self.assigns | &next.assigns,
+            empties: &self.empties | &next.empties,
+            captures: &self.captures | &next.captures,
+        })
+    }
+
+    /// What PROM yields for its block's action: (R, ∅, U, R ∪ W ∪ U ∪ C).
+    fn delayed(&self) -> Action {
+        Action {
+            reads: self.reads.clone(),
+            assigns: Registers::new(),
+            empties: self.empties.clone(),
+            captures: &(&self.reads | &self.assigns) | &(&self.empties | &self.captures),
+        }
+    }
+}
+
+/// 10. Does flow hold?
+pub fn question10(program: &Program) -> Result<(), usize> {
+    for version in &program.versions {
+        body_action(program, version).ok_or(version.offset)?;
+    }
+    Ok(())
+}
+
+/// The action of a version's body; none if flow does not hold.
+pub fn body_action(program: &Program, version: &Version) -> Option<Action> {
+    let action = block_action(program, version, 0)?;
+    let parameters = version.head.parameters;
+    action
+        .reads
+        .iter()
+        .all(|&register| register < parameters)
+        .then_some(action)
+}
+
+/// The action of a block: its instructions in order, then its result register is read.
+fn block_action(program: &Program, version: &Version, number: u8) -> Option<Action> {
+    let block = &version.blocks[usize::from(number)];
+    let mut action = Action::default();
+    for placed in &block.instructions {
+        action = action.then(&instruction_action(program, version, &placed.item)?)?;
+    }
+    action.then(&Action::reading([block.head.result]))
+}
+
+/// The action of an instruction: it reads its operands, then empties, then assigns.
+fn instruction_action(
+    program: &Program,
+    version: &Version,
+    instruction: &Instruction,
+) -> Option<Action> {
+    let before = match *instruction {
+        Instruction::Prom { block, .. } => block_action(program, version, block)?.delayed(),
+        _ => Action::reading(instruction.reads()),
+    };
+    before
+        .then(&Action::emptying(program.emptied(instruction)))?
+        .then(&Action::assigning(instruction.assigns()))
+}

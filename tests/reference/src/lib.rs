@@ -1,0 +1,43 @@
+//! An independent reference of FIR, written from the paper alone: a checker of
+//! images and an evaluator of runs, clear before fast.
+//!
+//! The modules follow the sections of the paper, and rules by instruction
+//! stand in the order of their kind numbers:
+//!
+//! | section | modules |
+//! |---|---|
+//! | Values and types | [`types`] |
+//! | Image | [`bounds`], [`kinds`], [`instruction`], [`record`], [`program`] |
+//! | Questions put to an image | [`questions`], [`begin`] |
+//! | Types fit when | [`questions`] |
+//! | Flow | [`flow`] |
+//! | Steps | [`state`], [`counts`], [`outside`], [`steps`] |
+//! | What demand 3 speaks of | [`monitor`] |
+//! | Program | [`report`] |
+
+pub mod begin;
+pub mod bounds;
+pub mod counts;
+pub mod flow;
+pub mod instruction;
+pub mod kinds;
+pub mod monitor;
+pub mod outside;
+pub mod program;
+pub mod questions;
+pub mod record;
+pub mod report;
+pub mod state;
+pub mod steps;
+pub mod types;
+
+pub use begin::begin;
+pub use bounds::Integer;
+pub use instruction::{Instruction, Name, Register};
+pub use program::Program;
+pub use questions::{questions_1_to_7, verdict, Refusal, Verdict};
+pub use record::Record;
+pub use report::report;
+pub use state::{End, State, Status, Value};
+pub use steps::{Answer, Said};
+pub use types::{Kind, Mark, Ownership, Type};

@@ -1,0 +1,86 @@
+//! "Questions put to an image": each to the whole image before the next.
+
+mod effect;
+mod existence;
+mod fit;
+mod framing;
+mod order;
+mod places;
+
+pub use fit::{needs, Need};
+pub use framing::records;
+
+use crate::flow;
+use crate::program::Program;
+
+/// A no: the question's number and the offset of the first record that fails.
+#[derive(Clone, Copy, PartialEq, Eq, PartialOrd, Ord, Hash, Debug)]
+pub struct Refusal {
+    /// The question that was answered with no.
+    pub number: u8,
+    /// Where the first record that fails begins.
+    pub offset: usize,
+}
+
+/// What the ten questions say of an image.
+#[derive(Clone, Copy, PartialEq, Eq, Debug)]
+pub enum Verdict {
+    /// Ten times yes, and how many versions the image has.
+    Accepted(usize),
+    /// The first no.
+    Refused(Refusal),
+}
+
+/// What the ten questions say of an image.
+pub fn verdict(image: &[u8]) -> Verdict {
+    match Program::accept(image) {
+        Ok(program) => Verdict::Accepted(program.versions.len()),
+        Err(refusal) => Verdict::Refused(refusal),
+    }
+}
+
+/// The first no among questions 1 to 7; none where all say yes.
+pub fn questions_1_to_7(image: &[u8]) -> Option<Refusal> {
+    exists(image).err()
+}
+
+impl Program {
+    /// The program of an image that passes the ten questions, or the first no.
+    pub fn accept(image: &[u8]) -> Result<Program, Refusal> {
+        let program = exists(image)?;
+        put(8, fit::question8(&program))?;
+        put(9, effect::question9(&program))?;
+        put(10, flow::question10(&program))?;
+        Ok(program)
+    }
+}
+
+/// The program of an image that passes questions 1 to 7, or the first no.
+fn exists(image: &[u8]) -> Result<Program, Refusal> {
+    put(1, framing::question1(image))?;
+    let framed = put(2, framing::question2(image))?;
+    let records = put(3, framing::question3(&framed))?;
+    put(4, order::question4(&records, image.len()))?;
+    let program = Program::gather(&records);
+    put(5, order::question5(&program))?;
+    put(6, places::question6(&program))?;
+    put(7, existence::question7(&program))?;
+    Ok(program)
+}
+
+/// A question's answer, its no under the question's number.
+fn put<T>(number: u8, answer: Result<T, usize>) -> Result<T, Refusal> {
+    answer.map_err(|offset| Refusal { number, offset })
+}
+
+/// Yes if every one passes; else the offset of the first that fails.
+fn all_pass<T>(
+    items: impl IntoIterator<Item = T>,
+    offset: impl Fn(&T) -> usize,
+    passes: impl Fn(&T) -> bool,
+) -> Result<(), usize> {
+    match items.into_iter().find(|item| !passes(item)) {
+        Some(failing) => Err(offset(&failing)),
+        None => Ok(()),
+    }
+}

@@ -1,0 +1,54 @@
+//! The rules of ARITH and CAST, and those of names: NAMED, STORE, PEEK and POKE.
+
+use super::{Halt, Step, UNDEF};
+use crate::bounds::Integer;
+use crate::instruction::{Name, Register};
+use crate::kinds;
+use crate::program::{Program, Version};
+use crate::state::{State, Value};
+
+impl State {
+    /// ARITH: UNDEF if the result is out of range or a divisor is 0.
+    pub(super) fn arith(&mut self, d: Register, op: u8, a: Integer, b: Integer) -> Step {
+        let result = match op {
+            kinds::ADD => a.checked_add(b),
+            kinds::SUBTRACT => a.checked_sub(b),
+            kinds::MULTIPLY => a.checked_mul(b),
+            kinds::DIVIDE => a.checked_div(b),
+            kinds::LESS => Some(Integer::from(a < b)),
+            _ => return Err(Halt::Stuck),
+        };
+        self.assign(d, Value::Integer(result.ok_or(UNDEF)?))
+    }
+
+    /// CAST: UNDEF if the value is not of d's kind.
+    pub(super) fn cast(
+        &mut self,
+        program: &Program,
+        version: &Version,
+        d: Register,
+        value: Value,
+    ) -> Step {
+        let kind = self.kind(program, value).ok_or(Halt::Stuck)?;
+        if !kind.within(version.type_of(d).kind()) {
+            return Err(UNDEF);
+        }
+        self.assign(d, value)
+    }
+
+    /// NAMED and PEEK: UNDEF if the name is unset, stuck if it holds a promise.
+    pub(super) fn read_name(&mut self, frame: usize, x: Name, d: Register) -> Step {
+        let value = self.frames[frame].names[usize::from(x)].ok_or(UNDEF)?;
+        if matches!(value, Value::Promise(_)) {
+            return Err(Halt::Stuck);
+        }
+        self.assign(d, value)
+    }
+
+    /// STORE and POKE.
+    pub(super) fn write_name(&mut self, frame: usize, x: Name, value: Value) -> Step {
+        self.frames[frame].names[usize::from(x)] = Some(value);
+        self.pass();
+        Ok(())
+    }
+}
