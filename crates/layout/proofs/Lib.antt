@@ -1,4 +1,5 @@
 pub mod Bools
+pub mod Fields
 pub mod Rows
-pub mod Walk
 pub mod Turns
+pub mod Walk

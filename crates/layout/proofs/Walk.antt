@@ -10,7 +10,7 @@ use lib.Seq.{drop-drop, getD-drop, getD-take}
 use lib.Dec.{ltb, eqb}
 use borrow.Author.Tests.{lt-ltb, le-ltb, ne-eqb, eqb-false, ltb-false}
 use Rattle.layout.specs.Tests.{_and_}
-use Rattle.layout.specs.Records.{Rec, _!_, u16At, sizeOf, recOf, sizeAt, kindAt, bodyAt, recAt, walk, rest, fields}
+use Rattle.layout.specs.Records.{Rec, _!_, u16At, sizeOf, recOf, sizeAt, kindAt, bodyAt, recAt, walk, rest}
 use Rattle.layout.specs.Scan.{scan}
 use Rattle.layout.specs.declared.Found.{Found}
 use Rattle.layout.specs.declared.Found.the-variants.{At}
@@ -164,21 +164,6 @@ module _ {S : Type 0} {ok : S → Rec → Bool} {next : S → Rec → S} {end : 
 
   pub passed : {n : ℕ} → p < length s → n ≡ sizeAt s p → (n ≡ 0 → ⊥) → ok st (recAt s p) ≡ true → Along ok next end answer s (p + n) (next st (recAt s p))
   passed {n} h e z r = record { inside = rw e (size-room s p (w .inside)); left = w .left ∙ at-passed ok next end s p st h (λ (y : sizeAt s p ≡ 0). z (e ∙ y)) r ∙ ap (λ (m : ℕ). scan ok next end (next st (recAt s p)) (rest s (p + m))) (sym e) }
-
--- a list of fields, by its length and its places
-pub length-fields : (b : List ℕ) (k n : ℕ) → length (fields b k n) ≡ n
-unfolding fields
-length-fields b k zero = refl
-length-fields b k (suc n) = ap suc (length-fields b (k + 1) n)
-
-pub fields-at : (b : List ℕ) (k n i : ℕ) → i < n → fields b k n ! i ≡ b ! (k + i)
-unfolding fields
-fields-at b k zero i h = absurd (omega arith)
-fields-at b k (suc n) zero h = rw add-zero
-fields-at b k (suc n) (suc i) h = let e : k + suc i ≡ k + 1 + i = omega arith in rw e (fields-at b (k + 1) n i (omega arith))
-
-pub fields-past : (b : List ℕ) (k n i : ℕ) → n ≤ i → fields b k n ! i ≡ 0
-fields-past b k n i h = List·getD-eq-default (fields b k n) 0 (rw length-fields h)
 
 -- A turn of a loop along the records has met a whole record of length n: all that the turn's answers need.
 pub record Met {S : Type 0} (ok : S → Rec → Bool) (next : S → Rec → S) (end : S → Found) (answer : Found) (s : List ℕ) (p : ℕ) (st : S) (n : ℕ) : Type 0 where

@@ -18,7 +18,7 @@ pub fn begin(
     State::begin(&program, function, version, words, buffer)
 }
 
-/// 13. Has the result buffer at least 16 places?
+/// Question 13: has the result buffer at least 16 places?
 pub fn question13(buffer: &[Integer]) -> Result<(), Refusal> {
     if buffer.len() >= BUFFER {
         Ok(())
@@ -81,7 +81,7 @@ impl Argument {
     }
 }
 
-/// 12. The values that the words make, and the vectors they refer to; none
+/// Question 12: the values that the words make, and the vectors they refer to; none
 /// unless the words are used up exactly and each matches its parameter's kind.
 fn arguments(entry: &Version, words: &[Integer]) -> Option<(Vec<Value>, Vec<Vec<Integer>>)> {
     let (mut values, mut vectors) = (Vec::new(), Vec::new());

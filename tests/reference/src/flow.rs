@@ -71,7 +71,7 @@ impl Action {
     }
 }
 
-/// 10. Does flow hold?
+/// Question 10: does flow hold?
 pub fn question10(program: &Program) -> Result<(), usize> {
     for version in &program.versions {
         body_action(program, version).ok_or(version.offset)?;

@@ -5,7 +5,7 @@ use crate::instruction::Instruction;
 use crate::program::{Block, Program, Version};
 use crate::types::{Kind, Mark};
 
-/// 9. Does each block's mark cover its effect?
+/// Question 9: does each block's mark cover its effect?
 pub fn question9(program: &Program) -> Result<(), usize> {
     for version in &program.versions {
         all_pass(

@@ -5,7 +5,7 @@ use crate::bounds::NAMES;
 use crate::instruction::Instruction;
 use crate::program::{Program, Version};
 
-/// 7. Do registers, names, functions, called versions and PROM's block exist,
+/// Question 7: do registers, names, functions, called versions and PROM's block exist,
 /// is CALL's n the version's parameter count, is PROM's block above its own,
 /// and is every block but 0 named by exactly one PROM in its version?
 pub fn question7(program: &Program) -> Result<(), usize> {

@@ -133,7 +133,7 @@ impl Gives {
     }
 }
 
-/// 8. Do types fit?
+/// Question 8: do types fit?
 pub fn question8(program: &Program) -> Result<(), usize> {
     for version in &program.versions {
         for (number, block) in version.blocks.iter().enumerate() {

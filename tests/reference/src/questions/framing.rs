@@ -3,7 +3,7 @@
 use crate::bounds::MAX_IMAGE;
 use crate::record::{Framed, Placed, Record};
 
-/// 1. Has the image 1..32,768 bytes?
+/// Question 1: has the image 1..32,768 bytes?
 pub fn question1(image: &[u8]) -> Result<(), usize> {
     if (1..=MAX_IMAGE).contains(&image.len()) {
         Ok(())
@@ -12,7 +12,7 @@ pub fn question1(image: &[u8]) -> Result<(), usize> {
     }
 }
 
-/// 2. Does each record have a full head, a length of at least 4, and end inside the image?
+/// Question 2: does each record have a full head, a length of at least 4, and end inside the image?
 pub fn question2(image: &[u8]) -> Result<Vec<Framed<'_>>, usize> {
     let mut framed = Vec::new();
     let mut offset = 0;
@@ -24,7 +24,7 @@ pub fn question2(image: &[u8]) -> Result<Vec<Framed<'_>>, usize> {
     Ok(framed)
 }
 
-/// 3. Is each kind known, its length the one its fields make?
+/// Question 3: is each kind known, its length the one its fields make?
 pub fn question3(framed: &[Framed]) -> Result<Vec<Placed<Record>>, usize> {
     let read = |record: &Framed| {
         let item = Record::read(record.kind, record.body).ok_or(record.offset)?;

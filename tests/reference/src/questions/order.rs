@@ -8,7 +8,7 @@ use crate::kinds::OPERATIONS;
 use crate::program::Program;
 use crate::record::{BlockRecord, Placed, Record, VersionRecord};
 
-/// 4. Are numbers, counts, marks, op and n in bounds, and records in order?
+/// Question 4: are numbers, counts, marks, op and n in bounds, and records in order?
 pub fn question4(records: &[Placed<Record>], image_length: usize) -> Result<(), usize> {
     let mut due = Due::default();
     for record in records {
@@ -88,7 +88,7 @@ fn instruction_in_bounds(instruction: &Instruction) -> bool {
     }
 }
 
-/// 5. Is the first version 0.0, and each next one the same function with
+/// Question 5: is the first version 0.0, and each next one the same function with
 /// version + 1, or function + 1 with version 0?
 pub fn question5(program: &Program) -> Result<(), usize> {
     let mut next = vec![(0, 0)];

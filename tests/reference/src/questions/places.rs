@@ -4,7 +4,7 @@ use super::all_pass;
 use crate::instruction::Instruction;
 use crate::program::{Program, Version};
 
-/// 6. Is each type byte allowed at its place?
+/// Question 6: is each type byte allowed at its place?
 pub fn question6(program: &Program) -> Result<(), usize> {
     for version in &program.versions {
         if !version_types_allowed(version) {

@@ -1,0 +1,2 @@
+-- passes
+use mathlib.Core.Path.{_≡_, refl}

@@ -1,0 +1,87 @@
+-- The program by offsets: what code that goes along the records has in hand.
+use mathlib.Core.List.{List, [], _∷_, map}
+use mathlib.Core.Option.{Option, none, some}
+use mathlib.Core.Bool.{Bool, true, cond}
+use Prim.Native.Nat.{ℕ, zero, suc, _+_, _-_, _*_, _/_, _%_}
+use lib.ListN.{length, getElem?}
+use lib.Dec.{ltb, eqb}
+use Rattle.layout.specs.Bounds.{FUNCTIONS, VERSIONS}
+use Rattle.layout.specs.Kinds as kind
+use Rattle.layout.specs.Tests.{_and_}
+use Rattle.layout.specs.Records.{_!_, sizeAt, kindAt, bodyAt, recAt, rest, records, choose}
+use Rattle.layout.specs.declared.Found.{Found}
+use Rattle.layout.specs.declared.Found.the-variants.{Nothing, At}
+use Rattle.program.specs.Program.{Instr, Line, Block, Version, Program, View, instrOf, lineOf, blockOf, versionOf, view, program, findVersion}
+use Rattle.program.specs.Search.{Question}
+use Rattle.program.specs.declared.Here.{Here}
+
+-- what an offset looks out on, and the end of the record at an offset
+abbrev pub viewAt : List ℕ → ℕ → View
+viewAt s p = view (rest s p)
+
+abbrev pub past : List ℕ → ℕ → ℕ
+past s p = p + sizeAt s p
+
+-- the version, the block and the instruction whose record stands at an offset
+unfoldable pub versionAt : List ℕ → ℕ → Version
+versionAt s p = versionOf (recAt s p) (viewAt s (past s p) .blocks)
+
+unfoldable pub blockAt : List ℕ → ℕ → Block
+blockAt s p = blockOf (recAt s p) (viewAt s (past s p) .code)
+
+unfoldable pub instrAt : List ℕ → ℕ → Instr
+instrAt s p = instrOf (kindAt s p) (bodyAt s p)
+
+-- where what was looked up stands
+unfoldable pub placeOf : {A : Type 0} → (A → ℕ) → Option A → Found
+placeOf at none = Nothing
+placeOf at (some x) = At (at x)
+
+-- where the version w of the function f stands
+unfoldable pub versionPlace : List ℕ → ℕ → ℕ → Found
+versionPlace s f w = placeOf (λ (v : Version). v .at) (findVersion (program (records s)) f w)
+
+-- where the block b of the version at v stands, and the instruction i of the block at b
+unfoldable pub blockPlace : List ℕ → ℕ → ℕ → Found
+blockPlace s v b = placeOf (λ (x : Block). x .at) (getElem? (versionAt s v .blocks) b)
+
+unfoldable pub linePlace : List ℕ → ℕ → ℕ → Found
+linePlace s b i = placeOf (λ (l : Line). l .at) (getElem? (blockAt s b .code) i)
+
+-- the offset that stands for a place in a table: the image length for none
+unfoldable pub offsetOf : List ℕ → Found → ℕ
+offsetOf s Nothing = length s
+offsetOf s (At p) = p
+
+-- n numbers from k on
+unfoldable pub numbers : ℕ → ℕ → List ℕ
+numbers k zero = []
+numbers k (suc n) = k ∷ numbers (k + 1) n
+
+-- the table of an image's versions: where each that the bounds allow stands, by 4 × function + version
+unfoldable pub entry : List ℕ → ℕ → ℕ
+entry s k = offsetOf s (versionPlace s (k / VERSIONS) (k % VERSIONS))
+
+unfoldable pub tableOf : List ℕ → List ℕ
+tableOf s = map (entry s) (numbers 0 (FUNCTIONS * VERSIONS))
+
+-- the entry that the record at p has there, if it is a VERSION within the bounds; else their count
+unfoldable pub slotOf : List ℕ → ℕ → ℕ
+slotOf s p =
+    cond (eqb (kindAt s p) kind.VERSION and ltb (bodyAt s p ! 0) FUNCTIONS and ltb (bodyAt s p ! 1) VERSIONS)
+    (VERSIONS * bodyAt s p ! 0 + bodyAt s p ! 1) (FUNCTIONS * VERSIONS)
+
+-- where a pass along the records stands behind the record at p
+unfoldable pub movedTo : List ℕ → Here → ℕ → Here
+movedTo s h p = choose (kindAt s p) h (
+    (kind.VERSION, record { version = p; blocks = 0 }) ∷
+    (kind.BLOCK, record { version = h .version; blocks = h .blocks + 1 }) ∷ [])
+
+-- what a question asks of the record at p, by where the pass stands behind it; a record that belongs to no version or block is asked nothing
+unfoldable pub asked : Question → List ℕ → Here → ℕ → Bool
+asked q s h p =
+    let v = versionAt s (h .version) in
+    let inside = ltb (h .version) (length s) in
+    choose (kindAt s p) (cond (inside and ltb 0 (h .blocks)) (q .ofInstr v (h .blocks - 1) (instrAt s p)) true) (
+    (kind.VERSION, q .ofVersion (versionAt s p)) ∷
+    (kind.BLOCK, cond inside (q .ofBlock v (h .blocks - 1) (blockAt s p)) true) ∷ [])

@@ -1,0 +1,164 @@
+-- Image: the program that its records make. It is total: records that are not in order make some program, of which nothing is said.
+use mathlib.Core.List.{List, [], _∷_}
+use mathlib.Core.Option.{Option, none, some}
+use mathlib.Core.Bool.{cond}
+use Prim.Native.Nat.{ℕ, zero, suc, _+_, _*_}
+use lib.IntN.{ℤ}
+use lib.ListN.{take}
+use lib.Dec.{eqb}
+use mir.Val.{toZ}
+use mir.Syntax.{w32}
+use Rattle.layout.specs.Kinds as kind
+use Rattle.layout.specs.Tests.{_and_}
+use Rattle.layout.specs.Records.{Rec, _!_, fields, choose}
+
+-- what a call gives: the type that is asked for and the register
+pub record Argument : Type 0 where
+  pub type : ℕ
+  pub register : ℕ
+
+-- kinds 16 to 34, each with its fields in the paper's order; registers, names, blocks, functions, versions, marks, types and op by number
+pub data Instr : Type 0 where
+  LIT : (d : ℕ) (i : ℤ) → Instr
+  MOVE : (d a : ℕ) → Instr
+  USE : (d a : ℕ) → Instr
+  DUP : (d a : ℕ) → Instr
+  VEC : (d : ℕ) (rs : List ℕ) → Instr
+  LEN : (d a : ℕ) → Instr
+  GET : (d a i : ℕ) → Instr
+  SET : (a i e : ℕ) → Instr
+  ARITH : (d op a b : ℕ) → Instr
+  SELECT : (d c a b : ℕ) → Instr
+  CAST : (d a : ℕ) → Instr
+  NAMED : (d x : ℕ) → Instr
+  STORE : (x a : ℕ) → Instr
+  PROM : (d block : ℕ) → Instr
+  FORCE : (d a : ℕ) → Instr
+  PEEK : (d a x : ℕ) → Instr
+  POKE : (a x e : ℕ) → Instr
+  CALL : (d function version : ℕ) (rs : List ℕ) → Instr
+  DISPATCH : (d function mark return : ℕ) (pairs : List Argument) → Instr
+
+-- an instruction and the offset of its record; likewise below
+pub record Line : Type 0 where
+  pub at : ℕ
+  pub does : Instr
+
+-- kind 2: mark (0 quiet, 1 reflective), result register, instructions
+pub record Block : Type 0 where
+  pub at : ℕ
+  pub mark : ℕ
+  pub result : ℕ
+  pub code : List Line
+
+-- kind 1: the parameters are the first registers, each register has a type; block 0 is the body
+pub record Version : Type 0 where
+  pub at : ℕ
+  pub function : ℕ
+  pub version : ℕ
+  pub parameters : ℕ
+  pub types : List ℕ
+  pub return : ℕ
+  pub blocks : List Block
+
+-- the versions in the image's order
+abbrev pub Program : Type 0
+Program = List Version
+
+-- the i32 at the field k
+abbrev pub signed : List ℕ → ℕ → ℤ
+signed b k = toZ w32 (b ! k + 256 * (b ! (k + 1) + 256 * (b ! (k + 2) + 256 * b ! (k + 3))))
+
+-- n pairs (type, register) from the field k on
+unfoldable pub arguments : List ℕ → ℕ → ℕ → List Argument
+arguments b k zero = []
+arguments b k (suc n) = record { type = b ! k; register = b ! (k + 1) } ∷ arguments b (k + 2) n
+
+-- the instruction that a kind and a body make: LIT, also where the kind is not known
+unfoldable pub instrOf : ℕ → List ℕ → Instr
+instrOf k b = choose k (LIT (b ! 0) (signed b 1)) (
+    (kind.MOVE, MOVE (b ! 0) (b ! 1)) ∷
+    (kind.USE, USE (b ! 0) (b ! 1)) ∷
+    (kind.DUP, DUP (b ! 0) (b ! 1)) ∷
+    (kind.VEC, VEC (b ! 0) (fields b 2 (b ! 1))) ∷
+    (kind.LEN, LEN (b ! 0) (b ! 1)) ∷
+    (kind.GET, GET (b ! 0) (b ! 1) (b ! 2)) ∷
+    (kind.SET, SET (b ! 0) (b ! 1) (b ! 2)) ∷
+    (kind.ARITH, ARITH (b ! 0) (b ! 1) (b ! 2) (b ! 3)) ∷
+    (kind.SELECT, SELECT (b ! 0) (b ! 1) (b ! 2) (b ! 3)) ∷
+    (kind.CAST, CAST (b ! 0) (b ! 1)) ∷
+    (kind.NAMED, NAMED (b ! 0) (b ! 1)) ∷
+    (kind.STORE, STORE (b ! 0) (b ! 1)) ∷
+    (kind.PROM, PROM (b ! 0) (b ! 1)) ∷
+    (kind.FORCE, FORCE (b ! 0) (b ! 1)) ∷
+    (kind.PEEK, PEEK (b ! 0) (b ! 1) (b ! 2)) ∷
+    (kind.POKE, POKE (b ! 0) (b ! 1) (b ! 2)) ∷
+    (kind.CALL, CALL (b ! 0) (b ! 1) (b ! 2) (fields b 4 (b ! 3))) ∷
+    (kind.DISPATCH, DISPATCH (b ! 0) (b ! 1) (b ! 2) (b ! 3) (arguments b 5 (b ! 4))) ∷ [])
+
+abbrev pub lineOf : Rec → Line
+lineOf r = record { at = r .at; does = instrOf (r .kind) (r .body) }
+
+abbrev pub blockOf : Rec → List Line → Block
+blockOf r code = record { at = r .at; mark = r .body ! 0; result = r .body ! 1; code = code }
+
+abbrev pub versionOf : Rec → List Block → Version
+versionOf r blocks = record {
+  at = r .at;
+  function = r .body ! 0;
+  version = r .body ! 1;
+  parameters = r .body ! 2;
+  types = fields (r .body) 6 (r .body ! 3);
+  return = r .body ! 4;
+  blocks = blocks;
+}
+
+-- what a place in an image looks out on: the instructions left in its block, the blocks left in its version, the versions left
+pub record View : Type 0 where
+  pub code : List Line
+  pub blocks : List Block
+  pub versions : List Version
+
+abbrev pub nowhere : View
+nowhere = record { code = []; blocks = []; versions = [] }
+
+-- the view from a record, by the view from its end: a version is followed by its blocks in order, each by its instructions
+unfoldable pub put : Rec → View → View
+put r w =
+    cond (eqb (r .kind) kind.VERSION) (record { code = []; blocks = []; versions = versionOf r (w .blocks) ∷ w .versions })
+    (cond (eqb (r .kind) kind.BLOCK) (record { code = []; blocks = blockOf r (w .code) ∷ w .blocks; versions = w .versions })
+    (record { code = lineOf r ∷ w .code; blocks = w .blocks; versions = w .versions }))
+
+unfoldable pub view : List Rec → View
+view [] = nowhere
+view (r ∷ rs) = cond (eqb (r .size) 0) nowhere (put r (view rs))
+
+abbrev pub program : List Rec → Program
+program rs = view rs .versions
+
+-- the version w of the function f
+unfoldable pub findVersion : Program → ℕ → ℕ → Option Version
+findVersion [] f w = none
+findVersion (v ∷ vs) f w = cond (eqb (v .function) f and eqb (v .version) w) (some v) (findVersion vs f w)
+
+-- the mark of a version is that of its block 0
+unfoldable pub firstMark : List Block → ℕ
+firstMark [] = 0
+firstMark (b ∷ bs) = b .mark
+
+abbrev pub markOf : Version → ℕ
+markOf v = firstMark (v .blocks)
+
+-- the types of a version's parameters
+abbrev pub parameterTypes : Version → List ℕ
+parameterTypes v = take (v .parameters) (v .types)
+
+-- registers beside the types that are asked of them
+unfoldable pub beside : List ℕ → List ℕ → List Argument
+beside [] rs = []
+beside (t ∷ ts) [] = []
+beside (t ∷ ts) (r ∷ rs) = record { type = t; register = r } ∷ beside ts rs
+
+-- what a CALL of the version v gives
+abbrev pub given : Version → List ℕ → List Argument
+given v rs = beside (parameterTypes v) rs

@@ -1,0 +1,153 @@
+//! Instructions: their decoded forms and operands.
+ghost use mathlib.Core.Path.{_≡_};
+ghost use Prim.Native.Nat.{_+_, _*_, _<_, _^_};
+ghost use lib.Dec.{ltb};
+ghost use mathlib.Core.Bool.{cond};
+ghost use mir.Val.{toZ};
+ghost use mir.Syntax.{w32};
+ghost use Rattle.layout.specs.Records.{bodyAt, _!_};
+ghost use Rattle.program.specs.Program.{signed};
+ghost use Rattle.program.specs.Places.{instrAt};
+ghost use Rattle.program.specs.Shapes.{shapeOf, fetchOf};
+use crate::Fetched;
+use crate::Instruction;
+use crate::lookup;
+use layout::Found;
+use layout::kinds;
+
+/// The field `k` of the record at `p` as a byte.
+fn small(image: &[u8], p: usize, k: usize) -> u8
+    ensures { λ r. ⌜ r ≡ bodyAt (now (image .entry)) p ! k ⌝ }
+{
+    layout::field(image, p, k) as u8
+}
+
+/// The 32 bits `u` read as a signed number.
+fn signed_of(u: usize) -> i32
+    requires { ⌜ u < 2 ^ 32 ⌝ }
+    ensures { λ r. ⌜ r ≡ toZ w32 u ⌝ }
+{
+    if u < 2147483648 { u as i32 } else { -1 - ((4294967295 - u) as i32) }
+}
+
+/// The literal of the LIT at `p`.
+fn literal(image: &[u8], p: usize) -> i32
+    ensures { λ r. ⌜ r ≡ signed (bodyAt (now (image .entry)) p) 1 ⌝ }
+{
+    let low = layout::field(image, p, 1) + 256 * layout::field(image, p, 2);
+    let high = layout::field(image, p, 3) + 256 * layout::field(image, p, 4);
+    signed_of(low + 65536 * high)
+}
+
+/// The form of the instruction whose record stands at `p`; a record of another kind has that of a LIT.
+pub fn decode(image: &[u8], p: usize) -> Instruction
+    ensures { λ r. ⌜ r ≡ shapeOf (instrAt (now (image .entry)) p) ⌝ }
+{
+    match layout::kind_at(image, p) {
+        kinds::MOVE => Instruction::Move {
+            d: small(image, p, 0),
+            a: small(image, p, 1),
+        },
+        kinds::USE => Instruction::Use {
+            d: small(image, p, 0),
+            a: small(image, p, 1),
+        },
+        kinds::DUP => Instruction::Dup {
+            d: small(image, p, 0),
+            a: small(image, p, 1),
+        },
+        kinds::VEC => Instruction::Vec {
+            d: small(image, p, 0),
+            n: small(image, p, 1),
+        },
+        kinds::LEN => Instruction::Len {
+            d: small(image, p, 0),
+            a: small(image, p, 1),
+        },
+        kinds::GET => Instruction::Get {
+            d: small(image, p, 0),
+            a: small(image, p, 1),
+            i: small(image, p, 2),
+        },
+        kinds::SET => Instruction::Set {
+            a: small(image, p, 0),
+            i: small(image, p, 1),
+            e: small(image, p, 2),
+        },
+        kinds::ARITH => Instruction::Arith {
+            d: small(image, p, 0),
+            op: small(image, p, 1),
+            a: small(image, p, 2),
+            b: small(image, p, 3),
+        },
+        kinds::SELECT => Instruction::Select {
+            d: small(image, p, 0),
+            c: small(image, p, 1),
+            a: small(image, p, 2),
+            b: small(image, p, 3),
+        },
+        kinds::CAST => Instruction::Cast {
+            d: small(image, p, 0),
+            a: small(image, p, 1),
+        },
+        kinds::NAMED => Instruction::Named {
+            d: small(image, p, 0),
+            x: small(image, p, 1),
+        },
+        kinds::STORE => Instruction::Store {
+            x: small(image, p, 0),
+            a: small(image, p, 1),
+        },
+        kinds::PROM => Instruction::Prom {
+            d: small(image, p, 0),
+            block: small(image, p, 1),
+        },
+        kinds::FORCE => Instruction::Force {
+            d: small(image, p, 0),
+            a: small(image, p, 1),
+        },
+        kinds::PEEK => Instruction::Peek {
+            d: small(image, p, 0),
+            a: small(image, p, 1),
+            x: small(image, p, 2),
+        },
+        kinds::POKE => Instruction::Poke {
+            a: small(image, p, 0),
+            x: small(image, p, 1),
+            e: small(image, p, 2),
+        },
+        kinds::CALL => Instruction::Call {
+            d: small(image, p, 0),
+            function: small(image, p, 1),
+            version: small(image, p, 2),
+            n: small(image, p, 3),
+        },
+        kinds::DISPATCH => Instruction::Dispatch {
+            d: small(image, p, 0),
+            function: small(image, p, 1),
+            mark: small(image, p, 2),
+            result: small(image, p, 3),
+            n: small(image, p, 4),
+        },
+        _ => Instruction::Lit {
+            d: small(image, p, 0),
+            i: literal(image, p),
+        },
+    }
+}
+
+/// The instruction `i` of the block `b` of the version `w` of the function `f`: its place and its form.
+pub fn fetch(image: &[u8], f: usize, w: usize, b: usize, i: usize) -> Fetched
+    ensures { λ r. ⌜ r ≡ fetchOf (now (image .entry)) f w b i ⌝ }
+{
+    let Found::At(v) = lookup::version(image, f, w) else {
+        return Fetched::Nothing;
+    };
+    let Found::At(q) = lookup::block(image, v, b) else {
+        return Fetched::Nothing;
+    };
+    let Found::At(p) = lookup::line(image, q, i) else {
+        return Fetched::Nothing;
+    };
+    Fetched::Line(p, decode(image, p))
+}

@@ -1,0 +1,220 @@
+//! Look-up: where the versions, blocks and instructions of a program stand, and what their records say.
+ghost use mathlib.Core.Path.{_≡_};
+ghost use Prim.Native.Nat.{_<_};
+ghost use lib.Dec.{eqb};
+ghost use lib.ListN.{length, getD};
+ghost use Rattle.layout.specs.Tests.{_and_, any};
+ghost use Rattle.layout.specs.Records.{records, kindAt, bodyAt, _!_};
+ghost use Rattle.layout.specs.Kinds as kind;
+ghost use Rattle.program.specs.Program.{Version, program, markOf};
+ghost use Rattle.program.specs.Places.{versionAt, versionPlace, blockPlace, linePlace, tableOf, slotOf};
+use layout::Found;
+
+/// The entries of the table of versions: 4 for each function.
+pub const TABLE: usize = 128;
+
+/// Is the record at `p` the VERSION `w` of the function `f`?
+fn is_version(image: &[u8], p: usize, f: usize, w: usize) -> bool
+    ensures { λ r. ⌜ r ≡ (eqb (kindAt (now (image .entry)) p) kind.VERSION and eqb (bodyAt (now (image .entry)) p ! 0) f and eqb (bodyAt (now (image .entry)) p ! 1) w) ⌝ }
+{
+    if layout::kind_at(image, p) != layout::kinds::VERSION {
+        return false;
+    }
+    if layout::field(image, p, 0) != f {
+        return false;
+    }
+    layout::field(image, p, 1) == w
+}
+
+/// Where the version `w` of the function `f` stands.
+pub fn version(image: &[u8], f: usize, w: usize) -> Found
+    ensures { λ r. ⌜ r ≡ versionPlace (now (image .entry)) f w ⌝ }
+{
+    let mut p: usize = 0;
+    while p < image.len() {
+        let n = layout::size_at(image, p);
+        if n == 0 {
+            return Found::Nothing;
+        }
+        if is_version(image, p, f, w) {
+            return Found::At(p);
+        }
+        p += n;
+    }
+    Found::Nothing
+}
+
+/// Where the block `b` of the version at `v` stands.
+pub fn block(image: &[u8], v: usize, b: usize) -> Found
+    ensures { λ r. ⌜ r ≡ blockPlace (now (image .entry)) v b ⌝ }
+{
+    if image.len() <= v {
+        return Found::Nothing;
+    }
+    let mut p = v + layout::size_at(image, v);
+    let mut left = b;
+    while p < image.len() {
+        let n = layout::size_at(image, p);
+        if n == 0 {
+            return Found::Nothing;
+        }
+        let k = layout::kind_at(image, p);
+        if k == layout::kinds::VERSION {
+            return Found::Nothing;
+        }
+        if k == layout::kinds::BLOCK {
+            if left == 0 {
+                return Found::At(p);
+            }
+            left -= 1;
+            p += n;
+        } else {
+            p += n;
+        }
+    }
+    Found::Nothing
+}
+
+/// Where the instruction `i` of the block at `b` stands.
+pub fn line(image: &[u8], b: usize, i: usize) -> Found
+    ensures { λ r. ⌜ r ≡ linePlace (now (image .entry)) b i ⌝ }
+{
+    if image.len() <= b {
+        return Found::Nothing;
+    }
+    let mut p = b + layout::size_at(image, b);
+    let mut left = i;
+    while p < image.len() {
+        let n = layout::size_at(image, p);
+        if n == 0 {
+            return Found::Nothing;
+        }
+        let k = layout::kind_at(image, p);
+        if k == layout::kinds::VERSION {
+            return Found::Nothing;
+        }
+        if k == layout::kinds::BLOCK {
+            return Found::Nothing;
+        }
+        if left == 0 {
+            return Found::At(p);
+        }
+        left -= 1;
+        p += n;
+    }
+    Found::Nothing
+}
+
+/// The type of the register `r` of the version at `v`, or 0 where it has no such register.
+pub fn type_of(image: &[u8], v: usize, r: usize) -> usize
+    ensures { λ t. ⌜ (t ≡ versionAt (now (image .entry)) v .types ! r) × (t < 256) ⌝ }
+{
+    if r < layout::field(image, v, 3) { layout::field(image, v, 6 + r) } else { 0 }
+}
+
+/// The mark of the version at `v`: that of its block 0.
+pub fn mark(image: &[u8], v: usize) -> usize
+    ensures { λ r. ⌜ (r ≡ markOf (versionAt (now (image .entry)) v)) × (r < 256) ⌝ }
+{
+    let Found::At(b) = block(image, v, 0) else {
+        return 0;
+    };
+    layout::field(image, b, 0)
+}
+
+/// Has the function `f` a version? The image is searched.
+fn search_function(image: &[u8], f: usize) -> bool
+    ensures { λ r. ⌜ r ≡ any (λ (c : Version). eqb (c .function) f) (program (records (now (image .entry)))) ⌝ }
+{
+    let mut p: usize = 0;
+    while p < image.len() {
+        let n = layout::size_at(image, p);
+        if n == 0 {
+            return false;
+        }
+        if layout::kind_at(image, p) == layout::kinds::VERSION {
+            if layout::field(image, p, 0) == f {
+                return true;
+            }
+            p += n;
+        } else {
+            p += n;
+        }
+    }
+    false
+}
+
+/// The table of the versions that the bounds allow: the offset of each at 4 × function + version, the image length where there is none.
+pub fn versions(image: &[u8]) -> [usize; 128]
+    ensures { λ r. ⌜ r ≡ tableOf (now (image .entry)) ⌝ }
+{
+    let end = image.len();
+    let mut table = [end; 128];
+    let mut p: usize = 0;
+    while p < image.len() {
+        let n = layout::size_at(image, p);
+        if n == 0 {
+            return table;
+        }
+        let k = slot(image, p);
+        if k < TABLE {
+            if table[k] == end {
+                table[k] = p;
+                p += n;
+            } else {
+                p += n;
+            }
+        } else {
+            p += n;
+        }
+    }
+    table
+}
+
+/// The entry that a VERSION at `p` has in the table; 128 where it has none.
+fn slot(image: &[u8], p: usize) -> usize
+    ensures { λ r. ⌜ r ≡ slotOf (now (image .entry)) p ⌝ }
+{
+    if layout::kind_at(image, p) != layout::kinds::VERSION {
+        return TABLE;
+    }
+    let f = layout::field(image, p, 0);
+    let w = layout::field(image, p, 1);
+    if layout::bounds::FUNCTIONS <= f {
+        return TABLE;
+    }
+    if layout::bounds::VERSIONS <= w {
+        return TABLE;
+    }
+    layout::bounds::VERSIONS * f + w
+}
+
+/// Where the version `w` of the function `f` stands, by the image's table. Its callers make the table once for many look-ups.
+pub fn listed(image: &[u8], table: &[usize; 128], f: usize, w: usize) -> Found
+    requires { ⌜ now table ≡ tableOf (now image) ⌝ }
+    ensures { λ r. ⌜ r ≡ versionPlace (now (image .entry)) f w ⌝ }
+{
+    if f < layout::bounds::FUNCTIONS {
+        if w < layout::bounds::VERSIONS {
+            let p = table[layout::bounds::VERSIONS * f + w];
+            if p < image.len() {
+                return Found::At(p);
+            }
+            return Found::Nothing;
+        }
+    }
+    version(image, f, w)
+}
+
+/// Has the function `f` a version, by the image's table? Its callers make the table once for many look-ups.
+pub fn has_function(image: &[u8], table: &[usize; 128], f: usize) -> bool
+    requires { ⌜ now table ≡ tableOf (now image) ⌝ }
+    ensures { λ r. ⌜ r ≡ any (λ (c : Version). eqb (c .function) f) (program (records (now (image .entry)))) ⌝ }
+{
+    if f < layout::bounds::FUNCTIONS {
+        if table[layout::bounds::VERSIONS * f] < image.len() {
+            return true;
+        }
+    }
+    search_function(image, f)
+}

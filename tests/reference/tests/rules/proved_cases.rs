@@ -1,0 +1,132 @@
+//! "Proved cases": P1 to P11.
+
+use crate::support::{image, refuses, refuses_image, IDENTITY, UNTOUCHED};
+use reference::{begin, Answer, End, Integer, Program, State};
+
+/// A budget given at the start of 0.0: its answer, its steps and the buffer after it.
+fn run(image: &[u8], words: &[Integer], budget: u32) -> (Answer, u32, [Integer; 16]) {
+    let program = Program::accept(image).expect("an accepted image");
+    let state = State::begin(&program, 0, 0, words, &UNTOUCHED).expect("a run begins");
+    let mut buffer = UNTOUCHED;
+    let (_, answer, steps) = state.budget(&program, budget, &mut buffer);
+    (answer, steps, buffer)
+}
+
+/// DUP of a shared vector, SET of its place 0 to 42, returned owned.
+const DUP_AND_SET: &str = "
+    version 0.0(r0: vector) -> own vector
+      registers r1: own vector, r2: int, r3: int
+      block 0 quiet -> r1
+        r1 = dup r0
+        r2 = lit 0
+        r3 = lit 42
+        set r1[r2] = r3
+";
+
+#[test]
+fn p1_empty_image_is_1_at_0() {
+    refuses_image(&[], 1, 0);
+}
+
+#[test]
+fn p2_identity_of_7_with_budget_1_is_done_7_after_1_step() {
+    let (answer, steps, buffer) = run(&IDENTITY, &[-1, 7], 1);
+    assert_eq!((answer, steps), (Answer::Ended(End::Integer(7)), 1));
+    assert_eq!(buffer, UNTOUCHED);
+}
+
+#[test]
+fn p3_identity_of_7_with_budget_0_is_steps_after_0_steps() {
+    let (answer, steps, _) = run(&IDENTITY, &[-1, 7], 0);
+    assert_eq!((answer, steps), (Answer::Steps, 0));
+}
+
+#[test]
+fn p4_identity_without_its_last_byte_is_2_at_11() {
+    refuses_image(&IDENTITY[..17], 2, 11);
+}
+
+#[test]
+fn p5_identity_with_register_type_owned_integer_is_6_at_0() {
+    let mut image = IDENTITY;
+    image[10] = 0x12;
+    refuses_image(&image, 6, 0);
+}
+
+#[test]
+fn p5_identity_with_return_type_owned_integer_is_6_at_0() {
+    let mut image = IDENTITY;
+    image[8] = 0x12;
+    refuses_image(&image, 6, 0);
+}
+
+#[test]
+fn p6_result_register_that_nothing_assigned_is_10_at_0() {
+    refuses(
+        "version 0.0(r0: int) -> int
+           registers r1: int
+           block 0 quiet -> r1",
+        10,
+        0,
+    );
+}
+
+#[test]
+fn p7_dup_set_and_owned_return_is_done_with_the_vector_42() {
+    let (answer, steps, buffer) = run(&image(DUP_AND_SET), &[1, 1], 100);
+    assert_eq!((answer, steps), (Answer::Ended(End::Vector(1)), 5));
+    assert_eq!(buffer[0], 42);
+    assert_eq!(buffer[1..], UNTOUCHED[1..]);
+}
+
+#[test]
+fn p8_dup_set_and_owned_return_on_an_empty_vector_is_undef() {
+    let (answer, steps, buffer) = run(&image(DUP_AND_SET), &[0], 100);
+    assert_eq!((answer, steps), (Answer::Ended(End::Undef), 4));
+    assert_eq!(buffer, UNTOUCHED);
+}
+
+#[test]
+fn p9_set_on_the_shared_vector_is_8_at_the_set() {
+    refuses(
+        "version 0.0(r0: vector) -> vector
+           registers r1: own vector, r2: int, r3: int
+           block 0 quiet -> r0
+             r1 = dup r0
+             r2 = lit 0
+             r3 = lit 42
+             set r0[r2] = r3",
+        8,
+        14 + 7 + 6 + 9 + 9,
+    );
+}
+
+#[test]
+fn p10_minus_7_divided_by_2_is_minus_3() {
+    let division = image(
+        "version 0.0(r0: int, r1: int) -> int
+           block 0 quiet -> r0
+             r0 = div r0, r1",
+    );
+    let (answer, steps, _) = run(&division, &[-1, -7, -1, 2], 100);
+    assert_eq!((answer, steps), (Answer::Ended(End::Integer(-3)), 2));
+}
+
+#[test]
+fn p11_a_body_that_calls_itself_with_budget_32_is_deep_after_31_steps() {
+    let endless = image(
+        "version 0.0(r0: int) -> int
+           block 0 quiet -> r0
+             r0 = call 0.0(r0)",
+    );
+    let (answer, steps, _) = run(&endless, &[-1, 5], 32);
+    assert_eq!((answer, steps), (Answer::Ended(End::Deep), 31));
+}
+
+#[test]
+fn identity_begins_from_its_bytes_alone() {
+    let state = begin(&IDENTITY, 0, 0, &[-1, 7], &UNTOUCHED).expect("a run begins");
+    let program = Program::accept(&IDENTITY).expect("an accepted image");
+    let from_program = State::begin(&program, 0, 0, &[-1, 7], &UNTOUCHED);
+    assert_eq!(from_program, Ok(state));
+}

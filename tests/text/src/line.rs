@@ -1,0 +1,121 @@
+//! What one line of a text says.
+
+use crate::cursor::{Cursor, Reason};
+use crate::instruction;
+use reference::record::{BlockRecord, VersionRecord};
+use reference::{Instruction, Register, Type};
+
+/// A line, its counts left open unless written out.
+pub enum Line {
+    /// A VERSION with the registers written in it, and its `blocks`.
+    Version(VersionRecord, Option<u8>),
+    /// Further registers of the version.
+    Registers(Vec<(Register, Type)>),
+    /// A BLOCK with the number written in it, and its `count`.
+    Block(usize, BlockRecord, Option<u8>),
+    /// An instruction.
+    Instruction(Instruction),
+    /// Bytes that make no record.
+    Bytes(Vec<u8>),
+}
+
+impl Line {
+    /// What the line says; none if it is blank.
+    pub fn parse(text: &str) -> Result<Option<Line>, Reason> {
+        let mut line = Cursor::new(text);
+        if line.at_end() {
+            return Ok(None);
+        }
+        let parsed = if line.take_word("version") {
+            parse_version(&mut line)?
+        } else if line.take_word("registers") {
+            Line::Registers(parse_registers(&mut line)?)
+        } else if line.take_word("block") {
+            parse_block(&mut line)?
+        } else if line.take_word("bytes") {
+            Line::Bytes(parse_bytes(&mut line)?)
+        } else {
+            Line::Instruction(instruction::parse(&mut line)?)
+        };
+        line.finish()?;
+        Ok(Some(parsed))
+    }
+}
+
+/// A `version` line after its word.
+fn parse_version(line: &mut Cursor) -> Result<Line, Reason> {
+    let function = line.number()?;
+    line.sign(".")?;
+    let version = line.number()?;
+    let typed = line.list("(", ")", Cursor::typed)?;
+    line.sign("->")?;
+    let returns = line.ty()?;
+    let parameters = parse_key(line, "parameters")?.unwrap_or(typed.len() as u8);
+    let blocks = parse_key(line, "blocks")?;
+    let head = VersionRecord {
+        function,
+        version,
+        parameters,
+        returns,
+        blocks: 0,
+        types: in_order(0, typed)?,
+    };
+    Ok(Line::Version(head, blocks))
+}
+
+/// The types of registers that are numbered from `first` on.
+pub fn in_order(first: usize, typed: Vec<(Register, Type)>) -> Result<Vec<Type>, Reason> {
+    let mut types = Vec::new();
+    for (expected, (register, ty)) in (first..).zip(typed) {
+        if usize::from(register) != expected {
+            return Err(format!("expected r{expected} here, found `r{register}`"));
+        }
+        types.push(ty);
+    }
+    if first + types.len() > usize::from(u8::MAX) {
+        return Err("a version declares at most 255 registers".to_string());
+    }
+    Ok(types)
+}
+
+/// A `registers` line after its word.
+fn parse_registers(line: &mut Cursor) -> Result<Vec<(Register, Type)>, Reason> {
+    let mut typed = vec![line.typed()?];
+    while line.take(",") {
+        typed.push(line.typed()?);
+    }
+    Ok(typed)
+}
+
+/// A `block` line after its word.
+fn parse_block(line: &mut Cursor) -> Result<Line, Reason> {
+    let number = line.block_number()?;
+    let mark = line.mark()?;
+    line.sign("->")?;
+    let result = line.register()?;
+    let count = parse_key(line, "count")?;
+    let head = BlockRecord {
+        mark,
+        result,
+        instructions: 0,
+    };
+    Ok(Line::Block(number, head, count))
+}
+
+/// The number after a key and `=`; none if the key does not stand here.
+fn parse_key(line: &mut Cursor, key: &str) -> Result<Option<u8>, Reason> {
+    if !line.take_word(key) {
+        return Ok(None);
+    }
+    line.sign("=")?;
+    line.number().map(Some)
+}
+
+/// The bytes of a `bytes` line after its word.
+fn parse_bytes(line: &mut Cursor) -> Result<Vec<u8>, Reason> {
+    let mut bytes = Vec::new();
+    while !line.at_end() {
+        bytes.push(line.byte()?);
+    }
+    Ok(bytes)
+}
