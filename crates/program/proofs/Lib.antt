@@ -1,7 +1,7 @@
+pub mod Existence
 pub mod Forms
 pub mod Literals
 pub mod Lookups
-pub mod Ownership
 pub mod Passes
 pub mod Tables
 pub mod Views

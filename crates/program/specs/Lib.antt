@@ -1,5 +1,4 @@
 pub mod Program
-pub mod Types
 pub mod Search
 pub mod Questions
 pub mod Places

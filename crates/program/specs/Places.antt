@@ -81,7 +81,7 @@ movedTo s h p = choose (kindAt s p) h (
 unfoldable pub asked : Question → List ℕ → Here → ℕ → Bool
 asked q s h p =
     let v = versionAt s (h .version) in
-    let inside = ltb (h .version) (length s) in
-    choose (kindAt s p) (cond (inside and ltb 0 (h .blocks)) (q .ofInstr v (h .blocks - 1) (instrAt s p)) true) (
+    let begun = ltb (h .version) (length s) and ltb 0 (h .blocks) in
+    choose (kindAt s p) (cond begun (q .ofInstr v (h .blocks - 1) (instrAt s p)) true) (
     (kind.VERSION, q .ofVersion (versionAt s p)) ∷
-    (kind.BLOCK, cond inside (q .ofBlock v (h .blocks - 1) (blockAt s p)) true) ∷ [])
+    (kind.BLOCK, cond begun (q .ofBlock v (h .blocks - 1) (blockAt s p)) true) ∷ [])

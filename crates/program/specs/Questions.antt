@@ -1,51 +1,13 @@
--- Questions 6 and 7: the program's type bytes, and what must exist.
+-- Question 7: what must exist.
 use mathlib.Core.List.{List, [], _∷_}
-use mathlib.Core.Bool.{Bool, true, false, cond, _||_}
+use mathlib.Core.Bool.{Bool, true, false, _||_}
 use Prim.Native.Nat.{ℕ, _+_}
 use lib.ListN.{length}
 use lib.Dec.{ltb, eqb}
 use Rattle.layout.specs.Bounds.{NAMES}
-use Rattle.layout.specs.Tests.{_and_, all, allFrom, any, count, found}
+use Rattle.layout.specs.Tests.{_and_, all, any, count, found}
 use Rattle.program.specs.Program.{Argument, Instr, LIT, MOVE, USE, DUP, VEC, LEN, GET, SET, ARITH, SELECT, CAST, NAMED, STORE, PROM, FORCE, PEEK, POKE, CALL, DISPATCH, Line, Block, Version, Program, findVersion}
-use Rattle.program.specs.Types.{parameterType, registerType, returnType}
 use Rattle.program.specs.Search.{Question}
-
--- what a question does not ask
-abbrev pub free : {A B : Type 0} → A → ℕ → B → Bool
-free v n x = true
-
--- the type of register r of a version with so many parameters
-unfoldable pub typeAllowed : ℕ → ℕ → ℕ → Bool
-typeAllowed parameters r t = cond (ltb r parameters) (parameterType t) (registerType t)
-
--- 6: is each type byte allowed at its place? In a VERSION
-unfoldable pub versionTypes : Version → Bool
-versionTypes v = allFrom (typeAllowed (v .parameters)) 0 (v .types) and returnType (v .return)
-
--- and in a DISPATCH
-unfoldable pub typesAllowed : Instr → Bool
-typesAllowed (LIT d i) = true
-typesAllowed (MOVE d a) = true
-typesAllowed (USE d a) = true
-typesAllowed (DUP d a) = true
-typesAllowed (VEC d rs) = true
-typesAllowed (LEN d a) = true
-typesAllowed (GET d a i) = true
-typesAllowed (SET a i e) = true
-typesAllowed (ARITH d op a b) = true
-typesAllowed (SELECT d c a b) = true
-typesAllowed (CAST d a) = true
-typesAllowed (NAMED d x) = true
-typesAllowed (STORE x a) = true
-typesAllowed (PROM d block) = true
-typesAllowed (FORCE d a) = true
-typesAllowed (PEEK d a x) = true
-typesAllowed (POKE a x e) = true
-typesAllowed (CALL d f w rs) = true
-typesAllowed (DISPATCH d f mark ret pairs) = returnType ret and all (λ (a : Argument). parameterType (a .type)) pairs
-
-abbrev pub question6 : Question
-question6 = record { ofVersion = versionTypes; ofBlock = free; ofInstr = λ v n i. typesAllowed i }
 
 -- 7: do registers and names exist?
 abbrev pub register : Version → ℕ → Bool

@@ -1,6 +1,6 @@
 -- Questions put to an image: those to its program, whose no gives the offset of the first record that fails.
 use mathlib.Core.List.{List, [], _∷_}
-use mathlib.Core.Bool.{Bool, cond}
+use mathlib.Core.Bool.{Bool, true, cond}
 use Prim.Native.Nat.{ℕ, _+_}
 use Rattle.layout.specs.declared.Found.{Found}
 use Rattle.layout.specs.declared.Found.the-variants.{Nothing, At}
@@ -24,3 +24,7 @@ firstBlock q v n (b ∷ bs) more = cond (q .ofBlock v n b) (firstLine q v n (b .
 unfoldable pub first : Question → Program → Found
 first q [] = Nothing
 first q (v ∷ vs) = cond (q .ofVersion v) (firstBlock q v 0 (v .blocks) (first q vs)) (At (v .at))
+
+-- what a question does not ask
+abbrev pub free : {A B : Type 0} → A → ℕ → B → Bool
+free v n x = true

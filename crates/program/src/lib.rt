@@ -1,11 +1,9 @@
-//! The program of an image: look-up and decoding of its versions, blocks and instructions, and questions 6 and 7.
+//! The program of an image: look-up and decoding of its versions, blocks and instructions, and question 7.
 
 pub mod decode;
 pub mod lookup;
 pub mod pass;
-pub mod question6;
 pub mod question7;
-pub mod types;
 
 /// An instruction's fields; of a list of operands the length, while the operands stay in the image.
 pub enum Instruction {

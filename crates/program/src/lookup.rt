@@ -105,6 +105,13 @@ pub fn line(image: &[u8], b: usize, i: usize) -> Found
     Found::Nothing
 }
 
+/// How many registers the version at `v` has.
+pub fn registers(image: &[u8], v: usize) -> usize
+    ensures { λ r. ⌜ (r ≡ length (versionAt (now (image .entry)) v .types)) × (r < 256) ⌝ }
+{
+    layout::field(image, v, 3)
+}
+
 /// The type of the register `r` of the version at `v`, or 0 where it has no such register.
 pub fn type_of(image: &[u8], v: usize, r: usize) -> usize
     ensures { λ t. ⌜ (t ≡ versionAt (now (image .entry)) v .types ! r) × (t < 256) ⌝ }

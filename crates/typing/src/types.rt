@@ -1,6 +1,6 @@
 //! Type bytes: where each may stand.
 ghost use mathlib.Core.Path.{_≡_};
-ghost use Rattle.program.specs.Types.{parameterType, registerType, returnType};
+ghost use Rattle.typing.specs.Types.{parameterType, registerType, returnType};
 
 /// The types of a register's kind: any, value, integer, vector, quiet promise, reflective promise.
 pub const KINDS: usize = 6;

@@ -5,7 +5,7 @@ use Prim.Native.Nat.{ℕ, _/_, _≤_, _<_}
 use native.Mathlib.Omega.{arith}
 use lib.Dec.{eqb}
 use borrow.Author.Tests.{eq-eqb, ne-eqb, eqb-false}
-use Rattle.program.specs.Types.{ownershipOf, isOwned, isBorrowed}
+use Rattle.typing.specs.Types.{ownershipOf, isOwned, isBorrowed}
 
 -- an ownership of 1 or 2
 pub not-shared : (t : ℕ) → (t / 16 ≡ 0 → ⊥) → t / 16 < 3 → (isOwned t || isBorrowed t) ≡ true

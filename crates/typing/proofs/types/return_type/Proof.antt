@@ -3,13 +3,13 @@ use native.Mathlib.Omega.{arith}
 use borrow.Author.Tests.{lt-ltb}
 use mathlib.Core.Path.{sym, _∙_}
 use Rattle.layout.specs.Tests.{_and_}
-use Rattle.program.specs.Types.{kindOf, returnType}
+use Rattle.typing.specs.Types.{kindOf, returnType}
 use borrow.Author.Needs.{needs}
-use Rattle.program.proofs.types.return_type.Statement.{statement}
-use Rattle.program.proofs.types.return_type.Tie as tie
-use Rattle.program.proofs.types.return_type.Reads as reads
-use Rattle.program.proofs.types.return_type.Lts as lts
-use Rattle.program.proofs.types.register_type.Reads as register-type-reads
+use Rattle.typing.proofs.types.return_type.Statement.{statement}
+use Rattle.typing.proofs.types.return_type.Tie as tie
+use Rattle.typing.proofs.types.return_type.Reads as reads
+use Rattle.typing.proofs.types.return_type.Lts as lts
+use Rattle.typing.proofs.types.register_type.Reads as register-type-reads
 
 -- src/types.rt:38:8
 register-type-requires : tie.Need-register-type-requires

@@ -1,11 +1,11 @@
 use borrow.Author.Tests.{lt-ltb, le-ltb, eq-eqb, ne-eqb}
 use Rattle.layout.specs.Tests.{_and_}
-use Rattle.program.proofs.Ownership.{not-shared, no-ownership}
-use Rattle.program.specs.Types.{kindOf, ownershipOf, isShared, isVector, parameterType}
-use Rattle.program.proofs.types.parameter_type.Statement.{statement}
-use Rattle.program.proofs.types.parameter_type.Tie as tie
-use Rattle.program.proofs.types.parameter_type.Reads as reads
-use Rattle.program.proofs.types.parameter_type.Lts as lts
+use Rattle.typing.proofs.Ownership.{not-shared, no-ownership}
+use Rattle.typing.specs.Types.{kindOf, ownershipOf, isShared, isVector, parameterType}
+use Rattle.typing.proofs.types.parameter_type.Statement.{statement}
+use Rattle.typing.proofs.types.parameter_type.Tie as tie
+use Rattle.typing.proofs.types.parameter_type.Reads as reads
+use Rattle.typing.proofs.types.parameter_type.Lts as lts
 
 -- src/types.rt:18:9
 returns : tie.Need-returns

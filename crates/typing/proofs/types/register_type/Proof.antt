@@ -1,12 +1,12 @@
 use mathlib.Core.Path.{sym, _∙_}
 use Rattle.layout.specs.Tests.{_and_}
-use Rattle.program.specs.Types.{ownershipOf, isBorrowed, registerType}
+use Rattle.typing.specs.Types.{ownershipOf, isBorrowed, registerType}
 use borrow.Author.Needs.{needs}
-use Rattle.program.proofs.types.register_type.Statement.{statement}
-use Rattle.program.proofs.types.register_type.Tie as tie
-use Rattle.program.proofs.types.register_type.Reads as reads
-use Rattle.program.proofs.types.register_type.Lts as lts
-use Rattle.program.proofs.types.parameter_type.Reads as parameter-type-reads
+use Rattle.typing.proofs.types.register_type.Statement.{statement}
+use Rattle.typing.proofs.types.register_type.Tie as tie
+use Rattle.typing.proofs.types.register_type.Reads as reads
+use Rattle.typing.proofs.types.register_type.Lts as lts
+use Rattle.typing.proofs.types.parameter_type.Reads as parameter-type-reads
 
 -- src/types.rt:30:8
 parameter-type-requires : tie.Need-parameter-type-requires

@@ -1,0 +1,121 @@
+-- Question 7: registers that exist, and PROMs that name a block.
+use mathlib.Core.Path.{_≡_, refl, sym, ap, _∙_}
+use mathlib.Core.List.{List, [], _∷_, map}
+use mathlib.Core.Option.{Option, none, some}
+use mathlib.Core.Bool.{Bool, true, false, cond}
+use Prim.Native.Nat.{ℕ, zero, suc, _+_, _-_, _≤_, _<_}
+use native.Mathlib.Nat.{zero-add}
+use native.Mathlib.Omega.{arith}
+use lib.ListN.{length, getElem?}
+use lib.Dec.{ltb}
+use Rattle.layout.specs.Kinds as kind
+use Rattle.layout.specs.Tests.{_and_, all, count}
+use Rattle.layout.specs.Records.{_!_, every, kindAt, bodyAt, recAt, choose}
+use Rattle.layout.proofs.Bools.{and-on}
+use Rattle.layout.proofs.Fields.{length-every, all-next}
+use Rattle.layout.proofs.Rows.{Rows, choose-each}
+use Rattle.program.specs.Program.{Argument, Instr, Line, View, nowhere, arguments, instrOf}
+use Rattle.program.proofs.Forms.{argument-registers}
+use Rattle.program.specs.Places.{viewAt, past, versionAt, blockAt, instrAt, blockPlace}
+use Rattle.program.specs.Questions.{names, namings}
+use Rattle.layout.specs.declared.Found.the-variants.{Nothing, At}
+use Rattle.program.proofs.Lookups.{block-found, block-missing}
+use Rattle.program.proofs.Views.{view-end, Whole, at-version, at-block, at-line}
+
+-- ---- lists of registers
+
+-- a loop along fields has passed one
+pub all-passed : (f : ℕ → Bool) (b : List ℕ) (k step n i : ℕ) → i < n → f (b ! k) ≡ true → all f (every b k step (n - i)) ≡ all f (every b (k + step) step (n - (i + 1)))
+all-passed f b k step n i h e = let less : n - i - 1 ≡ n - (i + 1) = omega arith in rw (← less) (all-next f b k step (n - i) (omega arith) ∙ and-on _ e)
+
+-- or not
+pub all-failed : (f : ℕ → Bool) (b : List ℕ) (k step n i : ℕ) → i < n → f (b ! k) ≡ false → all f (every b k step (n - i)) ≡ false
+unfolding _and_
+all-failed f b k step n i h e = all-next f b k step (n - i) (omega arith) ∙ rw e
+
+pub all-done : (f : ℕ → Bool) (b : List ℕ) (k step n i : ℕ) → n ≤ i → all f (every b k step (n - i)) ≡ true
+unfolding all every
+all-done f b k step n i h = let none : n - i ≡ 0 = omega arith in rw none
+
+pub all-map : {A : Type 0} (f : ℕ → Bool) (g : A → ℕ) (l : List A) → all (λ (a : A). f (g a)) l ≡ all f (map g l)
+unfolding all
+all-map f g [] = refl
+all-map f g (a ∷ l) = ap (λ (x : Bool). f (g a) and x) (all-map f g l)
+
+pub registers-count : (s : List ℕ) (v : ℕ) → length (versionAt s v .types) ≡ bodyAt s v ! 3
+unfolding versionAt
+registers-count s v = length-every (bodyAt s v) 6 1 (bodyAt s v ! 3)
+
+-- a block that was looked up exists
+get-below : {A : Type 0} (l : List A) (i : ℕ) (x : A) → getElem? l i ≡ some x → i < length l
+get-below [] i x e = let z : _≡_ {A = ℕ} 0 1 = cc in absurd (omega arith)
+get-below (y ∷ l) zero x e = omega arith
+get-below (y ∷ l) (suc i) x e = omega (arith, get-below l i x e)
+
+get-none : {A : Type 0} (l : List A) (i : ℕ) → getElem? l i ≡ none → length l ≤ i
+get-none [] i e = omega arith
+get-none (y ∷ l) zero e = let z : _≡_ {A = ℕ} 0 1 = cc in absurd (omega arith)
+get-none (y ∷ l) (suc i) e = omega (arith, get-none l i e)
+
+pub block-exists : (s : List ℕ) (v b q : ℕ) → blockPlace s v b ≡ At q → b < length (versionAt s v .blocks)
+block-exists s v b q e = get-below (versionAt s v .blocks) b (blockAt s q) (block-found s v b q e)
+
+pub block-lacks : (s : List ℕ) (v b : ℕ) → blockPlace s v b ≡ Nothing → length (versionAt s v .blocks) ≤ b
+block-lacks s v b e = get-none (versionAt s v .blocks) b (block-missing s v b e)
+
+-- ---- PROMs that name a block
+
+-- only a PROM names a block
+pub names-none : (n k : ℕ) (b : List ℕ) → (k ≡ kind.PROM → ⊥) → names n (instrOf k b) ≡ false
+unfolding names instrOf Rows
+names-none n k b h = choose-each (λ (i : Instr). names n i ≡ false) k _ _ refl
+    (λ e. refl, (λ e. refl, (λ e. refl, (λ e. refl, (λ e. refl, (λ e. refl, (λ e. refl, (λ e. refl, (λ e. refl, (λ e. refl, (λ e. refl, (λ e. refl, (λ e. absurd (h e), (λ e. refl, (λ e. refl, (λ e. refl, (λ e. refl, (λ e. refl, tt))))))))))))))))))
+
+-- how many name the block n, of what is seen; before the first block of a version no instruction counts
+unfoldable pub namingsSeen : ℕ → Bool → View → ℕ
+namingsSeen n begun w = cond begun (count (λ (l : Line). names n (l .does)) (w .code)) 0 + namings n (w .blocks)
+
+pub none-seen : (n : ℕ) (begun : Bool) → namingsSeen n begun nowhere ≡ 0
+unfolding namingsSeen namings count
+none-seen n true = refl
+none-seen n false = refl
+
+pub seen-first : (s : List ℕ) (v n : ℕ) → namings n (versionAt s v .blocks) ≡ namingsSeen n false (viewAt s (past s v))
+unfolding namingsSeen versionAt
+seen-first s v n = sym (zero-add _)
+
+pub seen-outside : (s : List ℕ) (v n : ℕ) → length s ≤ v → namings n (versionAt s v .blocks) ≡ 0
+seen-outside s v n h = seen-first s v n ∙ rw (view-end s (past s v) (omega arith)) (none-seen n false)
+
+module _ {s : List ℕ} {p m k : ℕ} (w : Whole s p m k) (n : ℕ) where
+  pub seen-version : (begun : Bool) → k ≡ kind.VERSION → namingsSeen n begun (viewAt s p) ≡ 0
+  unfolding namingsSeen namings count
+  seen-version true e = rw (at-version w e)
+  seen-version false e = rw (at-version w e)
+
+  pub seen-block : (begun : Bool) → k ≡ kind.BLOCK → namingsSeen n begun (viewAt s p) ≡ namingsSeen n true (viewAt s (p + m))
+  unfolding namingsSeen namings count blockAt
+  seen-block true e = rw (at-block w e, ← w .size, zero-add)
+  seen-block false e = rw (at-block w e, ← w .size, zero-add)
+
+  pub seen-stray : (k ≡ kind.VERSION → ⊥) → (k ≡ kind.BLOCK → ⊥) → namingsSeen n false (viewAt s p) ≡ namingsSeen n false (viewAt s (p + m))
+  unfolding namingsSeen
+  seen-stray x y = rw (at-line w x y)
+
+  seen-line : (k ≡ kind.VERSION → ⊥) → (k ≡ kind.BLOCK → ⊥) → namingsSeen n true (viewAt s p) ≡ cond (names n (instrAt s p)) 1 0 + namingsSeen n true (viewAt s (p + m))
+  unfolding namingsSeen count instrAt
+  seen-line x y = rw (at-line w x y) (omega arith)
+
+  pub seen-named : (k ≡ kind.VERSION → ⊥) → (k ≡ kind.BLOCK → ⊥) → names n (instrAt s p) ≡ true → namingsSeen n true (viewAt s p) ≡ 1 + namingsSeen n true (viewAt s (p + m))
+  seen-named x y e = seen-line x y ∙ rw e
+
+  pub seen-other : (k ≡ kind.VERSION → ⊥) → (k ≡ kind.BLOCK → ⊥) → names n (instrAt s p) ≡ false → namingsSeen n true (viewAt s p) ≡ namingsSeen n true (viewAt s (p + m))
+  seen-other x y e = seen-line x y ∙ rw (e, zero-add)
+
+-- the registers of a DISPATCH's pairs are every second field
+pub pairs-exist : (f : ℕ → Bool) (b : List ℕ) (k n : ℕ) → all (λ (a : Argument). f (a .register)) (arguments b k n) ≡ all f (every b (k + 1) 2 n)
+pairs-exist f b k n = all-map f (λ (a : Argument). a .register) (arguments b k n) ∙ ap (all f) (argument-registers b k n)
+
+-- a test of registers, as the code has their count and the length of their list
+pub all-same : {r m n l : ℕ} (b : List ℕ) (k step : ℕ) → r ≡ m → n ≡ l → all (λ x. ltb x r) (every b k step n) ≡ all (λ x. ltb x m) (every b k step l)
+all-same b k step e f = rw (e, f)

@@ -1,0 +1,41 @@
+-- Question 6: the type bytes.
+use mathlib.Core.Bool.{Bool, true, cond}
+use Prim.Native.Nat.{ℕ}
+use lib.Dec.{ltb}
+use Rattle.layout.specs.Tests.{_and_, all, allFrom}
+use Rattle.program.specs.Program.{Argument, Instr, LIT, MOVE, USE, DUP, VEC, LEN, GET, SET, ARITH, SELECT, CAST, NAMED, STORE, PROM, FORCE, PEEK, POKE, CALL, DISPATCH, Version}
+use Rattle.program.specs.Search.{Question, free}
+use Rattle.typing.specs.Types.{parameterType, registerType, returnType}
+
+-- the type of register r of a version with so many parameters
+unfoldable pub typeAllowed : ℕ → ℕ → ℕ → Bool
+typeAllowed parameters r t = cond (ltb r parameters) (parameterType t) (registerType t)
+
+-- 6: is each type byte allowed at its place? In a VERSION
+unfoldable pub versionTypes : Version → Bool
+versionTypes v = allFrom (typeAllowed (v .parameters)) 0 (v .types) and returnType (v .return)
+
+-- and in a DISPATCH
+unfoldable pub typesAllowed : Instr → Bool
+typesAllowed (LIT d i) = true
+typesAllowed (MOVE d a) = true
+typesAllowed (USE d a) = true
+typesAllowed (DUP d a) = true
+typesAllowed (VEC d rs) = true
+typesAllowed (LEN d a) = true
+typesAllowed (GET d a i) = true
+typesAllowed (SET a i e) = true
+typesAllowed (ARITH d op a b) = true
+typesAllowed (SELECT d c a b) = true
+typesAllowed (CAST d a) = true
+typesAllowed (NAMED d x) = true
+typesAllowed (STORE x a) = true
+typesAllowed (PROM d block) = true
+typesAllowed (FORCE d a) = true
+typesAllowed (PEEK d a x) = true
+typesAllowed (POKE a x e) = true
+typesAllowed (CALL d f w rs) = true
+typesAllowed (DISPATCH d f mark ret pairs) = returnType ret and all (λ (a : Argument). parameterType (a .type)) pairs
+
+abbrev pub question6 : Question
+question6 = record { ofVersion = versionTypes; ofBlock = free; ofInstr = λ v n i. typesAllowed i }
