@@ -9,10 +9,9 @@ use native.Mathlib.Omega.{arith}
 use lib.ListN.{length, getElem?}
 use lib.Dec.{ltb}
 use Rattle.layout.specs.Kinds as kind
-use Rattle.layout.specs.Tests.{_and_, all, count}
+use Rattle.layout.specs.Tests.{all, count}
 use Rattle.layout.specs.Records.{_!_, every, kindAt, bodyAt, recAt, choose}
-use Rattle.layout.proofs.Bools.{and-on}
-use Rattle.layout.proofs.Fields.{length-every, all-next}
+use Rattle.layout.proofs.Fields.{length-every, all-map}
 use Rattle.layout.proofs.Rows.{Rows, choose-each}
 use Rattle.program.specs.Program.{Argument, Instr, Line, View, nowhere, arguments, instrOf}
 use Rattle.program.proofs.Forms.{argument-registers}
@@ -22,25 +21,7 @@ use Rattle.layout.specs.declared.Found.the-variants.{Nothing, At}
 use Rattle.program.proofs.Lookups.{block-found, block-missing}
 use Rattle.program.proofs.Views.{view-end, Whole, at-version, at-block, at-line}
 
--- ---- lists of registers
-
--- a loop along fields has passed one
-pub all-passed : (f : ℕ → Bool) (b : List ℕ) (k step n i : ℕ) → i < n → f (b ! k) ≡ true → all f (every b k step (n - i)) ≡ all f (every b (k + step) step (n - (i + 1)))
-all-passed f b k step n i h e = let less : n - i - 1 ≡ n - (i + 1) = omega arith in rw (← less) (all-next f b k step (n - i) (omega arith) ∙ and-on _ e)
-
--- or not
-pub all-failed : (f : ℕ → Bool) (b : List ℕ) (k step n i : ℕ) → i < n → f (b ! k) ≡ false → all f (every b k step (n - i)) ≡ false
-unfolding _and_
-all-failed f b k step n i h e = all-next f b k step (n - i) (omega arith) ∙ rw e
-
-pub all-done : (f : ℕ → Bool) (b : List ℕ) (k step n i : ℕ) → n ≤ i → all f (every b k step (n - i)) ≡ true
-unfolding all every
-all-done f b k step n i h = let none : n - i ≡ 0 = omega arith in rw none
-
-pub all-map : {A : Type 0} (f : ℕ → Bool) (g : A → ℕ) (l : List A) → all (λ (a : A). f (g a)) l ≡ all f (map g l)
-unfolding all
-all-map f g [] = refl
-all-map f g (a ∷ l) = ap (λ (x : Bool). f (g a) and x) (all-map f g l)
+-- ---- registers and blocks
 
 pub registers-count : (s : List ℕ) (v : ℕ) → length (versionAt s v .types) ≡ bodyAt s v ! 3
 unfolding versionAt

@@ -197,3 +197,14 @@ module _ (q : Question) (s : List ℕ) (h : Here) (p : ℕ) {k : ℕ} (e : k ≡
       go : (b : Bool) → (b and ltb 0 (h .blocks)) ≡ false
       go true = and-on _ refl ∙ rw z
       go false = and-off _ refl
+
+  -- a record that passes wherever it stands
+  pub asked-anywhere : (k ≡ kind.VERSION → ⊥) → ((v : Version) (n : ℕ) → q .ofBlock v n (blockAt s p) ≡ true) → ((v : Version) (n : ℕ) → q .ofInstr v n (instrAt s p) ≡ true) → asked q s h p ≡ true
+  unfolding asked choose
+  asked-anywhere x b i = rw (← e, ne-eqb k kind.VERSION x) (go (eqb k kind.BLOCK) (ltb (h .version) (length s) and ltb 0 (h .blocks)))
+    where
+      go : (t c : Bool) → cond t (cond c (q .ofBlock (versionAt s (h .version)) (h .blocks - 1) (blockAt s p)) true) (cond c (q .ofInstr (versionAt s (h .version)) (h .blocks - 1) (instrAt s p)) true) ≡ true
+      go true true = b _ _
+      go true false = refl
+      go false true = i _ _
+      go false false = refl

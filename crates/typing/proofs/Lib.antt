@@ -1,1 +1,2 @@
 pub mod Ownership
+pub mod TypeBytes

@@ -1,4 +1,4 @@
-use Rattle.program.proofs.Existence.{all-passed, all-failed, all-done}
+use Rattle.layout.proofs.Fields.{all-passed, all-failed, all-done}
 use Rattle.layout.specs.Records.{bodyAt, every}
 use Rattle.layout.specs.Tests.{all}
 use mathlib.Core.Path.{_≡_, sym, _∙_}
