@@ -2,8 +2,8 @@
 use mathlib.Core.Path.{_≡_, refl, sym, ap, _∙_}
 use mathlib.Core.List.{List, [], _∷_, map}
 use mathlib.Core.Bool.{Bool, true, false}
-use Prim.Native.Nat.{ℕ, zero, suc, _+_, _-_, _≤_, _<_}
-use native.Mathlib.Nat.{add-zero}
+use Prim.Native.Nat.{ℕ, zero, suc, _+_, _-_, _*_, _≤_, _<_}
+use native.Mathlib.Nat.{add-zero, zero-mul, suc-mul, mul-one}
 use native.Mathlib.Omega.{arith}
 use lib.ListN.{length, List·getD-eq-default}
 use Rattle.layout.specs.Tests.{_and_, all, allFrom}
@@ -15,14 +15,17 @@ unfolding every
 length-every b k step zero = refl
 length-every b k step (suc n) = ap suc (length-every b (k + step) step n)
 
-pub fields-at : (b : List ℕ) (k n i : ℕ) → i < n → fields b k n ! i ≡ b ! (k + i)
+pub every-at : (b : List ℕ) (k step n i : ℕ) → i < n → every b k step n ! i ≡ b ! (k + i * step)
 unfolding every
-fields-at b k zero i h = absurd (omega arith)
-fields-at b k (suc n) zero h = rw add-zero
-fields-at b k (suc n) (suc i) h = let e : k + suc i ≡ k + 1 + i = omega arith in rw e (fields-at b (k + 1) n i (omega arith))
+every-at b k step zero i h = absurd (omega arith)
+every-at b k step (suc n) zero h = rw (zero-mul, add-zero)
+every-at b k step (suc n) (suc i) h = rw (suc-mul i step) (let e : k + (i * step + step) ≡ k + step + i * step = omega arith in rw e (every-at b (k + step) step n i (omega arith)))
 
-pub fields-past : (b : List ℕ) (k n i : ℕ) → n ≤ i → fields b k n ! i ≡ 0
-fields-past b k n i h = List·getD-eq-default (fields b k n) 0 (rw length-every h)
+pub every-past : (b : List ℕ) (k step n i : ℕ) → n ≤ i → every b k step n ! i ≡ 0
+every-past b k step n i h = List·getD-eq-default (every b k step n) 0 (rw length-every h)
+
+pub fields-at : (b : List ℕ) (k n i : ℕ) → i < n → fields b k n ! i ≡ b ! (k + i)
+fields-at b k n i h = every-at b k 1 n i h ∙ rw mul-one
 
 -- the fields from the field at k on, of which n are left: the first and the others
 every-next : (b : List ℕ) (k step n : ℕ) → 0 < n → every b k step n ≡ b ! k ∷ every b (k + step) step (n - 1)

@@ -2,7 +2,9 @@
 ghost use mathlib.Core.Path.{_≡_};
 ghost use mathlib.Core.Bool.{Bool};
 ghost use Prim.Native.Nat.{_+_, _<_, _≤_};
+ghost use lib.Dec.{eqb};
 ghost use lib.ListN.{length};
+ghost use Rattle.layout.specs.Tests.{_and_};
 ghost use Rattle.layout.specs.Records.{_!_, u16At, sizeAt, kindAt, bodyAt, recAt, records};
 ghost use Rattle.layout.specs.Questions.{question1, question2, question3, question4, question5, lengthOf, fitting, numbered, inBounds, inOrder, placed, dueAfter, follows, following, lastAt, turnOf};
 
@@ -44,7 +46,8 @@ pub fn size_at(image: &[u8], p: usize) -> usize
     if n < 4 {
         return 0;
     }
-    if room < n {
+    let last_byte = p + n - 1;
+    if image.len() <= last_byte {
         return 0;
     }
     n
@@ -309,6 +312,13 @@ pub fn question_4(image: &[u8]) -> Found
     Found::Nothing
 }
 
+/// Is it the version 0 of the function 0?
+fn comes_first(function: usize, version: usize) -> bool
+    ensures { λ r. ⌜ r ≡ (eqb function 0 and eqb version 0) ⌝ }
+{
+    if function == 0 { version == 0 } else { false }
+}
+
 /// Does the VERSION at `p` follow on the one at `last`, or come first where none stands at `last`?
 fn in_sequence(image: &[u8], last: usize, p: usize) -> bool
     ensures { λ r. ⌜ r ≡ follows (lastAt (now (image .entry)) last) (bodyAt (now (image .entry)) p ! 0) (bodyAt (now (image .entry)) p ! 1) ⌝ }
@@ -316,10 +326,7 @@ fn in_sequence(image: &[u8], last: usize, p: usize) -> bool
     let function = field(image, p, 0);
     let version = field(image, p, 1);
     if image.len() <= last {
-        if function == 0 {
-            return version == 0;
-        }
-        return false;
+        return comes_first(function, version);
     }
     let before = field(image, last, 0);
     if function == before {

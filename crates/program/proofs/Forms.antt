@@ -1,11 +1,15 @@
 -- Decoded forms: lengths of operand lists, and the arguments of a DISPATCH as fields.
-use mathlib.Core.Path.{_≡_, refl, ap, ap₂, _∙_}
+use mathlib.Core.Path.{_≡_, refl, sym, ap, _∙_}
 use mathlib.Core.List.{List, [], _∷_, map}
 use Prim.Native.Nat.{ℕ, zero, suc, _+_}
 use native.Mathlib.Omega.{arith}
 use lib.ListN.{length}
-use Rattle.layout.specs.Records.{_!_, every}
-use Rattle.program.specs.Program.{Argument, arguments}
+use Rattle.layout.specs.Kinds as kind
+use Rattle.layout.specs.Records.{_!_, every, fields, choose, kindAt, bodyAt}
+use Rattle.layout.proofs.Rows.{Rows, choose-each}
+use Rattle.program.specs.Program.{Argument, Instr, arguments, instrOf}
+use Rattle.program.specs.Places.{instrAt}
+use Rattle.program.specs.Shapes.{operandsOf, operandTypes}
 
 pub length-arguments : (b : List ℕ) (k n : ℕ) → length (arguments b k n) ≡ n
 unfolding arguments
@@ -22,3 +26,32 @@ pub argument-registers : (b : List ℕ) (k n : ℕ) → map (λ (a : Argument). 
 unfolding arguments every
 argument-registers b k zero = refl
 argument-registers b k (suc n) = let e : k + 2 + 1 ≡ k + 1 + 2 = omega arith in ap (λ (l : List ℕ). b ! (k + 1) ∷ l) (rw e at (argument-registers b (k + 2) n))
+
+-- ---- operands, by the kind of their record
+
+module _ (s : List ℕ) (p i : ℕ) {k : ℕ} (e : k ≡ kindAt s p) where
+  pub operand-vec : k ≡ kind.VEC → operandsOf (instrAt s p) ! i ≡ fields (bodyAt s p) 2 (bodyAt s p ! 1) ! i
+  unfolding operandsOf instrAt instrOf choose
+  operand-vec x = simp (sym e ∙ x)
+
+  pub operand-call : k ≡ kind.CALL → operandsOf (instrAt s p) ! i ≡ fields (bodyAt s p) 4 (bodyAt s p ! 3) ! i
+  unfolding operandsOf instrAt instrOf choose
+  operand-call x = simp (sym e ∙ x)
+
+  pub operand-dispatch : k ≡ kind.DISPATCH → operandsOf (instrAt s p) ! i ≡ every (bodyAt s p) 6 2 (bodyAt s p ! 4) ! i
+  unfolding operandsOf instrAt instrOf choose
+  operand-dispatch x = simp (sym e ∙ x, argument-registers)
+
+  pub no-operand : (k ≡ kind.VEC → ⊥) → (k ≡ kind.CALL → ⊥) → (k ≡ kind.DISPATCH → ⊥) → operandsOf (instrAt s p) ! i ≡ 0
+  unfolding operandsOf instrAt instrOf Rows
+  no-operand x y z = rw (← e) (choose-each (λ (j : Instr). operandsOf j ! i ≡ 0) k _ _ refl
+      (λ h. refl, (λ h. refl, (λ h. refl, (λ h. absurd (x h), (λ h. refl, (λ h. refl, (λ h. refl, (λ h. refl, (λ h. refl, (λ h. refl, (λ h. refl, (λ h. refl, (λ h. refl, (λ h. refl, (λ h. refl, (λ h. refl, (λ h. absurd (y h), (λ h. absurd (z h), tt)))))))))))))))))))
+
+  pub type-dispatch : k ≡ kind.DISPATCH → operandTypes (instrAt s p) ! i ≡ every (bodyAt s p) 5 2 (bodyAt s p ! 4) ! i
+  unfolding operandTypes instrAt instrOf choose
+  type-dispatch x = simp (sym e ∙ x, argument-types)
+
+  pub no-type : (k ≡ kind.DISPATCH → ⊥) → operandTypes (instrAt s p) ! i ≡ 0
+  unfolding operandTypes instrAt instrOf Rows
+  no-type z = rw (← e) (choose-each (λ (j : Instr). operandTypes j ! i ≡ 0) k _ _ refl
+      (λ h. refl, (λ h. refl, (λ h. refl, (λ h. refl, (λ h. refl, (λ h. refl, (λ h. refl, (λ h. refl, (λ h. refl, (λ h. refl, (λ h. refl, (λ h. refl, (λ h. refl, (λ h. refl, (λ h. refl, (λ h. refl, (λ h. refl, (λ h. absurd (z h), tt)))))))))))))))))))

@@ -13,7 +13,7 @@ use Rattle.layout.specs.Tests.{_and_}
 use Rattle.layout.specs.Records.{_!_, sizeAt, kindAt, bodyAt, recAt, records, rest}
 use Rattle.layout.specs.declared.Found.{Found}
 use Rattle.layout.specs.declared.Found.the-variants.{Nothing, At}
-use Rattle.layout.proofs.Fields.{fields-at, fields-past}
+use Rattle.layout.proofs.Fields.{fields-at, every-past}
 use Rattle.program.specs.Program.{Line, Block, Version, Program, View, nowhere, lineOf, program, findVersion, firstMark}
 use Rattle.program.specs.Places.{viewAt, past, versionAt, blockAt, placeOf, versionPlace, blockPlace, linePlace}
 use Rattle.program.proofs.Views.{view-end, view-broken, view-past, Whole, at-version, at-block, at-line}
@@ -258,4 +258,4 @@ type-inside s v r h = fields-at (bodyAt s v) 6 (bodyAt s v ! 3) r h
 
 pub type-outside : (s : List ℕ) (v r : ℕ) → bodyAt s v ! 3 ≤ r → versionAt s v .types ! r ≡ 0
 unfolding versionAt
-type-outside s v r h = fields-past (bodyAt s v) 6 (bodyAt s v ! 3) r h
+type-outside s v r h = every-past (bodyAt s v) 6 1 (bodyAt s v ! 3) r h

@@ -8,7 +8,7 @@ ghost use mir.Syntax.{w32};
 ghost use Rattle.layout.specs.Records.{bodyAt, _!_};
 ghost use Rattle.program.specs.Program.{signed};
 ghost use Rattle.program.specs.Places.{instrAt};
-ghost use Rattle.program.specs.Shapes.{shapeOf, fetchOf};
+ghost use Rattle.program.specs.Shapes.{shapeOf, operandsOf, operandTypes, fetchOf};
 use crate::Fetched;
 use crate::Instruction;
 use crate::lookup;
@@ -134,6 +134,34 @@ pub fn decode(image: &[u8], p: usize) -> Instruction
             i: literal(image, p),
         },
     }
+}
+
+/// The register `i` that the VEC, CALL or DISPATCH at `p` lists, or 0 where it lists no such register.
+pub fn operand(image: &[u8], p: usize, i: usize) -> usize
+    ensures { λ r. ⌜ (r ≡ operandsOf (instrAt (now (image .entry)) p) ! i) × (r < 256) ⌝ }
+{
+    match layout::kind_at(image, p) {
+        kinds::VEC => {
+            if i < layout::field(image, p, 1) { layout::field(image, p, 2 + i) } else { 0 }
+        }
+        kinds::CALL => {
+            if i < layout::field(image, p, 3) { layout::field(image, p, 4 + i) } else { 0 }
+        }
+        kinds::DISPATCH => {
+            if i < layout::field(image, p, 4) { layout::field(image, p, 6 + i * 2) } else { 0 }
+        }
+        _ => 0,
+    }
+}
+
+/// The type `i` that the DISPATCH at `p` lists, or 0 where it lists no such type.
+pub fn operand_type(image: &[u8], p: usize, i: usize) -> usize
+    ensures { λ r. ⌜ (r ≡ operandTypes (instrAt (now (image .entry)) p) ! i) × (r < 256) ⌝ }
+{
+    if layout::kind_at(image, p) != kinds::DISPATCH {
+        return 0;
+    }
+    if i < layout::field(image, p, 4) { layout::field(image, p, 5 + i * 2) } else { 0 }
 }
 
 /// The instruction `i` of the block `b` of the version `w` of the function `f`: its place and its form.

@@ -105,6 +105,13 @@ pub fn line(image: &[u8], b: usize, i: usize) -> Found
     Found::Nothing
 }
 
+/// How many parameters the version at `v` has.
+pub fn parameters(image: &[u8], v: usize) -> usize
+    ensures { λ r. ⌜ (r ≡ versionAt (now (image .entry)) v .parameters) × (r < 256) ⌝ }
+{
+    layout::field(image, v, 2)
+}
+
 /// How many registers the version at `v` has.
 pub fn registers(image: &[u8], v: usize) -> usize
     ensures { λ r. ⌜ (r ≡ length (versionAt (now (image .entry)) v .types)) × (r < 256) ⌝ }

@@ -1,11 +1,7 @@
+use Rattle.layout.proofs.Walk.{no-room, broken-length, no-end, whole-length}
+use mathlib.Core.Path.{sym}
 use denote.Ref.{now}
-use Rattle.layout.proofs.Walk.{size-at, no-room, broken-length, no-end, whole-length}
-use mathlib.Core.Path.{sym, _∙_}
-use Rattle.layout.specs.Records.{u16At}
-use lib.ListN.{length}
-use Prim.Native.Nat.{_-_}
 use native.Mathlib.Omega.{arith}
-use borrow.Author.Tests.{lt-ltb, le-ltb}
 use borrow.Author.Needs.{needs}
 use Rattle.layout.proofs.size_at.Statement.{statement}
 use Rattle.layout.proofs.size_at.Tie as tie
@@ -60,17 +56,25 @@ returns-3 : tie.Need-returns-3
 returns-3 c =
       sym (broken-length _ _ (omega (arith, (c .before .before .before .wide) .ensures, (c .before .wide2) .ensures, (c .if3) .taken)))
 
--- src/lib.rt:48:9
+-- src/lib.rt:47:16
+add-last-byte : tie.Need-add-last-byte
+add-last-byte c = search needs
+
+-- src/lib.rt:47:16
+sub-last-byte : tie.Need-sub-last-byte
+sub-last-byte c = search needs
+
+-- src/lib.rt:49:9
 returns-4 : tie.Need-returns-4
 returns-4 c =
-      sym (no-end _ _ (omega (arith, (c .before .before .before .before .wide) .ensures, (c .before .before .wide2) .ensures, (c .if4) .taken)))
+      sym (no-end _ _ (omega (arith, (c .before .before .before .before .wide) .ensures, (c .before .before .wide2) .ensures, (c .before .before .before .before .before .before .before .if1) .left, (c .before .if3) .left, (c .if4) .taken)))
 
 -- src/lib.rt:33:1
 returns-5 : tie.Need-returns-5
 returns-5 c =
       let s = now ((c .before .before .before .before .before .before .before .before .before) .args .image) in
       let p = (c .before .before .before .before .before .before .before .before .before) .args .p in
-      omega (arith, (c .before .before .before .before .wide) .ensures, (c .before .before .wide2) .ensures, whole-length s p ((c .before .before .before .before .before .before .if2) .left) (omega (arith, (c .before .before .before .before .wide) .ensures, (c .before .before .wide2) .ensures, (c .before .if3) .left)) (omega (arith, (c .before .before .before .before .wide) .ensures, (c .before .before .wide2) .ensures, (c .if4) .left)))
+      omega (arith, (c .before .before .before .before .wide) .ensures, (c .before .before .wide2) .ensures, whole-length s p ((c .before .before .before .before .before .before .if2) .left) (omega (arith, (c .before .before .before .before .wide) .ensures, (c .before .before .wide2) .ensures, (c .before .if3) .left)) (omega (arith, (c .before .before .before .before .wide) .ensures, (c .before .before .wide2) .ensures, (c .before .if3) .left, (c .if4) .left)))
 
 pub size-at-spec : {M : Type 1} → statement M
 size-at-spec =
@@ -87,5 +91,7 @@ size-at-spec =
     mul-n
     add-n
     returns-3
+    add-last-byte
+    sub-last-byte
     returns-4
     returns-5)
