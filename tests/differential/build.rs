@@ -1,1 +1,19 @@
-fn main() {}
+//! Finds the proved library and links it.
+
+use std::env;
+use std::path::PathBuf;
+
+fn main() {
+    let manifest = env::var_os("CARGO_MANIFEST_DIR").expect("cargo names the manifest's folder");
+    let folder = PathBuf::from(manifest).join("../../target/staticlib");
+    let library = folder.join("libexports.a");
+    println!("cargo:rerun-if-changed={}", library.display());
+    if !library.exists() {
+        panic!(
+            "the proved library is not there: {} is missing; run `rt staticlib exports`",
+            library.display()
+        );
+    }
+    println!("cargo:rustc-link-search=native={}", folder.display());
+    println!("cargo:rustc-link-lib=static=exports");
+}

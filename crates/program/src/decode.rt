@@ -27,7 +27,11 @@ fn signed_of(u: usize) -> i32
     requires { ⌜ u < 2 ^ 32 ⌝ }
     ensures { λ r. ⌜ r ≡ toZ w32 u ⌝ }
 {
-    if u < 2147483648 { u as i32 } else { -1 - ((4294967295 - u) as i32) }
+    if u < 2147483648 {
+        u as i32
+    } else {
+        -1 - ((4294967295 - u) as i32)
+    }
 }
 
 /// The literal of the LIT at `p`.
@@ -142,13 +146,25 @@ pub fn operand(image: &[u8], p: usize, i: usize) -> usize
 {
     match layout::kind_at(image, p) {
         kinds::VEC => {
-            if i < layout::field(image, p, 1) { layout::field(image, p, 2 + i) } else { 0 }
+            if i < layout::field(image, p, 1) {
+                layout::field(image, p, 2 + i)
+            } else {
+                0
+            }
         }
         kinds::CALL => {
-            if i < layout::field(image, p, 3) { layout::field(image, p, 4 + i) } else { 0 }
+            if i < layout::field(image, p, 3) {
+                layout::field(image, p, 4 + i)
+            } else {
+                0
+            }
         }
         kinds::DISPATCH => {
-            if i < layout::field(image, p, 4) { layout::field(image, p, 6 + i * 2) } else { 0 }
+            if i < layout::field(image, p, 4) {
+                layout::field(image, p, 6 + i * 2)
+            } else {
+                0
+            }
         }
         _ => 0,
     }
@@ -161,7 +177,11 @@ pub fn operand_type(image: &[u8], p: usize, i: usize) -> usize
     if layout::kind_at(image, p) != kinds::DISPATCH {
         return 0;
     }
-    if i < layout::field(image, p, 4) { layout::field(image, p, 5 + i * 2) } else { 0 }
+    if i < layout::field(image, p, 4) {
+        layout::field(image, p, 5 + i * 2)
+    } else {
+        0
+    }
 }
 
 /// The instruction `i` of the block `b` of the version `w` of the function `f`: its place and its form.

@@ -7,25 +7,95 @@ pub mod question7;
 
 /// An instruction's fields; of a list of operands the length, while the operands stay in the image.
 pub enum Instruction {
-    Lit { d: u8, i: i32 },
-    Move { d: u8, a: u8 },
-    Use { d: u8, a: u8 },
-    Dup { d: u8, a: u8 },
-    Vec { d: u8, n: u8 },
-    Len { d: u8, a: u8 },
-    Get { d: u8, a: u8, i: u8 },
-    Set { a: u8, i: u8, e: u8 },
-    Arith { d: u8, op: u8, a: u8, b: u8 },
-    Select { d: u8, c: u8, a: u8, b: u8 },
-    Cast { d: u8, a: u8 },
-    Named { d: u8, x: u8 },
-    Store { x: u8, a: u8 },
-    Prom { d: u8, block: u8 },
-    Force { d: u8, a: u8 },
-    Peek { d: u8, a: u8, x: u8 },
-    Poke { a: u8, x: u8, e: u8 },
-    Call { d: u8, function: u8, version: u8, n: u8 },
-    Dispatch { d: u8, function: u8, mark: u8, result: u8, n: u8 },
+    Lit {
+        d: u8,
+        i: i32,
+    },
+    Move {
+        d: u8,
+        a: u8,
+    },
+    Use {
+        d: u8,
+        a: u8,
+    },
+    Dup {
+        d: u8,
+        a: u8,
+    },
+    Vec {
+        d: u8,
+        n: u8,
+    },
+    Len {
+        d: u8,
+        a: u8,
+    },
+    Get {
+        d: u8,
+        a: u8,
+        i: u8,
+    },
+    Set {
+        a: u8,
+        i: u8,
+        e: u8,
+    },
+    Arith {
+        d: u8,
+        op: u8,
+        a: u8,
+        b: u8,
+    },
+    Select {
+        d: u8,
+        c: u8,
+        a: u8,
+        b: u8,
+    },
+    Cast {
+        d: u8,
+        a: u8,
+    },
+    Named {
+        d: u8,
+        x: u8,
+    },
+    Store {
+        x: u8,
+        a: u8,
+    },
+    Prom {
+        d: u8,
+        block: u8,
+    },
+    Force {
+        d: u8,
+        a: u8,
+    },
+    Peek {
+        d: u8,
+        a: u8,
+        x: u8,
+    },
+    Poke {
+        a: u8,
+        x: u8,
+        e: u8,
+    },
+    Call {
+        d: u8,
+        function: u8,
+        version: u8,
+        n: u8,
+    },
+    Dispatch {
+        d: u8,
+        function: u8,
+        mark: u8,
+        result: u8,
+        n: u8,
+    },
 }
 
 /// An instruction that was looked up: the offset of its record and its form.

@@ -123,7 +123,11 @@ pub fn registers(image: &[u8], v: usize) -> usize
 pub fn type_of(image: &[u8], v: usize, r: usize) -> usize
     ensures { λ t. ⌜ (t ≡ versionAt (now (image .entry)) v .types ! r) × (t < 256) ⌝ }
 {
-    if r < layout::field(image, v, 3) { layout::field(image, v, 6 + r) } else { 0 }
+    if r < layout::field(image, v, 3) {
+        layout::field(image, v, 6 + r)
+    } else {
+        0
+    }
 }
 
 /// The mark of the version at `v`: that of its block 0.

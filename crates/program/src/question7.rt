@@ -199,7 +199,11 @@ fn instruction_exists(image: &[u8], table: &[usize; 128], v: usize, b: usize, p:
 fn names_block(image: &[u8], p: usize, b: usize) -> bool
     ensures { λ r. ⌜ r ≡ names b (instrAt (now (image .entry)) p) ⌝ }
 {
-    if layout::kind_at(image, p) == kinds::PROM { layout::field(image, p, 1) == b } else { false }
+    if layout::kind_at(image, p) == kinds::PROM {
+        layout::field(image, p, 1) == b
+    } else {
+        false
+    }
 }
 
 /// How many PROMs of the version at `v` name the block `b`.
@@ -245,7 +249,11 @@ fn block_named(image: &[u8], v: usize, b: usize, p: usize) -> bool
     if lookup::registers(image, v) <= layout::field(image, p, 1) {
         return false;
     }
-    if b == 0 { true } else { count_namings(image, v, b) == 1 }
+    if b == 0 {
+        true
+    } else {
+        count_namings(image, v, b) == 1
+    }
 }
 
 /// Does all exist that the record at `p` names, where the pass stands at `here`?

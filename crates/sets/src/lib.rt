@@ -44,7 +44,11 @@ pub fn single(r: usize) -> u16
 pub fn contains(a: u16, r: usize) -> bool
     ensures { λ m. ⌜ m ≡ has (setOf 16 a) r ⌝ }
 {
-    if r < REGISTERS { (a >> r) % 2 == 1 } else { false }
+    if r < REGISTERS {
+        (a >> r) % 2 == 1
+    } else {
+        false
+    }
 }
 
 /// How many registers are in `a`.

@@ -18,11 +18,22 @@ use program::pass;
 fn allowed(parameters: usize, r: usize, t: usize) -> bool
     ensures { λ a. ⌜ a ≡ typeAllowed parameters r t ⌝ }
 {
-    if r < parameters { types::parameter_type(t) } else { types::register_type(t) }
+    if r < parameters {
+        types::parameter_type(t)
+    } else {
+        types::register_type(t)
+    }
 }
 
 /// Are `n` type bytes of the record at `p` allowed, from the field `from` on, each `step` behind the one before?
-fn all_allowed(image: &[u8], p: usize, from: usize, step: usize, n: usize, parameters: usize) -> bool
+fn all_allowed(
+    image: &[u8],
+    p: usize,
+    from: usize,
+    step: usize,
+    n: usize,
+    parameters: usize,
+) -> bool
     requires { ⌜ (from < 256) × (step < 256) × (n < 256) ⌝ }
     ensures { λ r. ⌜ r ≡ allFrom (typeAllowed parameters) 0 (every (bodyAt (now (image .entry)) p) from step n) ⌝ }
 {

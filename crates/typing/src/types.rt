@@ -27,7 +27,11 @@ pub fn parameter_type(t: usize) -> bool
 pub fn register_type(t: usize) -> bool
     ensures { λ r. ⌜ r ≡ registerType t ⌝ }
 {
-    if parameter_type(t) { t / 16 != 2 } else { false }
+    if parameter_type(t) {
+        t / 16 != 2
+    } else {
+        false
+    }
 }
 
 /// May the type byte `t` stand at a return?

@@ -1,1 +1,148 @@
-//! x
+//! Deterministic images, argument words and event lists: a seed decides all of it.
+//!
+//! Accepted images are accepted by construction: types, marks and flow are
+//! kept while a version grows. Damaged images are accepted ones with one rule
+//! broken, aimed at a question. What runs will do is only expected, so that
+//! most of them go on for a while and all ends are met.
+
+mod damage;
+mod draft;
+mod fact;
+mod grow;
+mod mutate;
+mod padding;
+mod random;
+mod registers;
+mod run;
+mod special;
+mod theme;
+mod world;
+
+pub use grow::Trap;
+pub use random::Random;
+pub use run::Event;
+pub use special::Special;
+pub use theme::Theme;
+
+use draft::Draft;
+use reference::{Integer, Program};
+
+/// What an image was made for.
+#[derive(Clone, Copy, PartialEq, Eq, PartialOrd, Ord, Debug)]
+pub enum Aim {
+    /// To be accepted.
+    Accepted,
+    /// To be refused by this question.
+    Refused(u8),
+    /// Nothing: its bytes were changed by chance, or are chance alone.
+    Any,
+}
+
+/// An image with its aim. Accepted ones are accepted; the other aims may be missed.
+#[derive(Clone, PartialEq, Eq, Debug)]
+pub struct Image {
+    /// The image.
+    pub bytes: Vec<u8>,
+    /// What it was made for.
+    pub aim: Aim,
+}
+
+/// An accepted image.
+pub fn accepted(seed: u64) -> Vec<u8> {
+    let mut random = Random::new(seed);
+    let theme = Theme::any(&mut random);
+    theme::program(&mut random, theme).bytes()
+}
+
+/// An accepted image of a theme.
+pub fn accepted_of(theme: Theme, seed: u64) -> Vec<u8> {
+    theme::program(&mut Random::new(seed), theme).bytes()
+}
+
+/// An image that a question of 1 to 10 should refuse.
+pub fn damaged_at(question: u8, seed: u64) -> Vec<u8> {
+    let mut random = Random::new(seed);
+    loop {
+        let draft = victim(&mut random);
+        if let Some(bytes) = damage::damage(&mut random, question, &draft) {
+            return bytes;
+        }
+    }
+}
+
+/// An accepted program to be damaged: mostly a small one, which leaves registers free.
+fn victim(random: &mut Random) -> Draft {
+    let theme = random.weighted(&[
+        (70, Theme::Small),
+        (15, Theme::Single),
+        (14, Theme::Medium),
+        (1, Theme::Many),
+    ]);
+    theme::program(random, theme)
+}
+
+/// An image that one of questions 1 to 10 should refuse.
+pub fn damaged(seed: u64) -> Image {
+    let question = 1 + Random::new(seed).below(10) as u8;
+    Image {
+        bytes: damaged_at(question, seed),
+        aim: Aim::Refused(question),
+    }
+}
+
+/// An accepted image with some bytes changed, or an image of chance.
+pub fn mutated(seed: u64) -> Vec<u8> {
+    let mut random = Random::new(seed);
+    match random.below(10) {
+        0 => mutate::raw(&mut random),
+        1 | 2 => mutate::records(&mut random),
+        _ => {
+            let image = victim(&mut random).bytes();
+            mutate::mutated(&mut random, image)
+        }
+    }
+}
+
+/// Any image: accepted, damaged, mutated, or chance, in a mix for comparing checkers.
+pub fn image(seed: u64) -> Image {
+    match Random::new(!seed).below(10) {
+        0..=2 => Image {
+            bytes: accepted(seed),
+            aim: Aim::Accepted,
+        },
+        3..=7 => damaged(seed),
+        _ => Image {
+            bytes: mutated(seed),
+            aim: Aim::Any,
+        },
+    }
+}
+
+/// The bytes of any image.
+pub fn any(seed: u64) -> Vec<u8> {
+    image(seed).bytes
+}
+
+/// The function and version that a run of an accepted image begins at; none if
+/// every version has a promise parameter.
+pub fn entry(seed: u64, program: &Program) -> Option<(usize, usize)> {
+    run::entry(&mut Random::new(seed), program)
+}
+
+/// Argument words for an entry that exists: they match, but for one time in ten.
+pub fn words(seed: u64, program: &Program, entry: (usize, usize)) -> Vec<Integer> {
+    let mut random = Random::new(seed);
+    let version = program.version(entry.0, entry.1);
+    let version = version.expect("the entry exists");
+    let words = run::matching_words(&mut random, version);
+    if random.one_in(10) {
+        run::wrong_words(&mut random, words)
+    } else {
+        words
+    }
+}
+
+/// A list of single steps and budgets, some lent too short a buffer.
+pub fn events(seed: u64) -> Vec<Event> {
+    run::event_list(&mut Random::new(seed))
+}

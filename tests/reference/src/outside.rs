@@ -17,14 +17,12 @@ fn frames_belong_to_calls(state: &State) -> bool {
     state.activations.first().as_ref().is_some_and(is_call) && opened.eq(0..state.frames.len())
 }
 
-/// Are the versions of the frames, and the vectors, promises, frames and
-/// blocks that values refer to, all there?
+/// Are the vectors, promises, frames and blocks that values refer to all there?
 fn values_point_inside(state: &State, program: &Program) -> bool {
-    (0..state.frames.len()).all(|frame| state.version(program, frame).is_some())
-        && state.held().all(|v| state.kind(program, v).is_some())
+    state.held().all(|v| state.kind(program, v).is_some())
 }
 
-/// Do an activation's frame, block, next instruction, promise and d exist?
+/// Do an activation's frame with its version, block, next instruction, promise and d exist?
 fn activation_points_inside(state: &State, program: &Program, index: usize) -> bool {
     let activation = &state.activations[index];
     let block = state.block(program, activation.frame, activation.block);

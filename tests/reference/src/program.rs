@@ -46,7 +46,7 @@ pub struct Signature {
 
 impl Program {
     /// The program of records that are in order (question 4).
-    pub fn gather(records: &[Placed<Record>]) -> Program {
+    pub(crate) fn gather(records: &[Placed<Record>]) -> Program {
         let mut versions: Vec<Version> = Vec::new();
         for record in records {
             let offset = record.offset;

@@ -119,6 +119,39 @@ fn nice_program_reads_as_it_is_written() {
     assert_eq!(image[13..20], [7, 0, 2, 0, 0, 0, 3]);
 }
 
+/// The blocks of text in the crate's documentation.
+fn documented() -> Vec<String> {
+    let source = include_str!("../src/lib.rs");
+    let lines = source.lines().filter_map(|line| line.strip_prefix("//!"));
+    let lines: Vec<&str> = lines.collect();
+    let blocks = lines.split(|line| line.trim().starts_with("```"));
+    blocks
+        .skip(1)
+        .step_by(2)
+        .map(|block| block.join("\n"))
+        .collect()
+}
+
+#[test]
+fn documented_program_is_accepted_and_does_what_it_says() {
+    let image = assemble(&documented()[0]).expect("a program");
+    let program = reference::Program::accept(&image).expect("an accepted image");
+    let mut buffer = [0; 16];
+    let state = reference::State::begin(&program, 0, 0, &[2, 5, -8], &buffer);
+    let state = state.expect("a run begins");
+    let (_, answer, _) = state.budget(&program, 100, &mut buffer);
+    assert_eq!(answer, reference::Answer::Ended(reference::End::Vector(2)));
+    assert_eq!(buffer[..2], [10, -16]);
+}
+
+#[test]
+fn documented_instructions_are_the_nineteen_by_kind_number() {
+    let image = assemble(&documented()[1]).expect("instructions");
+    let records = reference::questions::records(&image).expect("records");
+    let kinds: Vec<u16> = records.iter().map(|placed| placed.item.kind()).collect();
+    assert_eq!(kinds, (16..35).collect::<Vec<u16>>());
+}
+
 #[test]
 fn spaces_comments_and_blank_lines_are_free() {
     let spaced = NICE

@@ -1,95 +1,72 @@
-use Rattle.exports.specs.Answers.{question}
-use Rattle.layout.specs.Records.{choose}
-use mathlib.Core.Path.{_∙_}
-use borrow.Author.Tests.{ne-eqb}
-use borrow.Author.Needs.{needs}
+-- `exports::ask`: one question for each number.
 use Rattle.exports.proofs.ask.Statement.{statement}
 use Rattle.exports.proofs.ask.Tie as tie
-use Rattle.exports.proofs.ask.Reads as reads
-use Rattle.exports.proofs.ask.Lts as lts
-use Rattle.layout.proofs.question_1.Reads as question-1-reads
-use Rattle.layout.proofs.question_2.Reads as question-2-reads
-use Rattle.layout.proofs.question_3.Reads as question-3-reads
-use Rattle.layout.proofs.question_4.Reads as question-4-reads
-use Rattle.layout.proofs.question_5.Reads as question-5-reads
-use Rattle.program.proofs.question7.question_7.Reads as question-7-reads
-use Rattle.typing.proofs.question6.question_6.Reads as question-6-reads
+use Rattle.exports.specs.Answers.{question}
+use Rattle.layout.specs.Records.{choose}
+use borrow.Author.Needs.{needs}
+use borrow.Author.Tests.{ne-eqb}
+use mathlib.Core.Path.{_∙_}
 
--- src/lib.rt:13:14
 question-1-requires : tie.Need-question-1-requires
 question-1-requires c κs = search needs
 
--- src/lib.rt:14:14
 question-2-requires : tie.Need-question-2-requires
 question-2-requires c κs = search needs
 
--- src/lib.rt:15:14
 question-3-requires : tie.Need-question-3-requires
 question-3-requires c κs = search needs
 
--- src/lib.rt:16:14
 question-4-requires : tie.Need-question-4-requires
 question-4-requires c κs = search needs
 
--- src/lib.rt:17:14
 question-5-requires : tie.Need-question-5-requires
 question-5-requires c κs = search needs
 
--- src/lib.rt:18:14
 question-6-requires : tie.Need-question-6-requires
 question-6-requires c κs = search needs
 
--- src/lib.rt:19:14
 question-7-requires : tie.Need-question-7-requires
 question-7-requires c κs = search needs
 
--- src/lib.rt:9:1
 returns : tie.Need-returns
 unfolding question choose
 returns c =
-      (c .question-1) .ensures ∙ simp ((c .before .match) .keys1)
+    (c .question-1) .ensures ∙ simp ((c .before .match) .keys1)
 
--- src/lib.rt:9:1
 returns-2 : tie.Need-returns-2
 unfolding question choose
 returns-2 c =
-      (c .question-2) .ensures ∙ simp ((c .before .match) .keys2)
+    (c .question-2) .ensures ∙ simp ((c .before .match) .keys2)
 
--- src/lib.rt:9:1
 returns-3 : tie.Need-returns-3
 unfolding question choose
 returns-3 c =
-      (c .question-3) .ensures ∙ simp ((c .before .match) .keys3)
+    (c .question-3) .ensures ∙ simp ((c .before .match) .keys3)
 
--- src/lib.rt:9:1
 returns-4 : tie.Need-returns-4
 unfolding question choose
 returns-4 c =
-      (c .question-4) .ensures ∙ simp ((c .before .match) .keys4)
+    (c .question-4) .ensures ∙ simp ((c .before .match) .keys4)
 
--- src/lib.rt:9:1
 returns-5 : tie.Need-returns-5
 unfolding question choose
 returns-5 c =
-      (c .question-5) .ensures ∙ simp ((c .before .match) .keys5)
+    (c .question-5) .ensures ∙ simp ((c .before .match) .keys5)
 
--- src/lib.rt:9:1
 returns-6 : tie.Need-returns-6
 unfolding question choose
 returns-6 c =
-      (c .question-6) .ensures ∙ simp ((c .before .match) .keys6)
+    (c .question-6) .ensures ∙ simp ((c .before .match) .keys6)
 
--- src/lib.rt:9:1
 returns-7 : tie.Need-returns-7
 unfolding question choose
 returns-7 c =
-      (c .question-7) .ensures ∙ simp ((c .before .match) .keys7)
+    (c .question-7) .ensures ∙ simp ((c .before .match) .keys7)
 
--- src/lib.rt:9:1
 returns-8 : tie.Need-returns-8
 unfolding question choose
 returns-8 c =
-      simp (ne-eqb _ _ ((c .match) .rest .0 .0 .0 .0 .0 .0 .1), ne-eqb _ _ ((c .match) .rest .0 .0 .0 .0 .0 .1), ne-eqb _ _ ((c .match) .rest .0 .0 .0 .0 .1), ne-eqb _ _ ((c .match) .rest .0 .0 .0 .1), ne-eqb _ _ ((c .match) .rest .0 .0 .1), ne-eqb _ _ ((c .match) .rest .0 .1), ne-eqb _ _ ((c .match) .rest .1))
+    simp (ne-eqb _ _ ((c .match) .rest .0 .0 .0 .0 .0 .0 .1), ne-eqb _ _ ((c .match) .rest .0 .0 .0 .0 .0 .1), ne-eqb _ _ ((c .match) .rest .0 .0 .0 .0 .1), ne-eqb _ _ ((c .match) .rest .0 .0 .0 .1), ne-eqb _ _ ((c .match) .rest .0 .0 .1), ne-eqb _ _ ((c .match) .rest .0 .1), ne-eqb _ _ ((c .match) .rest .1))
 
 pub ask-spec : {M : Type 1} → statement M
 ask-spec =

@@ -1,51 +1,40 @@
-use mathlib.Core.Path.{sym, _∙_}
-use native.Mathlib.Omega.{arith}
+-- `layout::field`: a field is a byte of the body, and past the body it reads 0.
 use Rattle.layout.proofs.Walk.{size-in, body-at, body-past}
-use borrow.Author.Needs.{needs}
 use Rattle.layout.proofs.field.Statement.{statement}
 use Rattle.layout.proofs.field.Tie as tie
-use Rattle.layout.proofs.field.Reads as reads
-use Rattle.layout.proofs.field.Lts as lts
-use Rattle.layout.proofs.size_at.Reads as size-at-reads
-use Rattle.layout.proofs.wide.Reads as wide-reads
+use borrow.Author.Needs.{needs}
+use mathlib.Core.Path.{sym, _∙_}
+use native.Mathlib.Omega.{arith}
 
--- src/lib.rt:67:9
 size-at-requires : tie.Need-size-at-requires
 size-at-requires c κs = search needs
 
--- src/lib.rt:69:9
 returns : tie.Need-returns
 returns c =
-      (sym (body-past _ _ _ (omega (arith, (c .before .size-at) .ensures))), omega arith)
+    (sym (body-past _ _ _ (omega (arith, (c .before .size-at) .ensures))), omega arith)
 
--- src/lib.rt:72:9
 returns-2 : tie.Need-returns-2
 returns-2 c =
-      (sym (body-past _ _ _ (omega (arith, (c .before .before .size-at) .ensures))), omega arith)
+    (sym (body-past _ _ _ (omega (arith, (c .before .before .size-at) .ensures))), omega arith)
 
--- src/lib.rt:74:16
 add-wide : tie.Need-add-wide
 add-wide c =
-      omega (arith, size-in _ _ ((c .before .before .size-at) .ensures) (omega arith))
+    omega (arith, size-in _ _ ((c .before .before .size-at) .ensures) (omega arith))
 
--- src/lib.rt:74:16
 add-wide-2 : tie.Need-add-wide-2
 add-wide-2 c =
-      omega (arith, size-in _ _ ((c .before .before .size-at) .ensures) (omega arith))
+    omega (arith, size-in _ _ ((c .before .before .size-at) .ensures) (omega arith))
 
--- src/lib.rt:74:10
 shared-slice-read-wide : tie.Need-shared-slice-read-wide
 shared-slice-read-wide c =
-      omega (arith, size-in _ _ ((c .before .before .before .size-at) .ensures) (omega arith))
+    omega (arith, size-in _ _ ((c .before .before .before .size-at) .ensures) (omega arith))
 
--- src/lib.rt:74:5
 wide-requires : tie.Need-wide-requires
 wide-requires c κs = search needs
 
--- src/lib.rt:64:1
 returns-3 : tie.Need-returns-3
 returns-3 c =
-      ((c .wide) .ensures .0 ∙ sym (body-at _ _ _ (omega (arith, (c .before .before .before .before .size-at) .ensures))), (c .wide) .ensures .1)
+    ((c .wide) .ensures .0 ∙ sym (body-at _ _ _ (omega (arith, (c .before .before .before .before .size-at) .ensures))), (c .wide) .ensures .1)
 
 pub field-spec : {M : Type 1} → statement M
 field-spec =

@@ -1,52 +1,41 @@
+-- `layout::kind_at`: the two bytes behind the length.
+use Prim.Native.Nat.{_+_}
 use Rattle.layout.proofs.Walk.{kind-at, kind-outside}
-use Rattle.layout.specs.Records.{_!_}
-use denote.Ref.{now}
-use Prim.Native.Nat.{ℕ, _+_}
-use native.Mathlib.Omega.{arith}
-use mathlib.Core.Path.{sym, _∙_, _≡_}
-use borrow.Author.Needs.{needs}
 use Rattle.layout.proofs.kind_at.Statement.{statement}
 use Rattle.layout.proofs.kind_at.Tie as tie
-use Rattle.layout.proofs.kind_at.Reads as reads
-use Rattle.layout.proofs.kind_at.Lts as lts
-use Rattle.layout.proofs.byte.Reads as byte-reads
+use borrow.Author.Needs.{needs}
+use denote.Ref.{now}
+use mathlib.Core.Path.{sym, _≡_}
+use native.Mathlib.Omega.{arith}
 
--- src/lib.rt:58:9
 returns : tie.Need-returns
 returns c =
-      sym (kind-outside _ _ ((c .if1) .taken))
+    sym (kind-outside _ _ ((c .if1) .taken))
 
--- src/lib.rt:60:17
 add-byte : tie.Need-add-byte
 add-byte c = search needs
 
--- src/lib.rt:60:5
 byte-requires : tie.Need-byte-requires
 byte-requires c κs = search needs
 
--- src/lib.rt:60:44
 add-byte-2 : tie.Need-add-byte-2
 add-byte-2 c = search needs
 
--- src/lib.rt:60:32
 byte-requires-2 : tie.Need-byte-requires-2
 byte-requires-2 c κs = search needs
 
--- src/lib.rt:60:26
 mul-result : tie.Need-mul-result
 mul-result c = search needs
 
--- src/lib.rt:60:5
 add-result : tie.Need-add-result
 add-result c = search needs
 
--- src/lib.rt:54:1
 returns-2 : tie.Need-returns-2
 returns-2 c =
-      let s = now ((c .before .before .before .before) .args .image) in
-      let p = (c .before .before .before .before) .args .p in
-      let e : p + 3 ≡ p + 2 + 1 = omega arith in
-      omega (arith, (c .before .byte) .ensures .0, rw e at ((c .byte2) .ensures .0), kind-at s p)
+    let s = now ((c .before .before .before .before) .args .image) in
+    let p = (c .before .before .before .before) .args .p in
+    let e : p + 3 ≡ p + 2 + 1 = omega arith in
+    omega (arith, (c .before .byte) .ensures .0, rw e at ((c .byte2) .ensures .0), kind-at s p)
 
 pub kind-at-spec : {M : Type 1} → statement M
 kind-at-spec =

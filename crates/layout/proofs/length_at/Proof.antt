@@ -1,186 +1,151 @@
-use Rattle.layout.specs.Questions.{lengthOf}
-use Rattle.layout.specs.Records.{choose}
-use mathlib.Core.Path.{sym, _∙_}
-use borrow.Author.Tests.{ne-eqb}
-use borrow.Author.Needs.{needs}
+-- `layout::length_at`: one row of the table for each kind.
 use Rattle.layout.proofs.length_at.Statement.{statement}
 use Rattle.layout.proofs.length_at.Tie as tie
-use Rattle.layout.proofs.length_at.Reads as reads
-use Rattle.layout.proofs.length_at.Lts as lts
-use Rattle.layout.proofs.field.Reads as field-reads
-use Rattle.layout.proofs.kind_at.Reads as kind-at-reads
+use Rattle.layout.specs.Questions.{lengthOf}
+use Rattle.layout.specs.Records.{choose}
+use borrow.Author.Needs.{needs}
+use borrow.Author.Tests.{ne-eqb}
+use mathlib.Core.Path.{sym, _∙_}
 
--- src/lib.rt:109:11
 kind-at-requires : tie.Need-kind-at-requires
 kind-at-requires c κs = search needs
 
--- src/lib.rt:110:32
 field-requires : tie.Need-field-requires
 field-requires c κs = search needs
 
--- src/lib.rt:110:27
 add-result : tie.Need-add-result
 add-result c = search needs
 
--- src/lib.rt:116:27
 field-requires-2 : tie.Need-field-requires-2
 field-requires-2 c κs = search needs
 
--- src/lib.rt:116:23
 add-result-2 : tie.Need-add-result-2
 add-result-2 c = search needs
 
--- src/lib.rt:129:28
 field-requires-3 : tie.Need-field-requires-3
 field-requires-3 c κs = search needs
 
--- src/lib.rt:129:24
 add-result-3 : tie.Need-add-result-3
 add-result-3 c = search needs
 
--- src/lib.rt:130:36
 field-requires-4 : tie.Need-field-requires-4
 field-requires-4 c κs = search needs
 
--- src/lib.rt:130:32
 mul-result : tie.Need-mul-result
 mul-result c = search needs
 
--- src/lib.rt:130:28
 add-result-4 : tie.Need-add-result-4
 add-result-4 c = search needs
 
--- src/lib.rt:106:1
 returns : tie.Need-returns
 unfolding lengthOf choose
 returns c =
-      simp (sym ((c .before .before .kind-at) .ensures) ∙ (c .before .match) .keys1, (c .field) .ensures .0)
+    simp (sym ((c .before .before .kind-at) .ensures) ∙ (c .before .match) .keys1, (c .field) .ensures .0)
 
--- src/lib.rt:106:1
 returns-2 : tie.Need-returns-2
 unfolding lengthOf choose
 returns-2 c =
-      simp (sym ((c .before .kind-at) .ensures) ∙ (c .match) .keys2)
+    simp (sym ((c .before .kind-at) .ensures) ∙ (c .match) .keys2)
 
--- src/lib.rt:106:1
 returns-3 : tie.Need-returns-3
 unfolding lengthOf choose
 returns-3 c =
-      simp (sym ((c .before .kind-at) .ensures) ∙ (c .match) .keys3)
+    simp (sym ((c .before .kind-at) .ensures) ∙ (c .match) .keys3)
 
--- src/lib.rt:106:1
 returns-4 : tie.Need-returns-4
 unfolding lengthOf choose
 returns-4 c =
-      simp (sym ((c .before .kind-at) .ensures) ∙ (c .match) .keys4)
+    simp (sym ((c .before .kind-at) .ensures) ∙ (c .match) .keys4)
 
--- src/lib.rt:106:1
 returns-5 : tie.Need-returns-5
 unfolding lengthOf choose
 returns-5 c =
-      simp (sym ((c .before .kind-at) .ensures) ∙ (c .match) .keys5)
+    simp (sym ((c .before .kind-at) .ensures) ∙ (c .match) .keys5)
 
--- src/lib.rt:106:1
 returns-6 : tie.Need-returns-6
 unfolding lengthOf choose
 returns-6 c =
-      simp (sym ((c .before .kind-at) .ensures) ∙ (c .match) .keys6)
+    simp (sym ((c .before .kind-at) .ensures) ∙ (c .match) .keys6)
 
--- src/lib.rt:106:1
 returns-7 : tie.Need-returns-7
 unfolding lengthOf choose
 returns-7 c =
-      simp (sym ((c .before .before .kind-at) .ensures) ∙ (c .before .match) .keys7, (c .field2) .ensures .0)
+    simp (sym ((c .before .before .kind-at) .ensures) ∙ (c .before .match) .keys7, (c .field2) .ensures .0)
 
--- src/lib.rt:106:1
 returns-8 : tie.Need-returns-8
 unfolding lengthOf choose
 returns-8 c =
-      simp (sym ((c .before .kind-at) .ensures) ∙ (c .match) .keys8)
+    simp (sym ((c .before .kind-at) .ensures) ∙ (c .match) .keys8)
 
--- src/lib.rt:106:1
 returns-9 : tie.Need-returns-9
 unfolding lengthOf choose
 returns-9 c =
-      simp (sym ((c .before .kind-at) .ensures) ∙ (c .match) .keys9)
+    simp (sym ((c .before .kind-at) .ensures) ∙ (c .match) .keys9)
 
--- src/lib.rt:106:1
 returns-10 : tie.Need-returns-10
 unfolding lengthOf choose
 returns-10 c =
-      simp (sym ((c .before .kind-at) .ensures) ∙ (c .match) .keys10)
+    simp (sym ((c .before .kind-at) .ensures) ∙ (c .match) .keys10)
 
--- src/lib.rt:106:1
 returns-11 : tie.Need-returns-11
 unfolding lengthOf choose
 returns-11 c =
-      simp (sym ((c .before .kind-at) .ensures) ∙ (c .match) .keys11)
+    simp (sym ((c .before .kind-at) .ensures) ∙ (c .match) .keys11)
 
--- src/lib.rt:106:1
 returns-12 : tie.Need-returns-12
 unfolding lengthOf choose
 returns-12 c =
-      simp (sym ((c .before .kind-at) .ensures) ∙ (c .match) .keys12)
+    simp (sym ((c .before .kind-at) .ensures) ∙ (c .match) .keys12)
 
--- src/lib.rt:106:1
 returns-13 : tie.Need-returns-13
 unfolding lengthOf choose
 returns-13 c =
-      simp (sym ((c .before .kind-at) .ensures) ∙ (c .match) .keys13)
+    simp (sym ((c .before .kind-at) .ensures) ∙ (c .match) .keys13)
 
--- src/lib.rt:106:1
 returns-14 : tie.Need-returns-14
 unfolding lengthOf choose
 returns-14 c =
-      simp (sym ((c .before .kind-at) .ensures) ∙ (c .match) .keys14)
+    simp (sym ((c .before .kind-at) .ensures) ∙ (c .match) .keys14)
 
--- src/lib.rt:106:1
 returns-15 : tie.Need-returns-15
 unfolding lengthOf choose
 returns-15 c =
-      simp (sym ((c .before .kind-at) .ensures) ∙ (c .match) .keys15)
+    simp (sym ((c .before .kind-at) .ensures) ∙ (c .match) .keys15)
 
--- src/lib.rt:106:1
 returns-16 : tie.Need-returns-16
 unfolding lengthOf choose
 returns-16 c =
-      simp (sym ((c .before .kind-at) .ensures) ∙ (c .match) .keys16)
+    simp (sym ((c .before .kind-at) .ensures) ∙ (c .match) .keys16)
 
--- src/lib.rt:106:1
 returns-17 : tie.Need-returns-17
 unfolding lengthOf choose
 returns-17 c =
-      simp (sym ((c .before .kind-at) .ensures) ∙ (c .match) .keys17)
+    simp (sym ((c .before .kind-at) .ensures) ∙ (c .match) .keys17)
 
--- src/lib.rt:106:1
 returns-18 : tie.Need-returns-18
 unfolding lengthOf choose
 returns-18 c =
-      simp (sym ((c .before .kind-at) .ensures) ∙ (c .match) .keys18)
+    simp (sym ((c .before .kind-at) .ensures) ∙ (c .match) .keys18)
 
--- src/lib.rt:106:1
 returns-19 : tie.Need-returns-19
 unfolding lengthOf choose
 returns-19 c =
-      simp (sym ((c .before .kind-at) .ensures) ∙ (c .match) .keys19)
+    simp (sym ((c .before .kind-at) .ensures) ∙ (c .match) .keys19)
 
--- src/lib.rt:106:1
 returns-20 : tie.Need-returns-20
 unfolding lengthOf choose
 returns-20 c =
-      simp (sym ((c .before .before .kind-at) .ensures) ∙ (c .before .match) .keys20, (c .field3) .ensures .0)
+    simp (sym ((c .before .before .kind-at) .ensures) ∙ (c .before .match) .keys20, (c .field3) .ensures .0)
 
--- src/lib.rt:106:1
 returns-21 : tie.Need-returns-21
 unfolding lengthOf choose
 returns-21 c =
-      simp (sym ((c .before .before .kind-at) .ensures) ∙ (c .before .match) .keys21, (c .field4) .ensures .0)
+    simp (sym ((c .before .before .kind-at) .ensures) ∙ (c .before .match) .keys21, (c .field4) .ensures .0)
 
--- src/lib.rt:106:1
 returns-22 : tie.Need-returns-22
 unfolding lengthOf choose
 returns-22 c =
-      simp (← (c .before .kind-at) .ensures, ne-eqb _ _ ((c .match) .rest .0 .0 .0 .0 .0 .0 .0 .0 .0 .0 .0 .0 .0 .0 .0 .0 .0 .0 .0 .0 .1), ne-eqb _ _ ((c .match) .rest .0 .0 .0 .0 .0 .0 .0 .0 .0 .0 .0 .0 .0 .0 .0 .0 .0 .0 .0 .1), ne-eqb _ _ ((c .match) .rest .0 .0 .0 .0 .0 .0 .0 .0 .0 .0 .0 .0 .0 .0 .0 .0 .0 .0 .1), ne-eqb _ _ ((c .match) .rest .0 .0 .0 .0 .0 .0 .0 .0 .0 .0 .0 .0 .0 .0 .0 .0 .0 .1), ne-eqb _ _ ((c .match) .rest .0 .0 .0 .0 .0 .0 .0 .0 .0 .0 .0 .0 .0 .0 .0 .0 .1), ne-eqb _ _ ((c .match) .rest .0 .0 .0 .0 .0 .0 .0 .0 .0 .0 .0 .0 .0 .0 .0 .1), ne-eqb _ _ ((c .match) .rest .0 .0 .0 .0 .0 .0 .0 .0 .0 .0 .0 .0 .0 .0 .1), ne-eqb _ _ ((c .match) .rest .0 .0 .0 .0 .0 .0 .0 .0 .0 .0 .0 .0 .0 .1), ne-eqb _ _ ((c .match) .rest .0 .0 .0 .0 .0 .0 .0 .0 .0 .0 .0 .0 .1), ne-eqb _ _ ((c .match) .rest .0 .0 .0 .0 .0 .0 .0 .0 .0 .0 .0 .1), ne-eqb _ _ ((c .match) .rest .0 .0 .0 .0 .0 .0 .0 .0 .0 .0 .1), ne-eqb _ _ ((c .match) .rest .0 .0 .0 .0 .0 .0 .0 .0 .0 .1), ne-eqb _ _ ((c .match) .rest .0 .0 .0 .0 .0 .0 .0 .0 .1), ne-eqb _ _ ((c .match) .rest .0 .0 .0 .0 .0 .0 .0 .1), ne-eqb _ _ ((c .match) .rest .0 .0 .0 .0 .0 .0 .1), ne-eqb _ _ ((c .match) .rest .0 .0 .0 .0 .0 .1), ne-eqb _ _ ((c .match) .rest .0 .0 .0 .0 .1), ne-eqb _ _ ((c .match) .rest .0 .0 .0 .1), ne-eqb _ _ ((c .match) .rest .0 .0 .1), ne-eqb _ _ ((c .match) .rest .0 .1), ne-eqb _ _ ((c .match) .rest .1))
+    simp (← (c .before .kind-at) .ensures, ne-eqb _ _ ((c .match) .rest .0 .0 .0 .0 .0 .0 .0 .0 .0 .0 .0 .0 .0 .0 .0 .0 .0 .0 .0 .0 .1), ne-eqb _ _ ((c .match) .rest .0 .0 .0 .0 .0 .0 .0 .0 .0 .0 .0 .0 .0 .0 .0 .0 .0 .0 .0 .1), ne-eqb _ _ ((c .match) .rest .0 .0 .0 .0 .0 .0 .0 .0 .0 .0 .0 .0 .0 .0 .0 .0 .0 .0 .1), ne-eqb _ _ ((c .match) .rest .0 .0 .0 .0 .0 .0 .0 .0 .0 .0 .0 .0 .0 .0 .0 .0 .0 .1), ne-eqb _ _ ((c .match) .rest .0 .0 .0 .0 .0 .0 .0 .0 .0 .0 .0 .0 .0 .0 .0 .0 .1), ne-eqb _ _ ((c .match) .rest .0 .0 .0 .0 .0 .0 .0 .0 .0 .0 .0 .0 .0 .0 .0 .1), ne-eqb _ _ ((c .match) .rest .0 .0 .0 .0 .0 .0 .0 .0 .0 .0 .0 .0 .0 .0 .1), ne-eqb _ _ ((c .match) .rest .0 .0 .0 .0 .0 .0 .0 .0 .0 .0 .0 .0 .0 .1), ne-eqb _ _ ((c .match) .rest .0 .0 .0 .0 .0 .0 .0 .0 .0 .0 .0 .0 .1), ne-eqb _ _ ((c .match) .rest .0 .0 .0 .0 .0 .0 .0 .0 .0 .0 .0 .1), ne-eqb _ _ ((c .match) .rest .0 .0 .0 .0 .0 .0 .0 .0 .0 .0 .1), ne-eqb _ _ ((c .match) .rest .0 .0 .0 .0 .0 .0 .0 .0 .0 .1), ne-eqb _ _ ((c .match) .rest .0 .0 .0 .0 .0 .0 .0 .0 .1), ne-eqb _ _ ((c .match) .rest .0 .0 .0 .0 .0 .0 .0 .1), ne-eqb _ _ ((c .match) .rest .0 .0 .0 .0 .0 .0 .1), ne-eqb _ _ ((c .match) .rest .0 .0 .0 .0 .0 .1), ne-eqb _ _ ((c .match) .rest .0 .0 .0 .0 .1), ne-eqb _ _ ((c .match) .rest .0 .0 .0 .1), ne-eqb _ _ ((c .match) .rest .0 .0 .1), ne-eqb _ _ ((c .match) .rest .0 .1), ne-eqb _ _ ((c .match) .rest .1))
 
 pub length-at-spec : {M : Type 1} → statement M
 length-at-spec =

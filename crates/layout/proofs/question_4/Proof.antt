@@ -1,21 +1,17 @@
-use Rattle.layout.proofs.Walk.{Along, ended, broken, Met, say-no, go-on, ends-inside, size-room}
-use Rattle.layout.proofs.Turns.{turn-next, turn-refused, missing-blocks, missing-instructions, none-missing}
+-- `layout::question_4`: as question 2, with what is due kept from record to record.
+use Prim.Native.Nat.{_-_}
 use Rattle.layout.proofs.Bools.{and-on, and-off}
+use Rattle.layout.proofs.Turns.{turn-next, turn-refused, missing-blocks, missing-instructions, none-missing}
+use Rattle.layout.proofs.Walk.{Along, ended, broken, say-no, go-on, ends-inside}
+use Rattle.layout.proofs.question_4.Statement.{statement}
+use Rattle.layout.proofs.question_4.Tie as tie
 use Rattle.layout.specs.Questions.{placed, dueAfter, noneDue, question4}
 use Rattle.layout.specs.Records.{records}
 use Rattle.layout.specs.Tests.{_and_}
-use mathlib.Core.Path.{refl, sym, _∙_}
 use borrow.Author.Needs.{needs}
-use native.Mathlib.Omega.{arith}
 use lib.ListN.{length}
-use Prim.Native.Nat.{_-_}
-use Rattle.layout.proofs.question_4.Statement.{statement}
-use Rattle.layout.proofs.question_4.Tie as tie
-use Rattle.layout.proofs.question_4.Reads as reads
-use Rattle.layout.proofs.question_4.Lts as lts
-use Rattle.layout.proofs.due_after.Reads as due-after-reads
-use Rattle.layout.proofs.in_bounds.Reads as in-bounds-reads
-use Rattle.layout.proofs.size_at.Reads as size-at-reads
+use mathlib.Core.Path.{refl, sym, _∙_}
+use native.Mathlib.Omega.{arith}
 
 abbrev Inv-loop : tie.InvT-loop
 Inv-loop image p₀ due₀ p due = Along placed dueAfter (noneDue (length image)) (question4 (length image) (records image)) image p due
@@ -23,82 +19,67 @@ Inv-loop image p₀ due₀ p due = Along placed dueAfter (noneDue (length image)
 abbrev μ-loop : tie.MeasureT-loop
 μ-loop image p₀ due₀ p due = length image - p
 
--- src/lib.rt:280:5
 loop-holds : tie.Need-loop-holds Inv-loop μ-loop
 unfolding question4
 loop-holds c =
-      record { inside = omega arith; left = refl }
+    record { inside = omega arith; left = refl }
 
--- src/lib.rt:281:13
 size-at-requires : tie.Need-size-at-requires Inv-loop μ-loop
 size-at-requires c κs =
-      search needs
+    search needs
 
--- src/lib.rt:283:13
 returns : tie.Need-returns Inv-loop μ-loop
 returns c =
-      broken ((c .before .before .before .loop) .inv) ((c .before .before .loop-test) .taken) ((c .before .size-at) .ensures) ((c .if1) .taken)
+    broken ((c .before .before .before .loop) .inv) ((c .before .before .loop-test) .taken) ((c .before .size-at) .ensures) ((c .if1) .taken)
 
--- src/lib.rt:285:12
 in-bounds-requires : tie.Need-in-bounds-requires Inv-loop μ-loop
 in-bounds-requires c κs =
-      search needs
+    search needs
 
--- src/lib.rt:286:19
 due-after-requires : tie.Need-due-after-requires Inv-loop μ-loop
 due-after-requires c κs =
-      search needs
+    search needs
 
--- src/lib.rt:287:28
 enum-known-next : tie.Need-enum-known-next Inv-loop μ-loop
 enum-known-next c =
-      search needs
+    search needs
 
--- src/lib.rt:289:21
 add-p : tie.Need-add-p Inv-loop μ-loop
 add-p c =
-      omega (arith, ends-inside (record { along = (c .before .before .before .before .before .before .before .before .before .loop) .inv; inside = (c .before .before .before .before .before .before .before .before .loop-test) .taken; size = (c .before .before .before .before .before .before .before .size-at) .ensures; whole = (c .before .before .before .before .before .before .if1) .left }))
+    omega (arith, ends-inside (record { along = (c .before .before .before .before .before .before .before .before .before .loop) .inv; inside = (c .before .before .before .before .before .before .before .before .loop-test) .taken; size = (c .before .before .before .before .before .before .before .size-at) .ensures; whole = (c .before .before .before .before .before .before .if1) .left }))
 
--- src/lib.rt:280:5
 loop-less : tie.Need-loop-less Inv-loop μ-loop
 loop-less c =
-      omega (arith, (c .before .before .before .before .before .before .if1) .left, (c .before .before .before .before .before .before .before .before .loop-test) .taken)
+    omega (arith, (c .before .before .before .before .before .before .if1) .left, (c .before .before .before .before .before .before .before .before .loop-test) .taken)
 
--- src/lib.rt:280:5
 loop-again : tie.Need-loop-again Inv-loop μ-loop
 loop-again c =
-      let t = turn-next _ _ _ (sym ((c .before .before .before .due-after) .ensures) ∙ (c .before .next) .given .1) in
-      go-on (record { along = (c .before .before .before .before .before .before .before .before .before .loop) .inv; inside = (c .before .before .before .before .before .before .before .before .loop-test) .taken; size = (c .before .before .before .before .before .before .before .size-at) .ensures; whole = (c .before .before .before .before .before .before .if1) .left }) _ (and-on _ (sym ((c .before .before .before .before .before .in-bounds) .ensures) ∙ (c .before .before .before .before .if2) .taken) ∙ t .0) (t .1)
+    let t = turn-next _ _ _ (sym ((c .before .before .before .due-after) .ensures) ∙ (c .before .next) .given .1) in
+    go-on (record { along = (c .before .before .before .before .before .before .before .before .before .loop) .inv; inside = (c .before .before .before .before .before .before .before .before .loop-test) .taken; size = (c .before .before .before .before .before .before .before .size-at) .ensures; whole = (c .before .before .before .before .before .before .if1) .left }) _ (and-on _ (sym ((c .before .before .before .before .before .in-bounds) .ensures) ∙ (c .before .before .before .before .if2) .taken) ∙ t .0) (t .1)
 
--- src/lib.rt:292:21
 enum-told : tie.Need-enum-told Inv-loop μ-loop
 enum-told c =
-      search needs
+    search needs
 
--- src/lib.rt:292:21
 returns-2 : tie.Need-returns-2 Inv-loop μ-loop
 returns-2 c =
-      say-no (record { along = (c .before .before .before .before .before .before .before .before .loop) .inv; inside = (c .before .before .before .before .before .before .before .loop-test) .taken; size = (c .before .before .before .before .before .before .size-at) .ensures; whole = (c .before .before .before .before .before .if1) .left }) (and-on _ (sym ((c .before .before .before .before .in-bounds) .ensures) ∙ (c .before .before .before .if2) .taken) ∙ turn-refused _ _ (sym ((c .before .before .due-after) .ensures) ∙ (c .enum-told) .given .1))
+    say-no (record { along = (c .before .before .before .before .before .before .before .before .loop) .inv; inside = (c .before .before .before .before .before .before .before .loop-test) .taken; size = (c .before .before .before .before .before .before .size-at) .ensures; whole = (c .before .before .before .before .before .if1) .left }) (and-on _ (sym ((c .before .before .before .before .in-bounds) .ensures) ∙ (c .before .before .before .if2) .taken) ∙ turn-refused _ _ (sym ((c .before .before .due-after) .ensures) ∙ (c .enum-told) .given .1))
 
--- src/lib.rt:296:13
 returns-3 : tie.Need-returns-3 Inv-loop μ-loop
 returns-3 c =
-      say-no (record { along = (c .before .before .before .before .before .loop) .inv; inside = (c .before .before .before .before .loop-test) .taken; size = (c .before .before .before .size-at) .ensures; whole = (c .before .before .if1) .left }) (and-off _ (sym ((c .before .in-bounds) .ensures) ∙ (c .if2) .left))
+    say-no (record { along = (c .before .before .before .before .before .loop) .inv; inside = (c .before .before .before .before .loop-test) .taken; size = (c .before .before .before .size-at) .ensures; whole = (c .before .before .if1) .left }) (and-off _ (sym ((c .before .in-bounds) .ensures) ∙ (c .if2) .left))
 
--- src/lib.rt:300:9
 returns-4 : tie.Need-returns-4 Inv-loop μ-loop
 returns-4 c =
-      missing-blocks _ _ ((c .if3) .taken) ∙ ended ((c .before .before .before .loop) .inv) ((c .before .before .loop-test) .left)
+    missing-blocks _ _ ((c .if3) .taken) ∙ ended ((c .before .before .before .loop) .inv) ((c .before .before .loop-test) .left)
 
--- src/lib.rt:303:9
 returns-5 : tie.Need-returns-5 Inv-loop μ-loop
 returns-5 c =
-      missing-instructions _ _ ((c .before .before .if3) .left) ((c .if4) .taken) ∙ ended ((c .before .before .before .before .before .loop) .inv) ((c .before .before .before .before .loop-test) .left)
+    missing-instructions _ _ ((c .before .before .if3) .left) ((c .if4) .taken) ∙ ended ((c .before .before .before .before .before .loop) .inv) ((c .before .before .before .before .loop-test) .left)
 
--- src/lib.rt:271:1
 returns-6 : tie.Need-returns-6 Inv-loop μ-loop
 returns-6 c =
-      none-missing _ _ ((c .before .before .if3) .left) ((c .if4) .left) ∙ ended ((c .before .before .before .before .before .loop) .inv) ((c .before .before .before .before .loop-test) .left)
+    none-missing _ _ ((c .before .before .if3) .left) ((c .if4) .left) ∙ ended ((c .before .before .before .before .before .loop) .inv) ((c .before .before .before .before .loop-test) .left)
 
 pub question-4-spec : {M : Type 1} → statement M
 question-4-spec =

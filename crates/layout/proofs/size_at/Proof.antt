@@ -1,80 +1,63 @@
+-- `layout::size_at`: each return is one case of the record's length.
 use Rattle.layout.proofs.Walk.{no-room, broken-length, no-end, whole-length}
-use mathlib.Core.Path.{sym}
-use denote.Ref.{now}
-use native.Mathlib.Omega.{arith}
-use borrow.Author.Needs.{needs}
 use Rattle.layout.proofs.size_at.Statement.{statement}
 use Rattle.layout.proofs.size_at.Tie as tie
-use Rattle.layout.proofs.size_at.Reads as reads
-use Rattle.layout.proofs.size_at.Lts as lts
-use Rattle.layout.proofs.wide.Reads as wide-reads
+use borrow.Author.Needs.{needs}
+use denote.Ref.{now}
+use mathlib.Core.Path.{sym}
+use native.Mathlib.Omega.{arith}
 
--- src/lib.rt:37:9
 returns : tie.Need-returns
 returns c =
-      sym (no-room _ _ (omega arith))
+    sym (no-room _ _ (omega arith))
 
--- src/lib.rt:39:16
 sub-room : tie.Need-sub-room
 sub-room c = search needs
 
--- src/lib.rt:41:9
 returns-2 : tie.Need-returns-2
 returns-2 c =
-      sym (no-room _ _ ((c .if2) .taken))
+    sym (no-room _ _ ((c .if2) .taken))
 
--- src/lib.rt:43:18
 shared-slice-read-wide : tie.Need-shared-slice-read-wide
 shared-slice-read-wide c = search needs
 
--- src/lib.rt:43:13
 wide-requires : tie.Need-wide-requires
 wide-requires c κs = search needs
 
--- src/lib.rt:43:47
 add-wide : tie.Need-add-wide
 add-wide c = search needs
 
--- src/lib.rt:43:41
 shared-slice-read-wide-2 : tie.Need-shared-slice-read-wide-2
 shared-slice-read-wide-2 c = search needs
 
--- src/lib.rt:43:36
 wide-requires-2 : tie.Need-wide-requires-2
 wide-requires-2 c κs = search needs
 
--- src/lib.rt:43:30
 mul-n : tie.Need-mul-n
 mul-n c = search needs
 
--- src/lib.rt:43:13
 add-n : tie.Need-add-n
 add-n c = search needs
 
--- src/lib.rt:45:9
 returns-3 : tie.Need-returns-3
 returns-3 c =
-      sym (broken-length _ _ (omega (arith, (c .before .before .before .wide) .ensures, (c .before .wide2) .ensures, (c .if3) .taken)))
+    sym (broken-length _ _ (omega (arith, (c .before .before .before .wide) .ensures, (c .before .wide2) .ensures, (c .if3) .taken)))
 
--- src/lib.rt:47:16
 add-last-byte : tie.Need-add-last-byte
 add-last-byte c = search needs
 
--- src/lib.rt:47:16
 sub-last-byte : tie.Need-sub-last-byte
 sub-last-byte c = search needs
 
--- src/lib.rt:49:9
 returns-4 : tie.Need-returns-4
 returns-4 c =
-      sym (no-end _ _ (omega (arith, (c .before .before .before .before .wide) .ensures, (c .before .before .wide2) .ensures, (c .before .before .before .before .before .before .before .if1) .left, (c .before .if3) .left, (c .if4) .taken)))
+    sym (no-end _ _ (omega (arith, (c .before .before .before .before .wide) .ensures, (c .before .before .wide2) .ensures, (c .before .before .before .before .before .before .before .if1) .left, (c .before .if3) .left, (c .if4) .taken)))
 
--- src/lib.rt:33:1
 returns-5 : tie.Need-returns-5
 returns-5 c =
-      let s = now ((c .before .before .before .before .before .before .before .before .before) .args .image) in
-      let p = (c .before .before .before .before .before .before .before .before .before) .args .p in
-      omega (arith, (c .before .before .before .before .wide) .ensures, (c .before .before .wide2) .ensures, whole-length s p ((c .before .before .before .before .before .before .if2) .left) (omega (arith, (c .before .before .before .before .wide) .ensures, (c .before .before .wide2) .ensures, (c .before .if3) .left)) (omega (arith, (c .before .before .before .before .wide) .ensures, (c .before .before .wide2) .ensures, (c .before .if3) .left, (c .if4) .left)))
+    let s = now ((c .before .before .before .before .before .before .before .before .before) .args .image) in
+    let p = (c .before .before .before .before .before .before .before .before .before) .args .p in
+    omega (arith, (c .before .before .before .before .wide) .ensures, (c .before .before .wide2) .ensures, whole-length s p ((c .before .before .before .before .before .before .if2) .left) (omega (arith, (c .before .before .before .before .wide) .ensures, (c .before .before .wide2) .ensures, (c .before .if3) .left)) (omega (arith, (c .before .before .before .before .wide) .ensures, (c .before .before .wide2) .ensures, (c .before .if3) .left, (c .if4) .left)))
 
 pub size-at-spec : {M : Type 1} → statement M
 size-at-spec =

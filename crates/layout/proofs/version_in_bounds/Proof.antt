@@ -1,81 +1,66 @@
-use Rattle.layout.specs.Questions.{numbered}
-use Rattle.layout.specs.Tests.{_and_}
-use native.Mathlib.Omega.{arith}
-use borrow.Author.Tests.{lt-ltb, le-ltb, lt-leb, le-leb}
-use borrow.Author.Needs.{needs}
+-- `layout::version_in_bounds`: one test after the other.
 use Rattle.layout.proofs.version_in_bounds.Statement.{statement}
 use Rattle.layout.proofs.version_in_bounds.Tie as tie
-use Rattle.layout.proofs.version_in_bounds.Reads as reads
-use Rattle.layout.proofs.version_in_bounds.Lts as lts
-use Rattle.layout.proofs.field.Reads as field-reads
+use Rattle.layout.specs.Questions.{numbered}
+use Rattle.layout.specs.Tests.{_and_}
+use borrow.Author.Needs.{needs}
+use borrow.Author.Tests.{lt-ltb, le-ltb, lt-leb, le-leb}
+use native.Mathlib.Omega.{arith}
 
--- src/lib.rt:166:29
 field-requires : tie.Need-field-requires
 field-requires c κs = search needs
 
--- src/lib.rt:167:9
 returns : tie.Need-returns
 unfolding numbered _and_
 returns c =
-      simp (← (c .before .field) .ensures .0, le-ltb _ _ ((c .if1) .taken))
+    simp (← (c .before .field) .ensures .0, le-ltb _ _ ((c .if1) .taken))
 
--- src/lib.rt:169:28
 field-requires-2 : tie.Need-field-requires-2
 field-requires-2 c κs = search needs
 
--- src/lib.rt:170:9
 returns-2 : tie.Need-returns-2
 unfolding numbered _and_
 returns-2 c =
-      simp (← (c .before .before .before .field) .ensures .0, lt-ltb _ _ ((c .before .before .if1) .left), ← (c .before .field2) .ensures .0, le-ltb _ _ ((c .if2) .taken))
+    simp (← (c .before .before .before .field) .ensures .0, lt-ltb _ _ ((c .before .before .if1) .left), ← (c .before .field2) .ensures .0, le-ltb _ _ ((c .if2) .taken))
 
--- src/lib.rt:172:9
 field-requires-3 : tie.Need-field-requires-3
 field-requires-3 c κs = search needs
 
--- src/lib.rt:173:9
 field-requires-4 : tie.Need-field-requires-4
 field-requires-4 c κs = search needs
 
--- src/lib.rt:175:9
 returns-3 : tie.Need-returns-3
 unfolding numbered _and_
 returns-3 c =
-      simp (← (c .before .before .before .before .before .before .field) .ensures .0, ← (c .before .before .before .before .field2) .ensures .0, ← (c .before .before .field3) .ensures .0, ← (c .before .field4) .ensures .0, lt-ltb _ _ ((c .before .before .before .before .before .if1) .left), lt-ltb _ _ ((c .before .before .before .if2) .left), lt-leb _ _ ((c .if3) .taken))
+    simp (← (c .before .before .before .before .before .before .field) .ensures .0, ← (c .before .before .before .before .field2) .ensures .0, ← (c .before .before .field3) .ensures .0, ← (c .before .field4) .ensures .0, lt-ltb _ _ ((c .before .before .before .before .before .if1) .left), lt-ltb _ _ ((c .before .before .before .if2) .left), lt-leb _ _ ((c .if3) .taken))
 
--- src/lib.rt:178:9
 returns-4 : tie.Need-returns-4
 unfolding numbered _and_
 returns-4 c =
-      simp (← (c .before .before .before .before .before .before .before .field) .ensures .0, ← (c .before .before .before .before .before .field2) .ensures .0, ← (c .before .before .before .field3) .ensures .0, ← (c .before .before .field4) .ensures .0, lt-ltb _ _ ((c .before .before .before .before .before .before .if1) .left), lt-ltb _ _ ((c .before .before .before .before .if2) .left), le-leb _ _ ((c .before .if3) .left), lt-leb _ _ ((c .if4) .taken))
+    simp (← (c .before .before .before .before .before .before .before .field) .ensures .0, ← (c .before .before .before .before .before .field2) .ensures .0, ← (c .before .before .before .field3) .ensures .0, ← (c .before .before .field4) .ensures .0, lt-ltb _ _ ((c .before .before .before .before .before .before .if1) .left), lt-ltb _ _ ((c .before .before .before .before .if2) .left), le-leb _ _ ((c .before .if3) .left), lt-leb _ _ ((c .if4) .taken))
 
--- src/lib.rt:181:9
 returns-5 : tie.Need-returns-5
 unfolding numbered _and_
 returns-5 c =
-      simp (← (c .before .before .before .before .before .before .before .before .field) .ensures .0, ← (c .before .before .before .before .before .before .field2) .ensures .0, ← (c .before .before .before .before .field3) .ensures .0, ← (c .before .before .before .field4) .ensures .0, lt-ltb _ _ ((c .before .before .before .before .before .before .before .if1) .left), lt-ltb _ _ ((c .before .before .before .before .before .if2) .left), le-leb _ _ ((c .before .before .if3) .left), le-leb _ _ ((c .before .if4) .left), le-ltb 0 ((c .before .before .before .field4) .result) (omega (arith, (c .if5) .taken)))
+    simp (← (c .before .before .before .before .before .before .before .before .field) .ensures .0, ← (c .before .before .before .before .before .before .field2) .ensures .0, ← (c .before .before .before .before .field3) .ensures .0, ← (c .before .before .before .field4) .ensures .0, lt-ltb _ _ ((c .before .before .before .before .before .before .before .if1) .left), lt-ltb _ _ ((c .before .before .before .before .before .if2) .left), le-leb _ _ ((c .before .before .if3) .left), le-leb _ _ ((c .before .if4) .left), le-ltb 0 ((c .before .before .before .field4) .result) (omega (arith, (c .if5) .taken)))
 
--- src/lib.rt:184:9
 returns-6 : tie.Need-returns-6
 unfolding numbered _and_
 returns-6 c =
-      simp (← (c .before .before .before .before .before .before .before .before .before .field) .ensures .0, ← (c .before .before .before .before .before .before .before .field2) .ensures .0, ← (c .before .before .before .before .before .field3) .ensures .0, ← (c .before .before .before .before .field4) .ensures .0, lt-ltb _ _ ((c .before .before .before .before .before .before .before .before .if1) .left), lt-ltb _ _ ((c .before .before .before .before .before .before .if2) .left), le-leb _ _ ((c .before .before .before .if3) .left), le-leb _ _ ((c .before .before .if4) .left), lt-ltb 0 ((c .before .before .before .before .field4) .result) (omega (arith, (c .before .if5) .left)), lt-leb _ _ ((c .if6) .taken))
+    simp (← (c .before .before .before .before .before .before .before .before .before .field) .ensures .0, ← (c .before .before .before .before .before .before .before .field2) .ensures .0, ← (c .before .before .before .before .before .field3) .ensures .0, ← (c .before .before .before .before .field4) .ensures .0, lt-ltb _ _ ((c .before .before .before .before .before .before .before .before .if1) .left), lt-ltb _ _ ((c .before .before .before .before .before .before .if2) .left), le-leb _ _ ((c .before .before .before .if3) .left), le-leb _ _ ((c .before .before .if4) .left), lt-ltb 0 ((c .before .before .before .before .field4) .result) (omega (arith, (c .before .if5) .left)), lt-leb _ _ ((c .if6) .taken))
 
--- src/lib.rt:186:9
 field-requires-5 : tie.Need-field-requires-5
 field-requires-5 c κs = search needs
 
--- src/lib.rt:188:9
 returns-7 : tie.Need-returns-7
 unfolding numbered _and_
 returns-7 c =
-      simp (← (c .before .before .before .before .before .before .before .before .before .before .before .field) .ensures .0, ← (c .before .before .before .before .before .before .before .before .before .field2) .ensures .0, ← (c .before .before .before .before .before .before .before .field3) .ensures .0, ← (c .before .before .before .before .before .before .field4) .ensures .0, ← (c .before .field5) .ensures .0, lt-ltb _ _ ((c .before .before .before .before .before .before .before .before .before .before .if1) .left), lt-ltb _ _ ((c .before .before .before .before .before .before .before .before .if2) .left), le-leb _ _ ((c .before .before .before .before .before .if3) .left), le-leb _ _ ((c .before .before .before .before .if4) .left), lt-ltb 0 ((c .before .before .before .before .before .before .field4) .result) (omega (arith, (c .before .before .before .if5) .left)), le-leb _ _ ((c .before .before .if6) .left), le-ltb 0 ((c .before .field5) .result) (omega (arith, (c .if7) .taken)))
+    simp (← (c .before .before .before .before .before .before .before .before .before .before .before .field) .ensures .0, ← (c .before .before .before .before .before .before .before .before .before .field2) .ensures .0, ← (c .before .before .before .before .before .before .before .field3) .ensures .0, ← (c .before .before .before .before .before .before .field4) .ensures .0, ← (c .before .field5) .ensures .0, lt-ltb _ _ ((c .before .before .before .before .before .before .before .before .before .before .if1) .left), lt-ltb _ _ ((c .before .before .before .before .before .before .before .before .if2) .left), le-leb _ _ ((c .before .before .before .before .before .if3) .left), le-leb _ _ ((c .before .before .before .before .if4) .left), lt-ltb 0 ((c .before .before .before .before .before .before .field4) .result) (omega (arith, (c .before .before .before .if5) .left)), le-leb _ _ ((c .before .before .if6) .left), le-ltb 0 ((c .before .field5) .result) (omega (arith, (c .if7) .taken)))
 
--- src/lib.rt:163:1
 returns-8 : tie.Need-returns-8
 unfolding numbered _and_
 returns-8 c =
-      simp (← (c .before .before .before .before .before .before .before .before .before .before .before .field) .ensures .0, ← (c .before .before .before .before .before .before .before .before .before .field2) .ensures .0, ← (c .before .before .before .before .before .before .before .field3) .ensures .0, ← (c .before .before .before .before .before .before .field4) .ensures .0, ← (c .before .field5) .ensures .0, lt-ltb _ _ ((c .before .before .before .before .before .before .before .before .before .before .if1) .left), lt-ltb _ _ ((c .before .before .before .before .before .before .before .before .if2) .left), le-leb _ _ ((c .before .before .before .before .before .if3) .left), le-leb _ _ ((c .before .before .before .before .if4) .left), lt-ltb 0 ((c .before .before .before .before .before .before .field4) .result) (omega (arith, (c .before .before .before .if5) .left)), le-leb _ _ ((c .before .before .if6) .left), lt-ltb 0 ((c .before .field5) .result) (omega (arith, (c .if7) .left)))
+    simp (← (c .before .before .before .before .before .before .before .before .before .before .before .field) .ensures .0, ← (c .before .before .before .before .before .before .before .before .before .field2) .ensures .0, ← (c .before .before .before .before .before .before .before .field3) .ensures .0, ← (c .before .before .before .before .before .before .field4) .ensures .0, ← (c .before .field5) .ensures .0, lt-ltb _ _ ((c .before .before .before .before .before .before .before .before .before .before .if1) .left), lt-ltb _ _ ((c .before .before .before .before .before .before .before .before .if2) .left), le-leb _ _ ((c .before .before .before .before .before .if3) .left), le-leb _ _ ((c .before .before .before .before .if4) .left), lt-ltb 0 ((c .before .before .before .before .before .before .field4) .result) (omega (arith, (c .before .before .before .if5) .left)), le-leb _ _ ((c .before .before .if6) .left), lt-ltb 0 ((c .before .field5) .result) (omega (arith, (c .if7) .left)))
 
 pub version-in-bounds-spec : {M : Type 1} → statement M
 version-in-bounds-spec =

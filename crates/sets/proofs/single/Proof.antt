@@ -1,31 +1,26 @@
-use Rattle.sets.specs.Sets.{setOf}
-use native.Mathlib.Nat.{one-mul, mod-eq-of-lt}
-use lib.Pow.{pow-lt}
-use mathlib.Core.Path.{sym, ap, _∙_}
+-- `sets::single`: 1 shifted by r has the digit r alone.
 use Rattle.sets.proofs.Masks.{set-single, set-empty, only-outside}
-use borrow.Author.Needs.{needs}
 use Rattle.sets.proofs.single.Statement.{statement}
 use Rattle.sets.proofs.single.Tie as tie
-use Rattle.sets.proofs.single.Reads as reads
-use Rattle.sets.proofs.single.Lts as lts
+use Rattle.sets.specs.Sets.{setOf}
+use borrow.Author.Needs.{needs}
+use lib.Pow.{pow-lt}
+use mathlib.Core.Path.{sym, ap, _∙_}
+use native.Mathlib.Nat.{one-mul, mod-eq-of-lt}
 
--- src/lib.rt:40:32
 cast-result : tie.Need-cast-result
 cast-result c = search needs
 
--- src/lib.rt:40:24
 shl-result : tie.Need-shl-result
 shl-result c = search needs
 
--- src/lib.rt:37:1
 returns : tie.Need-returns
 returns c =
-      simp one-mul (ap (setOf 16) (mod-eq-of-lt (pow-lt ((c .if1) .taken))) ∙ set-single 16 _ ((c .if1) .taken))
+    simp one-mul (ap (setOf 16) (mod-eq-of-lt (pow-lt ((c .if1) .taken))) ∙ set-single 16 _ ((c .if1) .taken))
 
--- src/lib.rt:37:1
 returns-2 : tie.Need-returns-2
 returns-2 c =
-      set-empty 16 ∙ sym (only-outside 16 _ ((c .if1) .left))
+    set-empty 16 ∙ sym (only-outside 16 _ ((c .if1) .left))
 
 pub single-spec : {M : Type 1} → statement M
 single-spec = tie.close (tie.spec cast-result shl-result returns returns-2)

@@ -27,9 +27,12 @@ pub fn question7(program: &Program) -> Result<(), usize> {
 
 /// How many PROM records of the version name the block.
 fn proms_naming(version: &Version, number: usize) -> usize {
-    let names_it = |instruction: &Instruction| matches!(*instruction, Instruction::Prom { block, .. } if usize::from(block) == number);
     let instructions = version.blocks.iter().flat_map(|b| &b.instructions);
-    instructions.filter(|placed| names_it(&placed.item)).count()
+    let named = instructions.filter_map(|placed| match placed.item {
+        Instruction::Prom { block, .. } => Some(usize::from(block)),
+        _ => None,
+    });
+    named.filter(|&block| block == number).count()
 }
 
 /// Does all that the instruction names exist, as seen from block `own` of the version?

@@ -108,6 +108,13 @@ fn question10_register_captured_by_a_nested_block_is_not_emptied() {
 }
 
 #[test]
+fn question10_register_captured_by_assigning_in_a_nested_block_is_not_emptied() {
+    let nested = "block 1 quiet -> r2\nr7 = prom 2\nblock 2 quiet -> r2\nr0 = vec []";
+    fails(&format!("r6 = prom 1\nr4 = use r0\n{nested}"));
+    flows(&format!("r6 = prom 1\nr4 = use r1\n{nested}"));
+}
+
+#[test]
 fn question10_captured_register_may_be_read_and_assigned() {
     let block = "block 1 quiet -> r5\nr5 = len r0";
     flows(&format!("r6 = prom 1\nr0 = vec []\nr8 = len r0\n{block}"));

@@ -125,6 +125,14 @@ fn question4_n_9_is_out_of_bounds_though_the_length_fits() {
 
 #[test]
 fn question4_n_8_is_in_bounds() {
+    let parameters: Vec<String> = (0..8).map(|r| format!("r{r}: int")).collect();
+    let parameters = parameters.join(", ");
+    let body =
+        |call: &str| format!("version 0.0({parameters}) -> int\nblock 0 quiet -> r0\n{call}");
+    accepts(&body("r0 = call 0.0(r0, r1, r2, r3, r4, r5, r6, r7)"));
+    accepts(&body(&format!(
+        "r0 = dispatch 0({parameters}) -> int quiet"
+    )));
     let eight = ["r0"; 8].join(", ");
     accepts(&format!(
         "version 0.0(r0: int) -> vector

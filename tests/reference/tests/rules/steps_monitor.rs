@@ -89,6 +89,29 @@ fn monitor_allows_borrowed_registers_only_of_calls_above() {
 }
 
 #[test]
+fn monitor_sees_an_owned_vector_in_a_borrowed_register_of_its_own_or_an_older_call() {
+    let text = "version 0.0(r0: own vector, r1: borrow vector) -> int
+                  registers r2: int
+                  block 0 quiet -> r2
+                    r2 = call 1.0(r0)
+                version 1.0(r0: own vector) -> int
+                  registers r1: int
+                  block 0 quiet -> r1
+                    r1 = lit 1";
+    let mut run = Run::begin(text, &[0, 0]);
+    run.state.frames[0].registers[1] = Some(Value::Vector(0));
+    let (call, register) = (0, 0);
+    let found = check_state(&run.program, &run.state);
+    assert_eq!(found, Err(Breach::Shared { call, register }));
+    let mut run = Run::begin(text, &[0, 0]);
+    run.steps(1);
+    run.state.frames[0].registers[1] = Some(Value::Vector(0));
+    let (call, register) = (1, 0);
+    let found = check_state(&run.program, &run.state);
+    assert_eq!(found, Err(Breach::Shared { call, register }));
+}
+
+#[test]
 fn monitor_sees_a_stuck_step() {
     let run = borrowing();
     let found = check_step(&run.program, &run.state, Said::Stuck);

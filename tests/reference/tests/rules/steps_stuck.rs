@@ -203,6 +203,19 @@ fn stuck_on_a_frame_of_a_version_that_does_not_exist() {
 }
 
 #[test]
+fn stuck_on_an_older_frame_of_a_version_that_does_not_exist() {
+    let text = "version 0.0(r0: int) -> int
+                  block 0 quiet -> r0
+                    r0 = call 0.1(r0)
+                version 0.1(r0: int) -> int
+                  block 0 quiet -> r0";
+    let mut run = Run::begin(text, &[-1, 5]);
+    run.steps(1);
+    stuck(&run, |state| state.frames[0].version = 2);
+    stuck(&run, |state| state.frames[1].version = 2);
+}
+
+#[test]
 fn stuck_without_an_activation() {
     stuck(&at_set(), |state| {
         state.activations.clear();

@@ -155,6 +155,31 @@ fn owned_return_may_become_shared() {
 }
 
 #[test]
+fn tidied_state_keeps_what_is_referred_to_and_nothing_else() {
+    let text = "version 0.0(r0: vector) -> int
+                  registers r1: any, r2: int
+                  block 0 quiet -> r2
+                    r1 = vec []
+                    r1 = prom 1
+                    r0 = vec []
+                    r1 = prom 2
+                    r2 = lit 1
+                  block 1 quiet -> r2
+                    r2 = lit 2
+                  block 2 quiet -> r2
+                    r2 = lit 3";
+    let mut run = Run::begin(text, &[1, 5]);
+    run.steps(4);
+    assert_eq!(run.register(0, 0), Some(Value::Vector(1)));
+    assert_eq!(run.register(0, 1), Some(Value::Promise(1)));
+    let tidied = run.state.clone().tidied();
+    assert_eq!(tidied.frames, run.state.frames);
+    assert_eq!(tidied.vectors[..2], [None, Some(vec![])]);
+    assert_eq!(tidied.promises[0], None);
+    assert_eq!(tidied.promises[1], run.state.promises[1]);
+}
+
+#[test]
 fn new_vector_takes_the_lowest_place_that_nothing_refers_to() {
     let text = "version 0.0(r0: vector, r1: vector) -> int
                   registers r2: vector, r3: int

@@ -1,6 +1,6 @@
 //! "Values and types".
 
-use reference::{Kind, Mark, Type};
+use reference::{Kind, Mark, Ownership, Type};
 
 /// The numbers of all bytes that pass.
 fn bytes_that(pass: impl Fn(Type) -> bool) -> Vec<u8> {
@@ -33,6 +33,18 @@ fn registers_take_each_kind_shared_and_owned_vectors() {
 fn returns_take_kinds_1_2_and_3_shared_and_owned_vectors() {
     let allowed = bytes_that(Type::allowed_on_return);
     assert_eq!(allowed, [1, 2, 3, 0x13]);
+}
+
+#[test]
+fn type_byte_is_kind_and_16_times_ownership() {
+    assert_eq!(Kind::ALL, [0, 1, 2, 3, 4, 5].map(Kind));
+    let shared = Kind::ALL.map(Type::shared);
+    assert_eq!(shared, [0, 1, 2, 3, 4, 5].map(Type));
+    let named = [Type::ANY, Type::VALUE, Type::INTEGER, Type::VECTOR];
+    assert_eq!(named, [0, 1, 2, 3].map(Type));
+    assert_eq!([Type::OWNED, Type::BORROWED], [0x13, 0x23].map(Type));
+    let byte = Type(0x25);
+    assert_eq!((byte.kind(), byte.ownership()), (Kind(5), Ownership(2)));
 }
 
 #[test]

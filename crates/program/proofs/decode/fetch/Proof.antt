@@ -1,80 +1,61 @@
+-- `program::decode::fetch`: what stands at a place that was found is what was looked up.
 use Rattle.program.proofs.Lookups.{version-found, version-missing, block-found, block-missing, line-found, line-missing}
-use Rattle.program.specs.Places.{instrAt}
-use Rattle.program.specs.Shapes.{fetchOf, fetchedOf, fetchedIn, fetchedLine}
-use mathlib.Core.Path.{sym, _∙_, ap}
-use borrow.Author.Needs.{needs}
 use Rattle.program.proofs.decode.fetch.Statement.{statement}
 use Rattle.program.proofs.decode.fetch.Tie as tie
-use Rattle.program.proofs.decode.fetch.Reads as reads
-use Rattle.program.proofs.decode.fetch.Lts as lts
-use Rattle.program.proofs.decode.decode.Reads as decode-reads
-use Rattle.program.proofs.lookup.block.Reads as block-reads
-use Rattle.program.proofs.lookup.line.Reads as line-reads
-use Rattle.program.proofs.lookup.version.Reads as version-reads
+use Rattle.program.specs.Places.{instrAt}
+use Rattle.program.specs.Shapes.{fetchOf, fetchedOf, fetchedIn, fetchedLine}
+use borrow.Author.Needs.{needs}
+use mathlib.Core.Path.{sym, _∙_}
 
--- src/decode.rt:143:24
 version-requires : tie.Need-version-requires
 version-requires c κs = search needs
 
--- src/decode.rt:143:19
 enum-known-v : tie.Need-enum-known-v
 enum-known-v c = search needs
 
--- src/decode.rt:144:9
 enum-told : tie.Need-enum-told
 enum-told c = search needs
 
--- src/decode.rt:144:9
 returns : tie.Need-returns
 unfolding fetchOf fetchedOf
 returns c =
-      simp (version-missing _ _ _ (sym ((c .before .before .version) .ensures) ∙ (c .enum-told) .given .1))
+    simp (version-missing _ _ _ (sym ((c .before .before .version) .ensures) ∙ (c .enum-told) .given .1))
 
--- src/decode.rt:146:24
 block-requires : tie.Need-block-requires
 block-requires c κs = search needs
 
--- src/decode.rt:146:19
 enum-known-q : tie.Need-enum-known-q
 enum-known-q c = search needs
 
--- src/decode.rt:147:9
 enum-told-2 : tie.Need-enum-told-2
 enum-told-2 c = search needs
 
--- src/decode.rt:147:9
 returns-2 : tie.Need-returns-2
 unfolding fetchOf fetchedOf fetchedIn
 returns-2 c =
-      simp (version-found _ _ _ _ (sym ((c .before .before .before .before .before .before .version) .ensures) ∙ (c .before .before .before .before .v) .given .1) .0, block-missing _ _ _ (sym ((c .before .before .block) .ensures) ∙ (c .enum-told2) .given .1))
+    simp (version-found _ _ _ _ (sym ((c .before .before .before .before .before .before .version) .ensures) ∙ (c .before .before .before .before .v) .given .1) .0, block-missing _ _ _ (sym ((c .before .before .block) .ensures) ∙ (c .enum-told2) .given .1))
 
--- src/decode.rt:149:24
 line-requires : tie.Need-line-requires
 line-requires c κs = search needs
 
--- src/decode.rt:149:19
 enum-known-p : tie.Need-enum-known-p
 enum-known-p c = search needs
 
--- src/decode.rt:150:9
 enum-told-3 : tie.Need-enum-told-3
 enum-told-3 c = search needs
 
--- src/decode.rt:150:9
 returns-3 : tie.Need-returns-3
 unfolding fetchOf fetchedOf fetchedIn fetchedLine
 returns-3 c =
-      simp (version-found _ _ _ _ (sym ((c .before .before .before .before .before .before .before .before .before .before .version) .ensures) ∙ (c .before .before .before .before .before .before .before .before .v) .given .1) .0, block-found _ _ _ _ (sym ((c .before .before .before .before .before .before .block) .ensures) ∙ (c .before .before .before .before .q) .given .1), line-missing _ _ _ (sym ((c .before .before .line) .ensures) ∙ (c .enum-told3) .given .1))
+    simp (version-found _ _ _ _ (sym ((c .before .before .before .before .before .before .before .before .before .before .version) .ensures) ∙ (c .before .before .before .before .before .before .before .before .v) .given .1) .0, block-found _ _ _ _ (sym ((c .before .before .before .before .before .before .block) .ensures) ∙ (c .before .before .before .before .q) .given .1), line-missing _ _ _ (sym ((c .before .before .line) .ensures) ∙ (c .enum-told3) .given .1))
 
--- src/decode.rt:152:22
 decode-requires : tie.Need-decode-requires
 decode-requires c κs = search needs
 
--- src/decode.rt:140:1
 returns-4 : tie.Need-returns-4
 unfolding fetchOf fetchedOf fetchedIn fetchedLine instrAt
 returns-4 c =
-      simp (version-found _ _ _ _ (sym ((c .before .before .before .before .before .before .before .before .before .before .before .before .version) .ensures) ∙ (c .before .before .before .before .before .before .before .before .before .before .v) .given .1) .0, block-found _ _ _ _ (sym ((c .before .before .before .before .before .before .before .before .block) .ensures) ∙ (c .before .before .before .before .before .before .q) .given .1), line-found _ _ _ _ (sym ((c .before .before .before .before .line) .ensures) ∙ (c .before .before .p) .given .1), (c .decode) .ensures)
+    simp (version-found _ _ _ _ (sym ((c .before .before .before .before .before .before .before .before .before .before .before .before .version) .ensures) ∙ (c .before .before .before .before .before .before .before .before .before .before .v) .given .1) .0, block-found _ _ _ _ (sym ((c .before .before .before .before .before .before .before .before .block) .ensures) ∙ (c .before .before .before .before .before .before .q) .given .1), line-found _ _ _ _ (sym ((c .before .before .before .before .line) .ensures) ∙ (c .before .before .p) .given .1), (c .decode) .ensures)
 
 pub fetch-spec : {M : Type 1} → statement M
 fetch-spec =

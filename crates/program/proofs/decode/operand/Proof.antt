@@ -1,93 +1,72 @@
-use Rattle.program.proofs.Forms.{operand-vec, operand-call, operand-dispatch, no-operand, type-dispatch, no-type}
+-- `program::decode::operand`: by the kind of the record.
 use Rattle.layout.proofs.Fields.{every-at, every-past, fields-at}
-use mathlib.Core.Path.{sym, _∙_}
-use native.Mathlib.Omega.{arith}
-use borrow.Author.Needs.{needs}
+use Rattle.program.proofs.Forms.{operand-vec, operand-call, operand-dispatch, no-operand}
 use Rattle.program.proofs.decode.operand.Statement.{statement}
 use Rattle.program.proofs.decode.operand.Tie as tie
-use Rattle.program.proofs.decode.operand.Reads as reads
-use Rattle.program.proofs.decode.operand.Lts as lts
-use Rattle.layout.proofs.field.Reads as field-reads
-use Rattle.layout.proofs.kind_at.Reads as kind-at-reads
+use borrow.Author.Needs.{needs}
+use mathlib.Core.Path.{sym, _∙_}
+use native.Mathlib.Omega.{arith}
 
--- src/decode.rt:143:11
 kind-at-requires : tie.Need-kind-at-requires
 kind-at-requires c κs = search needs
 
--- src/decode.rt:145:20
 field-requires : tie.Need-field-requires
 field-requires c κs = search needs
 
--- src/decode.rt:145:73
 add-field : tie.Need-add-field
 add-field c = search needs
 
--- src/decode.rt:145:49
 field-requires-2 : tie.Need-field-requires-2
 field-requires-2 c κs = search needs
 
--- src/decode.rt:148:20
 field-requires-3 : tie.Need-field-requires-3
 field-requires-3 c κs = search needs
 
--- src/decode.rt:148:73
 add-field-2 : tie.Need-add-field-2
 add-field-2 c = search needs
 
--- src/decode.rt:148:49
 field-requires-4 : tie.Need-field-requires-4
 field-requires-4 c κs = search needs
 
--- src/decode.rt:151:20
 field-requires-5 : tie.Need-field-requires-5
 field-requires-5 c κs = search needs
 
--- src/decode.rt:151:77
 mul-field : tie.Need-mul-field
 mul-field c = search needs
 
--- src/decode.rt:151:73
 add-field-3 : tie.Need-add-field-3
 add-field-3 c = search needs
 
--- src/decode.rt:151:49
 field-requires-6 : tie.Need-field-requires-6
 field-requires-6 c κs = search needs
 
--- src/decode.rt:140:1
 returns : tie.Need-returns
 returns c =
-      ((c .field2) .ensures .0 ∙ sym (operand-vec _ _ _ ((c .before .before .before .before .kind-at) .ensures) ((c .before .before .before .match) .keys1) ∙ fields-at _ 2 _ _ (omega (arith, (c .before .before .field) .ensures .0, (c .before .if1) .taken))), (c .field2) .ensures .1)
+    ((c .field2) .ensures .0 ∙ sym (operand-vec _ _ _ ((c .before .before .before .before .kind-at) .ensures) ((c .before .before .before .match) .keys1) ∙ fields-at _ 2 _ _ (omega (arith, (c .before .before .field) .ensures .0, (c .before .if1) .taken))), (c .field2) .ensures .1)
 
--- src/decode.rt:140:1
 returns-2 : tie.Need-returns-2
 returns-2 c =
-      (sym (operand-vec _ _ _ ((c .before .before .before .kind-at) .ensures) ((c .before .before .match) .keys1) ∙ every-past _ 2 1 _ _ (omega (arith, (c .before .field) .ensures .0, (c .if1) .left))), omega arith)
+    (sym (operand-vec _ _ _ ((c .before .before .before .kind-at) .ensures) ((c .before .before .match) .keys1) ∙ every-past _ 2 1 _ _ (omega (arith, (c .before .field) .ensures .0, (c .if1) .left))), omega arith)
 
--- src/decode.rt:140:1
 returns-3 : tie.Need-returns-3
 returns-3 c =
-      ((c .field4) .ensures .0 ∙ sym (operand-call _ _ _ ((c .before .before .before .before .kind-at) .ensures) ((c .before .before .before .match) .keys2) ∙ fields-at _ 4 _ _ (omega (arith, (c .before .before .field3) .ensures .0, (c .before .if2) .taken))), (c .field4) .ensures .1)
+    ((c .field4) .ensures .0 ∙ sym (operand-call _ _ _ ((c .before .before .before .before .kind-at) .ensures) ((c .before .before .before .match) .keys2) ∙ fields-at _ 4 _ _ (omega (arith, (c .before .before .field3) .ensures .0, (c .before .if2) .taken))), (c .field4) .ensures .1)
 
--- src/decode.rt:140:1
 returns-4 : tie.Need-returns-4
 returns-4 c =
-      (sym (operand-call _ _ _ ((c .before .before .before .kind-at) .ensures) ((c .before .before .match) .keys2) ∙ every-past _ 4 1 _ _ (omega (arith, (c .before .field3) .ensures .0, (c .if2) .left))), omega arith)
+    (sym (operand-call _ _ _ ((c .before .before .before .kind-at) .ensures) ((c .before .before .match) .keys2) ∙ every-past _ 4 1 _ _ (omega (arith, (c .before .field3) .ensures .0, (c .if2) .left))), omega arith)
 
--- src/decode.rt:140:1
 returns-5 : tie.Need-returns-5
 returns-5 c =
-      ((c .field6) .ensures .0 ∙ sym (operand-dispatch _ _ _ ((c .before .before .before .before .kind-at) .ensures) ((c .before .before .before .match) .keys3) ∙ every-at _ 6 2 _ _ (omega (arith, (c .before .before .field5) .ensures .0, (c .before .if3) .taken))), (c .field6) .ensures .1)
+    ((c .field6) .ensures .0 ∙ sym (operand-dispatch _ _ _ ((c .before .before .before .before .kind-at) .ensures) ((c .before .before .before .match) .keys3) ∙ every-at _ 6 2 _ _ (omega (arith, (c .before .before .field5) .ensures .0, (c .before .if3) .taken))), (c .field6) .ensures .1)
 
--- src/decode.rt:140:1
 returns-6 : tie.Need-returns-6
 returns-6 c =
-      (sym (operand-dispatch _ _ _ ((c .before .before .before .kind-at) .ensures) ((c .before .before .match) .keys3) ∙ every-past _ 6 2 _ _ (omega (arith, (c .before .field5) .ensures .0, (c .if3) .left))), omega arith)
+    (sym (operand-dispatch _ _ _ ((c .before .before .before .kind-at) .ensures) ((c .before .before .match) .keys3) ∙ every-past _ 6 2 _ _ (omega (arith, (c .before .field5) .ensures .0, (c .if3) .left))), omega arith)
 
--- src/decode.rt:140:1
 returns-7 : tie.Need-returns-7
 returns-7 c =
-      (sym (no-operand _ _ _ ((c .before .kind-at) .ensures) ((c .match) .rest .0 .0 .1) ((c .match) .rest .0 .1) ((c .match) .rest .1)), omega arith)
+    (sym (no-operand _ _ _ ((c .before .kind-at) .ensures) ((c .match) .rest .0 .0 .1) ((c .match) .rest .0 .1) ((c .match) .rest .1)), omega arith)
 
 pub operand-spec : {M : Type 1} → statement M
 operand-spec =

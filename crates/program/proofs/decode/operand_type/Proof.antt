@@ -1,49 +1,38 @@
-use Rattle.program.proofs.Forms.{operand-vec, operand-call, operand-dispatch, no-operand, type-dispatch, no-type}
-use Rattle.layout.proofs.Fields.{every-at, every-past, fields-at}
-use mathlib.Core.Path.{sym, _∙_}
-use native.Mathlib.Omega.{arith}
-use borrow.Author.Needs.{needs}
+-- `program::decode::operand_type`: only a DISPATCH lists types.
+use Rattle.layout.proofs.Fields.{every-at, every-past}
+use Rattle.program.proofs.Forms.{type-dispatch, no-type}
 use Rattle.program.proofs.decode.operand_type.Statement.{statement}
 use Rattle.program.proofs.decode.operand_type.Tie as tie
-use Rattle.program.proofs.decode.operand_type.Reads as reads
-use Rattle.program.proofs.decode.operand_type.Lts as lts
-use Rattle.layout.proofs.field.Reads as field-reads
-use Rattle.layout.proofs.kind_at.Reads as kind-at-reads
+use borrow.Author.Needs.{needs}
+use mathlib.Core.Path.{sym, _∙_}
+use native.Mathlib.Omega.{arith}
 
--- src/decode.rt:161:8
 kind-at-requires : tie.Need-kind-at-requires
 kind-at-requires c κs = search needs
 
--- src/decode.rt:162:9
 returns : tie.Need-returns
 returns c =
-      (sym (no-type _ _ _ ((c .before .kind-at) .ensures) ((c .if1) .taken)), omega arith)
+    (sym (no-type _ _ _ ((c .before .kind-at) .ensures) ((c .if1) .taken)), omega arith)
 
--- src/decode.rt:164:12
 field-requires : tie.Need-field-requires
 field-requires c κs = search needs
 
--- src/decode.rt:164:69
 mul-field : tie.Need-mul-field
 mul-field c = search needs
 
--- src/decode.rt:164:65
 add-field : tie.Need-add-field
 add-field c = search needs
 
--- src/decode.rt:164:41
 field-requires-2 : tie.Need-field-requires-2
 field-requires-2 c κs = search needs
 
--- src/decode.rt:158:1
 returns-2 : tie.Need-returns-2
 returns-2 c =
-      ((c .field2) .ensures .0 ∙ sym (type-dispatch _ _ _ ((c .before .before .before .before .kind-at) .ensures) ((c .before .before .before .if1) .left) ∙ every-at _ 5 2 _ _ (omega (arith, (c .before .before .field) .ensures .0, (c .before .if2) .taken))), (c .field2) .ensures .1)
+    ((c .field2) .ensures .0 ∙ sym (type-dispatch _ _ _ ((c .before .before .before .before .kind-at) .ensures) ((c .before .before .before .if1) .left) ∙ every-at _ 5 2 _ _ (omega (arith, (c .before .before .field) .ensures .0, (c .before .if2) .taken))), (c .field2) .ensures .1)
 
--- src/decode.rt:158:1
 returns-3 : tie.Need-returns-3
 returns-3 c =
-      (sym (type-dispatch _ _ _ ((c .before .before .before .kind-at) .ensures) ((c .before .before .if1) .left) ∙ every-past _ 5 2 _ _ (omega (arith, (c .before .field) .ensures .0, (c .if2) .left))), omega arith)
+    (sym (type-dispatch _ _ _ ((c .before .before .before .kind-at) .ensures) ((c .before .before .if1) .left) ∙ every-past _ 5 2 _ _ (omega (arith, (c .before .field) .ensures .0, (c .if2) .left))), omega arith)
 
 pub operand-type-spec : {M : Type 1} → statement M
 operand-type-spec =

@@ -1,37 +1,30 @@
-use mathlib.Core.Path.{_∙_}
-use mir.Facts.{toZ-ofZ}
+-- `program::decode::signed_of`: from 2³¹ on the bits stand for a number below zero.
 use Rattle.program.proofs.Literals.{upper-fits, upper-signed}
-use borrow.Author.Needs.{needs}
 use Rattle.program.proofs.decode.signed_of.Statement.{statement}
 use Rattle.program.proofs.decode.signed_of.Tie as tie
-use Rattle.program.proofs.decode.signed_of.Reads as reads
-use Rattle.program.proofs.decode.signed_of.Lts as lts
+use borrow.Author.Needs.{needs}
+use mathlib.Core.Path.{_∙_}
+use mir.Facts.{toZ-ofZ}
 
--- src/decode.rt:25:25
 cast-result : tie.Need-cast-result
 cast-result c = search needs
 
--- src/decode.rt:25:50
 sub-result : tie.Need-sub-result
 sub-result c = search needs
 
--- src/decode.rt:25:49
 cast-result-2 : tie.Need-cast-result-2
 cast-result-2 c = search needs
 
--- src/decode.rt:25:43
 sub-result-2 : tie.Need-sub-result-2
 sub-result-2 c =
-      upper-fits _ ((c .if1) .left) ((c .before) .pre)
+    upper-fits _ ((c .if1) .left) ((c .before) .pre)
 
--- src/decode.rt:21:1
 returns : tie.Need-returns
 returns c = search needs
 
--- src/decode.rt:21:1
 returns-2 : tie.Need-returns-2
 returns-2 c =
-      toZ-ofZ (upper-fits _ ((c .if1) .left) ((c .before) .pre)) ∙ upper-signed _ ((c .if1) .left) ((c .before) .pre)
+    toZ-ofZ (upper-fits _ ((c .if1) .left) ((c .before) .pre)) ∙ upper-signed _ ((c .if1) .left) ((c .before) .pre)
 
 pub signed-of-spec : {M : Type 1} → statement M
 signed-of-spec =

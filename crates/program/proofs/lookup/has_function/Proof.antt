@@ -1,37 +1,28 @@
+-- `program::lookup::has_function`: a function with a listed version exists.
 use Rattle.program.proofs.Tables.{listed-at, offset-inside, function-listed}
-use lib.Dec.{lit<}
-use mathlib.Core.Path.{sym, _∙_}
-use native.Mathlib.Nat.{add-zero}
-use native.Mathlib.Omega.{arith}
-use borrow.Author.Needs.{needs}
 use Rattle.program.proofs.lookup.has_function.Statement.{statement}
 use Rattle.program.proofs.lookup.has_function.Tie as tie
-use Rattle.program.proofs.lookup.has_function.Reads as reads
-use Rattle.program.proofs.lookup.has_function.Lts as lts
-use Rattle.program.proofs.lookup.search_function.Reads as search-function-reads
+use borrow.Author.Needs.{needs}
+use lib.Dec.{lit<}
+use mathlib.Core.Path.{sym}
+use native.Mathlib.Nat.{add-zero}
 
--- src/lookup.rt:215:18
 mul-if2 : tie.Need-mul-if2
 mul-if2 c = search needs
 
--- src/lookup.rt:215:12
 mul-if2-2 : tie.Need-mul-if2-2
 mul-if2-2 c = search needs
 
--- src/lookup.rt:215:12
 element-copy-out-if2 : tie.Need-element-copy-out-if2
 element-copy-out-if2 c = search needs
 
--- src/lookup.rt:216:13
 returns : tie.Need-returns
 returns c =
-      sym (function-listed _ _ 0 _ (offset-inside _ _ _ (rw add-zero at (listed-at _ _ _ 0 ((c .before .before .before .before) .pre) ((c .before .before .if1) .taken) (lit< tt))) ((c .if2) .taken)))
+    sym (function-listed _ _ 0 _ (offset-inside _ _ _ (rw add-zero at (listed-at _ _ _ 0 ((c .before .before .before .before) .pre) ((c .before .before .if1) .taken) (lit< tt))) ((c .if2) .taken)))
 
--- src/lookup.rt:219:5
 search-function-requires : tie.Need-search-function-requires
 search-function-requires c κs = search needs
 
--- src/lookup.rt:210:1
 returns-2 : tie.Need-returns-2
 returns-2 c = search needs
 

@@ -1,20 +1,16 @@
-use Rattle.program.proofs.Lookups.{lineFrom, line-nowhere, no-line-version, no-line-block, line-here, line-later, line-outside}
-use Rattle.program.specs.Places.{linePlace, blockAt, viewAt}
-use Rattle.program.proofs.Views.{Whole, view-end, view-past}
+-- `program::lookup::line`: the loop goes along the records of a block; what is left of the look-up is put to the instructions from p on.
+use Prim.Native.Nat.{_-_, _≤_}
 use Rattle.layout.proofs.Walk.{size-room, size-in}
-use Rattle.layout.specs.Records.{sizeAt}
-use mathlib.Core.Path.{_≡_, refl, sym, ap, _∙_}
-use denote.Ref.{now}
-use borrow.Author.Needs.{needs}
-use native.Mathlib.Omega.{arith}
-use lib.ListN.{length}
-use Prim.Native.Nat.{ℕ, _+_, _-_, _≤_}
+use Rattle.program.proofs.Lookups.{lineFrom, line-nowhere, no-line-version, no-line-block, line-here, line-later, line-outside}
+use Rattle.program.proofs.Views.{view-end, view-past}
 use Rattle.program.proofs.lookup.line.Statement.{statement}
 use Rattle.program.proofs.lookup.line.Tie as tie
-use Rattle.program.proofs.lookup.line.Reads as reads
-use Rattle.program.proofs.lookup.line.Lts as lts
-use Rattle.layout.proofs.kind_at.Reads as kind-at-reads
-use Rattle.layout.proofs.size_at.Reads as size-at-reads
+use Rattle.program.specs.Places.{linePlace, blockAt}
+use borrow.Author.Needs.{needs}
+use denote.Ref.{now}
+use lib.ListN.{length}
+use mathlib.Core.Path.{_≡_, sym, _∙_}
+use native.Mathlib.Omega.{arith}
 
 abbrev Inv-loop : tie.InvT-loop
 Inv-loop image b i p₀ left₀ p left = (p ≤ length image) × (linePlace image b i ≡ lineFrom image p left)
@@ -22,81 +18,66 @@ Inv-loop image b i p₀ left₀ p left = (p ≤ length image) × (linePlace imag
 abbrev μ-loop : tie.MeasureT-loop
 μ-loop image b i p₀ left₀ p left = length image - p
 
--- src/lookup.rt:83:9
 returns : tie.Need-returns Inv-loop μ-loop
 returns c =
-      sym (line-outside _ _ _ ((c .if1) .taken))
+    sym (line-outside _ _ _ ((c .if1) .taken))
 
--- src/lookup.rt:85:21
 size-at-requires : tie.Need-size-at-requires Inv-loop μ-loop
 size-at-requires c κs =
-      search needs
+    search needs
 
--- src/lookup.rt:85:17
 add-p : tie.Need-add-p Inv-loop μ-loop
 add-p c =
-      omega (arith, (c .size-at) .ensures, size-room (now ((c .before .before .before) .args .image)) ((c .before .before .before) .args .b) (omega (arith, (c .before .if1) .left)))
+    omega (arith, (c .size-at) .ensures, size-room (now ((c .before .before .before) .args .image)) ((c .before .before .before) .args .b) (omega (arith, (c .before .if1) .left)))
 
--- src/lookup.rt:87:5
 loop-holds : tie.Need-loop-holds Inv-loop μ-loop
 unfolding linePlace lineFrom blockAt
 loop-holds c =
-      (omega (arith, (c .size-at) .ensures, size-room (now ((c .before .before .before) .args .image)) ((c .before .before .before) .args .b) (omega (arith, (c .before .if1) .left))), rw ((c .size-at) .ensures))
+    (omega (arith, (c .size-at) .ensures, size-room (now ((c .before .before .before) .args .image)) ((c .before .before .before) .args .b) (omega (arith, (c .before .if1) .left))), rw ((c .size-at) .ensures))
 
--- src/lookup.rt:88:13
 size-at-requires-2 : tie.Need-size-at-requires-2 Inv-loop μ-loop
 size-at-requires-2 c κs =
-      search needs
+    search needs
 
--- src/lookup.rt:90:13
 returns-2 : tie.Need-returns-2 Inv-loop μ-loop
 returns-2 c =
-      sym ((c .before .before .before .loop) .inv .1 ∙ line-nowhere _ _ _ (view-past _ _ (sym ((c .before .size-at2) .ensures) ∙ (c .if2) .taken)))
+    sym ((c .before .before .before .loop) .inv .1 ∙ line-nowhere _ _ _ (view-past _ _ (sym ((c .before .size-at2) .ensures) ∙ (c .if2) .taken)))
 
--- src/lookup.rt:92:13
 kind-at-requires : tie.Need-kind-at-requires Inv-loop μ-loop
 kind-at-requires c κs =
-      search needs
+    search needs
 
--- src/lookup.rt:94:13
 returns-3 : tie.Need-returns-3 Inv-loop μ-loop
 returns-3 c =
-      sym ((c .before .before .before .before .before .loop) .inv .1 ∙ no-line-version (record { inside = (c .before .before .before .before .loop-test) .taken; size = (c .before .before .before .size-at2) .ensures; whole = (c .before .before .if2) .left; kind = (c .before .kind-at) .ensures }) _ ((c .if3) .taken))
+    sym ((c .before .before .before .before .before .loop) .inv .1 ∙ no-line-version (record { inside = (c .before .before .before .before .loop-test) .taken; size = (c .before .before .before .size-at2) .ensures; whole = (c .before .before .if2) .left; kind = (c .before .kind-at) .ensures }) _ ((c .if3) .taken))
 
--- src/lookup.rt:97:13
 returns-4 : tie.Need-returns-4 Inv-loop μ-loop
 returns-4 c =
-      sym ((c .before .before .before .before .before .before .loop) .inv .1 ∙ no-line-block (record { inside = (c .before .before .before .before .before .loop-test) .taken; size = (c .before .before .before .before .size-at2) .ensures; whole = (c .before .before .before .if2) .left; kind = (c .before .before .kind-at) .ensures }) _ ((c .if4) .taken))
+    sym ((c .before .before .before .before .before .before .loop) .inv .1 ∙ no-line-block (record { inside = (c .before .before .before .before .before .loop-test) .taken; size = (c .before .before .before .before .size-at2) .ensures; whole = (c .before .before .before .if2) .left; kind = (c .before .before .kind-at) .ensures }) _ ((c .if4) .taken))
 
--- src/lookup.rt:100:13
 returns-5 : tie.Need-returns-5 Inv-loop μ-loop
 returns-5 c =
-      sym ((c .before .before .before .before .before .before .before .loop) .inv .1 ∙ line-here (record { inside = (c .before .before .before .before .before .before .loop-test) .taken; size = (c .before .before .before .before .before .size-at2) .ensures; whole = (c .before .before .before .before .if2) .left; kind = (c .before .before .before .kind-at) .ensures }) _ ((c .before .before .if3) .left) ((c .before .if4) .left) ((c .if5) .taken))
+    sym ((c .before .before .before .before .before .before .before .loop) .inv .1 ∙ line-here (record { inside = (c .before .before .before .before .before .before .loop-test) .taken; size = (c .before .before .before .before .before .size-at2) .ensures; whole = (c .before .before .before .before .if2) .left; kind = (c .before .before .before .kind-at) .ensures }) _ ((c .before .before .if3) .left) ((c .before .if4) .left) ((c .if5) .taken))
 
--- src/lookup.rt:102:9
 sub-left : tie.Need-sub-left Inv-loop μ-loop
 sub-left c =
-      omega (arith, (c .if5) .left)
+    omega (arith, (c .if5) .left)
 
--- src/lookup.rt:103:9
 add-p-2 : tie.Need-add-p-2 Inv-loop μ-loop
 add-p-2 c =
-      omega (arith, size-in _ _ ((c .before .before .before .before .before .size-at2) .ensures) ((c .before .before .before .before .if2) .left))
+    omega (arith, size-in _ _ ((c .before .before .before .before .before .size-at2) .ensures) ((c .before .before .before .before .if2) .left))
 
--- src/lookup.rt:87:5
 loop-less : tie.Need-loop-less Inv-loop μ-loop
 loop-less c =
-      omega (arith, (c .before .before .before .before .if2) .left, (c .before .before .before .before .before .before .loop-test) .taken)
+    omega (arith, (c .before .before .before .before .if2) .left, (c .before .before .before .before .before .before .loop-test) .taken)
 
--- src/lookup.rt:87:5
 loop-again : tie.Need-loop-again Inv-loop μ-loop
 loop-again c =
-      (omega (arith, size-in _ _ ((c .before .before .before .before .before .size-at2) .ensures) ((c .before .before .before .before .if2) .left)), (c .before .before .before .before .before .before .before .loop) .inv .1 ∙ line-later (record { inside = (c .before .before .before .before .before .before .loop-test) .taken; size = (c .before .before .before .before .before .size-at2) .ensures; whole = (c .before .before .before .before .if2) .left; kind = (c .before .before .before .kind-at) .ensures }) _ ((c .before .before .if3) .left) ((c .before .if4) .left) ((c .if5) .left))
+    (omega (arith, size-in _ _ ((c .before .before .before .before .before .size-at2) .ensures) ((c .before .before .before .before .if2) .left)), (c .before .before .before .before .before .before .before .loop) .inv .1 ∙ line-later (record { inside = (c .before .before .before .before .before .before .loop-test) .taken; size = (c .before .before .before .before .before .size-at2) .ensures; whole = (c .before .before .before .before .if2) .left; kind = (c .before .before .before .kind-at) .ensures }) _ ((c .before .before .if3) .left) ((c .before .if4) .left) ((c .if5) .left))
 
--- src/lookup.rt:79:1
 returns-6 : tie.Need-returns-6 Inv-loop μ-loop
 returns-6 c =
-      sym ((c .before .loop) .inv .1 ∙ line-nowhere _ _ _ (view-end _ _ ((c .loop-test) .left)))
+    sym ((c .before .loop) .inv .1 ∙ line-nowhere _ _ _ (view-end _ _ ((c .loop-test) .left)))
 
 pub line-spec : {M : Type 1} → statement M
 line-spec =

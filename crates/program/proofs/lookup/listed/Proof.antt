@@ -1,46 +1,36 @@
+-- `program::lookup::listed`: the table has the place of each version within the bounds.
 use Rattle.program.proofs.Tables.{listed-at, offset-inside, offset-outside}
-use denote.Ref.{now}
-use mathlib.Core.Path.{sym, _∙_}
-use native.Mathlib.Omega.{arith}
-use borrow.Author.Needs.{needs}
 use Rattle.program.proofs.lookup.listed.Statement.{statement}
 use Rattle.program.proofs.lookup.listed.Tie as tie
-use Rattle.program.proofs.lookup.listed.Reads as reads
-use Rattle.program.proofs.lookup.listed.Lts as lts
-use Rattle.program.proofs.lookup.version.Reads as version-reads
+use borrow.Author.Needs.{needs}
+use denote.Ref.{now}
+use mathlib.Core.Path.{sym}
+use native.Mathlib.Omega.{arith}
 
--- src/lookup.rt:195:27
 mul-p : tie.Need-mul-p
 mul-p c = search needs
 
--- src/lookup.rt:195:27
 add-p : tie.Need-add-p
 add-p c = search needs
 
--- src/lookup.rt:195:21
 mul-p-2 : tie.Need-mul-p-2
 mul-p-2 c = search needs
 
--- src/lookup.rt:195:21
 element-copy-out-p : tie.Need-element-copy-out-p
 element-copy-out-p c = search needs
 
--- src/lookup.rt:197:17
 returns : tie.Need-returns
 returns c =
-      sym (offset-inside _ _ _ (listed-at _ _ _ _ ((c .before .before .before .before .before) .pre) ((c .before .before .before .if1) .taken) ((c .before .before .if2) .taken)) ((c .if3) .taken))
+    sym (offset-inside _ _ _ (listed-at _ _ _ _ ((c .before .before .before .before .before) .pre) ((c .before .before .before .if1) .taken) ((c .before .before .if2) .taken)) ((c .if3) .taken))
 
--- src/lookup.rt:199:13
 returns-2 : tie.Need-returns-2
 returns-2 c =
-      let e = listed-at (now ((c .before .before .before .before .before) .args .image)) (now ((c .before .before .before .before .before) .args .table)) ((c .before .before .before .before .before) .args .f) ((c .before .before .before .before .before) .args .w) ((c .before .before .before .before .before) .pre) ((c .before .before .before .if1) .taken) ((c .before .before .if2) .taken) in
-      sym (offset-outside _ _ _ (omega (arith, e, (c .if3) .left)))
+    let e = listed-at (now ((c .before .before .before .before .before) .args .image)) (now ((c .before .before .before .before .before) .args .table)) ((c .before .before .before .before .before) .args .f) ((c .before .before .before .before .before) .args .w) ((c .before .before .before .before .before) .pre) ((c .before .before .before .if1) .taken) ((c .before .before .if2) .taken) in
+    sym (offset-outside _ _ _ (omega (arith, e, (c .if3) .left)))
 
--- src/lookup.rt:202:5
 version-requires : tie.Need-version-requires
 version-requires c κs = search needs
 
--- src/lookup.rt:189:1
 returns-3 : tie.Need-returns-3
 returns-3 c = search needs
 

@@ -1,23 +1,17 @@
-use Rattle.program.proofs.Tables.{hasFunction, function-nowhere, function-here, function-later, function-behind}
-use Rattle.program.specs.Places.{viewAt}
-use Rattle.program.specs.Program.{program}
+-- `program::lookup::search_function`: the loop goes along the records until a VERSION has the function.
+use Prim.Native.Nat.{_-_, _≤_}
+use Rattle.layout.proofs.Walk.{size-in}
 use Rattle.layout.specs.Records.{records}
-use Rattle.program.proofs.Views.{Whole, view-end, view-past}
-use Rattle.layout.proofs.Walk.{size-room, size-in}
-use Rattle.layout.specs.Records.{sizeAt}
-use mathlib.Core.Path.{_≡_, refl, sym, ap, _∙_}
-use denote.Ref.{now}
-use borrow.Author.Needs.{needs}
-use native.Mathlib.Omega.{arith}
-use lib.ListN.{length}
-use Prim.Native.Nat.{ℕ, _+_, _-_, _≤_}
+use Rattle.program.proofs.Tables.{hasFunction, function-nowhere, function-here, function-later, function-behind}
+use Rattle.program.proofs.Views.{view-end, view-past}
 use Rattle.program.proofs.lookup.search_function.Statement.{statement}
 use Rattle.program.proofs.lookup.search_function.Tie as tie
-use Rattle.program.proofs.lookup.search_function.Reads as reads
-use Rattle.program.proofs.lookup.search_function.Lts as lts
-use Rattle.layout.proofs.field.Reads as field-reads
-use Rattle.layout.proofs.kind_at.Reads as kind-at-reads
-use Rattle.layout.proofs.size_at.Reads as size-at-reads
+use Rattle.program.specs.Places.{viewAt}
+use Rattle.program.specs.Program.{program}
+use borrow.Author.Needs.{needs}
+use lib.ListN.{length}
+use mathlib.Core.Path.{_≡_, refl, sym, _∙_}
+use native.Mathlib.Omega.{arith}
 
 abbrev Inv-loop : tie.InvT-loop
 Inv-loop image f p₀ p = (p ≤ length image) × (hasFunction f (program (records image)) ≡ hasFunction f (viewAt image p .versions))
@@ -25,70 +19,57 @@ Inv-loop image f p₀ p = (p ≤ length image) × (hasFunction f (program (recor
 abbrev μ-loop : tie.MeasureT-loop
 μ-loop image f p₀ p = length image - p
 
--- src/lookup.rt:130:5
 loop-holds : tie.Need-loop-holds Inv-loop μ-loop
 loop-holds c =
-      (omega arith, refl)
+    (omega arith, refl)
 
--- src/lookup.rt:131:13
 size-at-requires : tie.Need-size-at-requires Inv-loop μ-loop
 size-at-requires c κs =
-      search needs
+    search needs
 
--- src/lookup.rt:133:13
 returns : tie.Need-returns Inv-loop μ-loop
 returns c =
-      sym ((c .before .before .before .loop) .inv .1 ∙ function-nowhere _ _ _ (view-past _ _ (sym ((c .before .size-at) .ensures) ∙ (c .if1) .taken)))
+    sym ((c .before .before .before .loop) .inv .1 ∙ function-nowhere _ _ _ (view-past _ _ (sym ((c .before .size-at) .ensures) ∙ (c .if1) .taken)))
 
--- src/lookup.rt:135:12
 kind-at-requires : tie.Need-kind-at-requires Inv-loop μ-loop
 kind-at-requires c κs =
-      search needs
+    search needs
 
--- src/lookup.rt:136:16
 field-requires : tie.Need-field-requires Inv-loop μ-loop
 field-requires c κs =
-      search needs
+    search needs
 
--- src/lookup.rt:137:17
 returns-2 : tie.Need-returns-2 Inv-loop μ-loop
 returns-2 c =
-      sym ((c .before .before .before .before .before .before .before .loop) .inv .1 ∙ function-here (record { inside = (c .before .before .before .before .before .before .loop-test) .taken; size = (c .before .before .before .before .before .size-at) .ensures; whole = (c .before .before .before .before .if1) .left; kind = (c .before .before .before .kind-at) .ensures }) _ ((c .before .before .if2) .taken) (sym ((c .before .field) .ensures .0) ∙ (c .if3) .taken))
+    sym ((c .before .before .before .before .before .before .before .loop) .inv .1 ∙ function-here (record { inside = (c .before .before .before .before .before .before .loop-test) .taken; size = (c .before .before .before .before .before .size-at) .ensures; whole = (c .before .before .before .before .if1) .left; kind = (c .before .before .before .kind-at) .ensures }) _ ((c .before .before .if2) .taken) (sym ((c .before .field) .ensures .0) ∙ (c .if3) .taken))
 
--- src/lookup.rt:139:13
 add-p : tie.Need-add-p Inv-loop μ-loop
 add-p c =
-      omega (arith, size-in _ _ ((c .before .before .before .before .before .size-at) .ensures) ((c .before .before .before .before .if1) .left))
+    omega (arith, size-in _ _ ((c .before .before .before .before .before .size-at) .ensures) ((c .before .before .before .before .if1) .left))
 
--- src/lookup.rt:130:5
 loop-less : tie.Need-loop-less Inv-loop μ-loop
 loop-less c =
-      omega (arith, (c .before .before .before .before .if1) .left, (c .before .before .before .before .before .before .loop-test) .taken)
+    omega (arith, (c .before .before .before .before .if1) .left, (c .before .before .before .before .before .before .loop-test) .taken)
 
--- src/lookup.rt:130:5
 loop-again : tie.Need-loop-again Inv-loop μ-loop
 loop-again c =
-      (omega (arith, size-in _ _ ((c .before .before .before .before .before .size-at) .ensures) ((c .before .before .before .before .if1) .left)), (c .before .before .before .before .before .before .before .loop) .inv .1 ∙ function-later (record { inside = (c .before .before .before .before .before .before .loop-test) .taken; size = (c .before .before .before .before .before .size-at) .ensures; whole = (c .before .before .before .before .if1) .left; kind = (c .before .before .before .kind-at) .ensures }) _ ((c .before .before .if2) .taken) (λ e. (c .if3) .left ((c .before .field) .ensures .0 ∙ e)))
+    (omega (arith, size-in _ _ ((c .before .before .before .before .before .size-at) .ensures) ((c .before .before .before .before .if1) .left)), (c .before .before .before .before .before .before .before .loop) .inv .1 ∙ function-later (record { inside = (c .before .before .before .before .before .before .loop-test) .taken; size = (c .before .before .before .before .before .size-at) .ensures; whole = (c .before .before .before .before .if1) .left; kind = (c .before .before .before .kind-at) .ensures }) _ ((c .before .before .if2) .taken) (λ e. (c .if3) .left ((c .before .field) .ensures .0 ∙ e)))
 
--- src/lookup.rt:141:13
 add-p-2 : tie.Need-add-p-2 Inv-loop μ-loop
 add-p-2 c =
-      omega (arith, size-in _ _ ((c .before .before .before .size-at) .ensures) ((c .before .before .if1) .left))
+    omega (arith, size-in _ _ ((c .before .before .before .size-at) .ensures) ((c .before .before .if1) .left))
 
--- src/lookup.rt:130:5
 loop-less-2 : tie.Need-loop-less-2 Inv-loop μ-loop
 loop-less-2 c =
-      omega (arith, (c .before .before .if1) .left, (c .before .before .before .before .loop-test) .taken)
+    omega (arith, (c .before .before .if1) .left, (c .before .before .before .before .loop-test) .taken)
 
--- src/lookup.rt:130:5
 loop-again-2 : tie.Need-loop-again-2 Inv-loop μ-loop
 loop-again-2 c =
-      (omega (arith, size-in _ _ ((c .before .before .before .size-at) .ensures) ((c .before .before .if1) .left)), (c .before .before .before .before .before .loop) .inv .1 ∙ function-behind (record { inside = (c .before .before .before .before .loop-test) .taken; size = (c .before .before .before .size-at) .ensures; whole = (c .before .before .if1) .left; kind = (c .before .kind-at) .ensures }) _ ((c .if2) .left))
+    (omega (arith, size-in _ _ ((c .before .before .before .size-at) .ensures) ((c .before .before .if1) .left)), (c .before .before .before .before .before .loop) .inv .1 ∙ function-behind (record { inside = (c .before .before .before .before .loop-test) .taken; size = (c .before .before .before .size-at) .ensures; whole = (c .before .before .if1) .left; kind = (c .before .kind-at) .ensures }) _ ((c .if2) .left))
 
--- src/lookup.rt:126:1
 returns-3 : tie.Need-returns-3 Inv-loop μ-loop
 returns-3 c =
-      sym ((c .before .loop) .inv .1 ∙ function-nowhere _ _ _ (view-end _ _ ((c .loop-test) .left)))
+    sym ((c .before .loop) .inv .1 ∙ function-nowhere _ _ _ (view-end _ _ ((c .loop-test) .left)))
 
 pub search-function-spec : {M : Type 1} → statement M
 search-function-spec =

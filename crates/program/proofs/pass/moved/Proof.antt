@@ -1,39 +1,32 @@
-use borrow.Author.Tests.{ne-eqb}
-use mathlib.Core.Path.{sym, _∙_}
+-- `program::pass::moved`: by the kind of the record.
 use Rattle.layout.specs.Records.{choose}
-use Rattle.program.specs.Places.{movedTo}
-use borrow.Author.Needs.{needs}
 use Rattle.program.proofs.pass.moved.Statement.{statement}
 use Rattle.program.proofs.pass.moved.Tie as tie
-use Rattle.program.proofs.pass.moved.Reads as reads
-use Rattle.program.proofs.pass.moved.Lts as lts
-use Rattle.layout.proofs.kind_at.Reads as kind-at-reads
+use Rattle.program.specs.Places.{movedTo}
+use borrow.Author.Needs.{needs}
+use borrow.Author.Tests.{ne-eqb}
+use mathlib.Core.Path.{sym, _∙_}
 
--- src/pass.rt:13:11
 kind-at-requires : tie.Need-kind-at-requires
 kind-at-requires c κs = search needs
 
--- src/pass.rt:20:21
 add-t6 : tie.Need-add-t6
 add-t6 c = search needs
 
--- src/pass.rt:9:1
 returns : tie.Need-returns
 unfolding movedTo choose
 returns c =
-      simp (sym ((c .before .kind-at) .ensures) ∙ (c .match) .keys1)
+    simp (sym ((c .before .kind-at) .ensures) ∙ (c .match) .keys1)
 
--- src/pass.rt:9:1
 returns-2 : tie.Need-returns-2
 unfolding movedTo choose
 returns-2 c =
-      simp (sym ((c .before .before .kind-at) .ensures) ∙ (c .before .match) .keys2)
+    simp (sym ((c .before .before .kind-at) .ensures) ∙ (c .before .match) .keys2)
 
--- src/pass.rt:9:1
 returns-3 : tie.Need-returns-3
 unfolding movedTo choose
 returns-3 c =
-      simp (← (c .before .kind-at) .ensures, ne-eqb _ _ ((c .match) .rest .0 .1), ne-eqb _ _ ((c .match) .rest .1))
+    simp (← (c .before .kind-at) .ensures, ne-eqb _ _ ((c .match) .rest .0 .1), ne-eqb _ _ ((c .match) .rest .1))
 
 pub moved-spec : {M : Type 1} → statement M
 moved-spec = tie.close (tie.spec kind-at-requires add-t6 returns returns-2 returns-3)

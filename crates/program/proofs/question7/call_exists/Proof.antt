@@ -1,87 +1,67 @@
-use denote.Ref.{now}
-use Rattle.program.proofs.Lookups.{version-found, version-missing}
-use Rattle.program.proofs.Existence.{all-same, pairs-exist}
-use Rattle.program.specs.Questions.{exists}
-use Rattle.program.specs.Places.{instrAt, versionAt}
-use Rattle.program.specs.Program.{instrOf}
+-- `program::question7::call_exists`: a version that is looked up stands at its place.
+use Rattle.layout.proofs.Bools.{and-on, and-off, is-below, is-above, found-some, found-none}
 use Rattle.layout.proofs.Fields.{length-every}
-use Rattle.layout.proofs.Bools.{and-on, and-off, and-true, is-below, is-above, found-some, found-none}
-use Rattle.layout.specs.Records.{choose, every}
-use Rattle.layout.specs.Tests.{_and_, all, found}
-use mathlib.Core.Path.{_≡_, refl, sym, ap, _∙_}
-use borrow.Author.Needs.{needs}
+use Rattle.layout.specs.Records.{choose}
+use Rattle.layout.specs.Tests.{_and_}
+use Rattle.program.proofs.Existence.{all-same}
+use Rattle.program.proofs.Lookups.{version-found, version-missing}
 use Rattle.program.proofs.question7.call_exists.Statement.{statement}
 use Rattle.program.proofs.question7.call_exists.Tie as tie
-use Rattle.program.proofs.question7.call_exists.Reads as reads
-use Rattle.program.proofs.question7.call_exists.Lts as lts
-use Rattle.layout.proofs.field.Reads as field-reads
-use Rattle.program.proofs.lookup.listed.Reads as listed-reads
-use Rattle.program.proofs.lookup.registers.Reads as registers-reads
-use Rattle.program.proofs.question7.all_exist.Reads as all-exist-reads
+use Rattle.program.specs.Places.{versionAt}
+use Rattle.program.specs.Program.{instrOf}
+use Rattle.program.specs.Questions.{exists}
+use borrow.Author.Needs.{needs}
+use mathlib.Core.Path.{sym, _∙_}
 
--- src/question7.rt:136:9
 registers-requires : tie.Need-registers-requires
 registers-requires c κs = search needs
 
--- src/question7.rt:137:9
 field-requires : tie.Need-field-requires
 field-requires c κs = search needs
 
--- src/question7.rt:138:21
 field-requires-2 : tie.Need-field-requires-2
 field-requires-2 c κs = search needs
 
--- src/question7.rt:139:9
 returns : tie.Need-returns
 unfolding exists instrOf choose
 returns c =
-      sym (and-off _ (is-above ((c .before .field2) .ensures .0) ((c .before .before .before .registers) .ensures .0) ((c .if1) .taken)))
+    sym (and-off _ (is-above ((c .before .field2) .ensures .0) ((c .before .before .before .registers) .ensures .0) ((c .if1) .taken)))
 
--- src/question7.rt:141:8
 all-exist-requires : tie.Need-all-exist-requires
 all-exist-requires c κs = search needs
 
--- src/question7.rt:142:13
 field-requires-3 : tie.Need-field-requires-3
 field-requires-3 c κs = search needs
 
--- src/question7.rt:143:13
 field-requires-4 : tie.Need-field-requires-4
 field-requires-4 c κs = search needs
 
--- src/question7.rt:144:28
 listed-requires : tie.Need-listed-requires
 listed-requires c κs = search needs
 
--- src/question7.rt:144:23
 enum-known-q : tie.Need-enum-known-q
 enum-known-q c = search needs
 
--- src/question7.rt:145:13
 enum-told : tie.Need-enum-told
 enum-told c = search needs
 
--- src/question7.rt:145:13
 returns-2 : tie.Need-returns-2
 unfolding exists instrOf choose
 returns-2 c =
-      sym (and-on _ (is-below ((c .before .before .before .before .before .before .before .before .field2) .ensures .0) ((c .before .before .before .before .before .before .before .before .before .before .registers) .ensures .0) ((c .before .before .before .before .before .before .before .if1) .left)) ∙ and-on _ (sym (all-same _ 4 1 ((c .before .before .before .before .before .before .before .before .before .before .registers) .ensures .0) ((c .before .before .before .before .before .before .before .before .before .field) .ensures .0)) ∙ sym ((c .before .before .before .before .before .before .all-exist) .ensures) ∙ (c .before .before .before .before .before .if2) .taken) ∙ found-none _ (rw (← (c .before .before .before .before .field3) .ensures .0, ← (c .before .before .before .field4) .ensures .0) (version-missing _ _ _ (sym ((c .before .before .listed) .ensures) ∙ (c .enum-told) .given .1))))
+    sym (and-on _ (is-below ((c .before .before .before .before .before .before .before .before .field2) .ensures .0) ((c .before .before .before .before .before .before .before .before .before .before .registers) .ensures .0) ((c .before .before .before .before .before .before .before .if1) .left)) ∙ and-on _ (sym (all-same _ 4 1 ((c .before .before .before .before .before .before .before .before .before .before .registers) .ensures .0) ((c .before .before .before .before .before .before .before .before .before .field) .ensures .0)) ∙ sym ((c .before .before .before .before .before .before .all-exist) .ensures) ∙ (c .before .before .before .before .before .if2) .taken) ∙ found-none _ (rw (← (c .before .before .before .before .field3) .ensures .0, ← (c .before .before .before .field4) .ensures .0) (version-missing _ _ _ (sym ((c .before .before .listed) .ensures) ∙ (c .enum-told) .given .1))))
 
--- src/question7.rt:147:14
 field-requires-5 : tie.Need-field-requires-5
 field-requires-5 c κs = search needs
 
--- src/question7.rt:132:1
 returns-3 : tie.Need-returns-3
 unfolding exists instrOf choose versionAt
 returns-3 c =
-      simp ((c .before .before .before .before .before .before .before .before .before .before .before .field) .ensures .0, (c .field5) .ensures .0) (sym (and-on _ (is-below ((c .before .before .before .before .before .before .before .before .before .before .field2) .ensures .0) ((c .before .before .before .before .before .before .before .before .before .before .before .before .registers) .ensures .0) ((c .before .before .before .before .before .before .before .before .before .if1) .left)) ∙ and-on _ (sym (all-same _ 4 1 ((c .before .before .before .before .before .before .before .before .before .before .before .before .registers) .ensures .0) ((c .before .before .before .before .before .before .before .before .before .before .before .field) .ensures .0)) ∙ sym ((c .before .before .before .before .before .before .before .before .all-exist) .ensures) ∙ (c .before .before .before .before .before .before .before .if2) .taken) ∙ found-some _ (rw ((c .before .before .before .before .before .before .field3) .ensures .0, (c .before .before .before .before .before .field4) .ensures .0) at (version-found _ _ _ _ (sym ((c .before .before .before .before .listed) .ensures) ∙ (c .before .before .q) .given .1) .0)) ∙ simp length-every))
+    simp ((c .before .before .before .before .before .before .before .before .before .before .before .field) .ensures .0, (c .field5) .ensures .0) (sym (and-on _ (is-below ((c .before .before .before .before .before .before .before .before .before .before .field2) .ensures .0) ((c .before .before .before .before .before .before .before .before .before .before .before .before .registers) .ensures .0) ((c .before .before .before .before .before .before .before .before .before .if1) .left)) ∙ and-on _ (sym (all-same _ 4 1 ((c .before .before .before .before .before .before .before .before .before .before .before .before .registers) .ensures .0) ((c .before .before .before .before .before .before .before .before .before .before .before .field) .ensures .0)) ∙ sym ((c .before .before .before .before .before .before .before .before .all-exist) .ensures) ∙ (c .before .before .before .before .before .before .before .if2) .taken) ∙ found-some _ (rw ((c .before .before .before .before .before .before .field3) .ensures .0, (c .before .before .before .before .before .field4) .ensures .0) at (version-found _ _ _ _ (sym ((c .before .before .before .before .listed) .ensures) ∙ (c .before .before .q) .given .1) .0)) ∙ simp length-every))
 
--- src/question7.rt:132:1
 returns-4 : tie.Need-returns-4
 unfolding exists instrOf choose
 returns-4 c =
-      sym (and-on _ (is-below ((c .before .before .before .field2) .ensures .0) ((c .before .before .before .before .before .registers) .ensures .0) ((c .before .before .if1) .left)) ∙ and-off _ (sym (all-same _ 4 1 ((c .before .before .before .before .before .registers) .ensures .0) ((c .before .before .before .before .field) .ensures .0)) ∙ sym ((c .before .all-exist) .ensures) ∙ (c .if2) .left))
+    sym (and-on _ (is-below ((c .before .before .before .field2) .ensures .0) ((c .before .before .before .before .before .registers) .ensures .0) ((c .before .before .if1) .left)) ∙ and-off _ (sym (all-same _ 4 1 ((c .before .before .before .before .before .registers) .ensures .0) ((c .before .before .before .before .field) .ensures .0)) ∙ sym ((c .before .all-exist) .ensures) ∙ (c .if2) .left))
 
 pub call-exists-spec : {M : Type 1} → statement M
 call-exists-spec =

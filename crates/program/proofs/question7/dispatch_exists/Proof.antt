@@ -1,63 +1,47 @@
+-- `program::question7::dispatch_exists`: the registers of its pairs are every second field.
+use Rattle.layout.proofs.Bools.{and-on, and-off, is-below, is-above}
+use Rattle.layout.specs.Records.{choose}
+use Rattle.layout.specs.Tests.{_and_}
 use Rattle.program.proofs.Existence.{all-same, pairs-exist}
-use Rattle.program.specs.Questions.{exists}
-use Rattle.program.specs.Places.{instrAt, versionAt}
-use Rattle.program.specs.Program.{instrOf}
-use Rattle.layout.proofs.Fields.{length-every}
-use Rattle.layout.proofs.Bools.{and-on, and-off, and-true, is-below, is-above, found-some, found-none}
-use Rattle.layout.specs.Records.{choose, every}
-use Rattle.layout.specs.Tests.{_and_, all, found}
-use mathlib.Core.Path.{_≡_, refl, sym, ap, _∙_}
-use borrow.Author.Needs.{needs}
 use Rattle.program.proofs.question7.dispatch_exists.Statement.{statement}
 use Rattle.program.proofs.question7.dispatch_exists.Tie as tie
-use Rattle.program.proofs.question7.dispatch_exists.Reads as reads
-use Rattle.program.proofs.question7.dispatch_exists.Lts as lts
-use Rattle.layout.proofs.field.Reads as field-reads
-use Rattle.program.proofs.lookup.has_function.Reads as has-function-reads
-use Rattle.program.proofs.lookup.registers.Reads as registers-reads
-use Rattle.program.proofs.question7.all_exist.Reads as all-exist-reads
+use Rattle.program.specs.Program.{instrOf}
+use Rattle.program.specs.Questions.{exists}
+use borrow.Author.Needs.{needs}
+use mathlib.Core.Path.{sym, _∙_}
 
--- src/question7.rt:158:9
 registers-requires : tie.Need-registers-requires
 registers-requires c κs = search needs
 
--- src/question7.rt:159:21
 field-requires : tie.Need-field-requires
 field-requires c κs = search needs
 
--- src/question7.rt:160:9
 returns : tie.Need-returns
 unfolding exists instrOf choose
 returns c =
-      sym (and-off _ (is-above ((c .before .field) .ensures .0) ((c .before .before .registers) .ensures .0) ((c .if1) .taken)))
+    sym (and-off _ (is-above ((c .before .field) .ensures .0) ((c .before .before .registers) .ensures .0) ((c .if1) .taken)))
 
--- src/question7.rt:162:34
 field-requires-2 : tie.Need-field-requires-2
 field-requires-2 c κs = search needs
 
--- src/question7.rt:162:8
 all-exist-requires : tie.Need-all-exist-requires
 all-exist-requires c κs = search needs
 
--- src/question7.rt:163:44
 field-requires-3 : tie.Need-field-requires-3
 field-requires-3 c κs = search needs
 
--- src/question7.rt:163:9
 has-function-requires : tie.Need-has-function-requires
 has-function-requires c κs = search needs
 
--- src/question7.rt:154:1
 returns-2 : tie.Need-returns-2
 unfolding exists instrOf choose
 returns-2 c =
-      (c .has-function) .ensures ∙ rw ((c .before .field3) .ensures .0) (sym (and-on _ (is-below ((c .before .before .before .before .before .before .field) .ensures .0) ((c .before .before .before .before .before .before .before .registers) .ensures .0) ((c .before .before .before .before .before .if1) .left)) ∙ and-on _ (pairs-exist _ _ 5 _ ∙ sym (all-same _ 6 2 ((c .before .before .before .before .before .before .before .registers) .ensures .0) ((c .before .before .before .before .field2) .ensures .0)) ∙ sym ((c .before .before .before .all-exist) .ensures) ∙ (c .before .before .if2) .taken)))
+    (c .has-function) .ensures ∙ rw ((c .before .field3) .ensures .0) (sym (and-on _ (is-below ((c .before .before .before .before .before .before .field) .ensures .0) ((c .before .before .before .before .before .before .before .registers) .ensures .0) ((c .before .before .before .before .before .if1) .left)) ∙ and-on _ (pairs-exist _ _ 5 _ ∙ sym (all-same _ 6 2 ((c .before .before .before .before .before .before .before .registers) .ensures .0) ((c .before .before .before .before .field2) .ensures .0)) ∙ sym ((c .before .before .before .all-exist) .ensures) ∙ (c .before .before .if2) .taken)))
 
--- src/question7.rt:154:1
 returns-3 : tie.Need-returns-3
 unfolding exists instrOf choose
 returns-3 c =
-      sym (and-on _ (is-below ((c .before .before .before .before .field) .ensures .0) ((c .before .before .before .before .before .registers) .ensures .0) ((c .before .before .before .if1) .left)) ∙ and-off _ (pairs-exist _ _ 5 _ ∙ sym (all-same _ 6 2 ((c .before .before .before .before .before .registers) .ensures .0) ((c .before .before .field2) .ensures .0)) ∙ sym ((c .before .all-exist) .ensures) ∙ (c .if2) .left))
+    sym (and-on _ (is-below ((c .before .before .before .before .field) .ensures .0) ((c .before .before .before .before .before .registers) .ensures .0) ((c .before .before .before .if1) .left)) ∙ and-off _ (pairs-exist _ _ 5 _ ∙ sym (all-same _ 6 2 ((c .before .before .before .before .before .registers) .ensures .0) ((c .before .before .field2) .ensures .0)) ∙ sym ((c .before .all-exist) .ensures) ∙ (c .if2) .left))
 
 pub dispatch-exists-spec : {M : Type 1} → statement M
 dispatch-exists-spec =

@@ -1,23 +1,17 @@
-use Rattle.program.specs.Questions.{question7}
-use Rattle.program.proofs.Passes.{Asking, start, at-end, at-broken, say-no, go-on}
-use Rattle.program.proofs.Views.{Whole}
-use Rattle.program.specs.Search.{first}
-use Rattle.program.specs.Program.{program}
+-- `program::question7::question_7`: the loop is a pass along the records, and each turn meets the law of a pass.
+use Prim.Native.Nat.{_-_}
 use Rattle.layout.proofs.Walk.{size-in}
 use Rattle.layout.specs.Records.{records}
-use mathlib.Core.Path.{refl, sym, _∙_}
-use borrow.Author.Needs.{needs}
-use native.Mathlib.Omega.{arith}
-use lib.ListN.{length}
-use Prim.Native.Nat.{_-_}
+use Rattle.program.proofs.Passes.{Asking, start, at-end, at-broken, say-no, go-on}
 use Rattle.program.proofs.question7.question_7.Statement.{statement}
 use Rattle.program.proofs.question7.question_7.Tie as tie
-use Rattle.program.proofs.question7.question_7.Reads as reads
-use Rattle.program.proofs.question7.question_7.Lts as lts
-use Rattle.layout.proofs.size_at.Reads as size-at-reads
-use Rattle.program.proofs.lookup.versions.Reads as versions-reads
-use Rattle.program.proofs.pass.moved.Reads as moved-reads
-use Rattle.program.proofs.question7.exists_at.Reads as exists-at-reads
+use Rattle.program.specs.Program.{program}
+use Rattle.program.specs.Questions.{question7}
+use Rattle.program.specs.Search.{first}
+use borrow.Author.Needs.{needs}
+use lib.ListN.{length}
+use mathlib.Core.Path.{refl, sym, _∙_}
+use native.Mathlib.Omega.{arith}
 
 abbrev Inv-loop : tie.InvT-loop
 Inv-loop image table p₀ here₀ p here = Asking (question7 (program (records image))) (first (question7 (program (records image))) (program (records image))) image p here
@@ -25,60 +19,49 @@ Inv-loop image table p₀ here₀ p here = Asking (question7 (program (records i
 abbrev μ-loop : tie.MeasureT-loop
 μ-loop image table p₀ here₀ p here = length image - p
 
--- src/question7.rt:279:17
 versions-requires : tie.Need-versions-requires Inv-loop μ-loop
 versions-requires c κs =
-      search needs
+    search needs
 
--- src/question7.rt:285:5
 loop-holds : tie.Need-loop-holds Inv-loop μ-loop
 loop-holds c =
-      start _ _
+    start _ _
 
--- src/question7.rt:286:13
 size-at-requires : tie.Need-size-at-requires Inv-loop μ-loop
 size-at-requires c κs =
-      search needs
+    search needs
 
--- src/question7.rt:288:13
 returns : tie.Need-returns Inv-loop μ-loop
 returns c =
-      at-broken ((c .before .before .before .loop) .inv) ((c .before .size-at) .ensures) ((c .if1) .taken)
+    at-broken ((c .before .before .before .loop) .inv) ((c .before .size-at) .ensures) ((c .if1) .taken)
 
--- src/question7.rt:290:9
 moved-requires : tie.Need-moved-requires Inv-loop μ-loop
 moved-requires c κs =
-      omega (arith, (c .before .before .before .loop) .inv .few, (c .before .before .loop-test) .taken)
+    omega (arith, (c .before .before .before .loop) .inv .few, (c .before .before .loop-test) .taken)
 
--- src/question7.rt:291:12
 exists-at-requires : tie.Need-exists-at-requires Inv-loop μ-loop
 exists-at-requires c κs =
-      (c .before .before .before .before .before .before .versions) .ensures
+    (c .before .before .before .before .before .before .versions) .ensures
 
--- src/question7.rt:292:13
 add-p : tie.Need-add-p Inv-loop μ-loop
 add-p c =
-      omega (arith, size-in _ _ ((c .before .before .before .before .before .size-at) .ensures) ((c .before .before .before .before .if1) .left))
+    omega (arith, size-in _ _ ((c .before .before .before .before .before .size-at) .ensures) ((c .before .before .before .before .if1) .left))
 
--- src/question7.rt:285:5
 loop-less : tie.Need-loop-less Inv-loop μ-loop
 loop-less c =
-      omega (arith, (c .before .before .before .before .if1) .left, (c .before .before .before .before .before .before .loop-test) .taken)
+    omega (arith, (c .before .before .before .before .if1) .left, (c .before .before .before .before .before .before .loop-test) .taken)
 
--- src/question7.rt:285:5
 loop-again : tie.Need-loop-again Inv-loop μ-loop
 loop-again c =
-      go-on ((c .before .before .before .before .before .before .before .loop) .inv) (record { inside = (c .before .before .before .before .before .before .loop-test) .taken; size = (c .before .before .before .before .before .size-at) .ensures; whole = (c .before .before .before .before .if1) .left; kind = refl }) ((c .before .before .before .moved) .ensures) (sym ((c .before .exists-at) .ensures) ∙ (c .if2) .taken)
+    go-on ((c .before .before .before .before .before .before .before .loop) .inv) (record { inside = (c .before .before .before .before .before .before .loop-test) .taken; size = (c .before .before .before .before .before .size-at) .ensures; whole = (c .before .before .before .before .if1) .left; kind = refl }) ((c .before .before .before .moved) .ensures) (sym ((c .before .exists-at) .ensures) ∙ (c .if2) .taken)
 
--- src/question7.rt:294:13
 returns-2 : tie.Need-returns-2 Inv-loop μ-loop
 returns-2 c =
-      say-no ((c .before .before .before .before .before .before .before .loop) .inv) (record { inside = (c .before .before .before .before .before .before .loop-test) .taken; size = (c .before .before .before .before .before .size-at) .ensures; whole = (c .before .before .before .before .if1) .left; kind = refl }) ((c .before .before .before .moved) .ensures) (sym ((c .before .exists-at) .ensures) ∙ (c .if2) .left)
+    say-no ((c .before .before .before .before .before .before .before .loop) .inv) (record { inside = (c .before .before .before .before .before .before .loop-test) .taken; size = (c .before .before .before .before .before .size-at) .ensures; whole = (c .before .before .before .before .if1) .left; kind = refl }) ((c .before .before .before .moved) .ensures) (sym ((c .before .exists-at) .ensures) ∙ (c .if2) .left)
 
--- src/question7.rt:276:1
 returns-3 : tie.Need-returns-3 Inv-loop μ-loop
 returns-3 c =
-      at-end ((c .before .loop) .inv) ((c .loop-test) .left)
+    at-end ((c .before .loop) .inv) ((c .loop-test) .left)
 
 pub question-7-spec : {M : Type 1} → statement M
 question-7-spec =

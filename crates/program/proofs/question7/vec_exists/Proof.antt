@@ -1,48 +1,36 @@
-use Rattle.program.proofs.Existence.{all-same, pairs-exist}
-use Rattle.program.specs.Questions.{exists}
-use Rattle.program.specs.Places.{instrAt, versionAt}
-use Rattle.program.specs.Program.{instrOf}
-use Rattle.layout.proofs.Fields.{length-every}
-use Rattle.layout.proofs.Bools.{and-on, and-off, and-true, is-below, is-above, found-some, found-none}
-use Rattle.layout.specs.Records.{choose, every}
-use Rattle.layout.specs.Tests.{_and_, all, found}
-use mathlib.Core.Path.{_≡_, refl, sym, ap, _∙_}
-use borrow.Author.Needs.{needs}
+-- `program::question7::vec_exists`: one test for each register and name.
+use Rattle.layout.proofs.Bools.{and-on, and-off, is-below, is-above}
+use Rattle.layout.specs.Records.{choose}
+use Rattle.layout.specs.Tests.{_and_}
+use Rattle.program.proofs.Existence.{all-same}
 use Rattle.program.proofs.question7.vec_exists.Statement.{statement}
 use Rattle.program.proofs.question7.vec_exists.Tie as tie
-use Rattle.program.proofs.question7.vec_exists.Reads as reads
-use Rattle.program.proofs.question7.vec_exists.Lts as lts
-use Rattle.layout.proofs.field.Reads as field-reads
-use Rattle.program.proofs.lookup.registers.Reads as registers-reads
-use Rattle.program.proofs.question7.all_exist.Reads as all-exist-reads
+use Rattle.program.specs.Program.{instrOf}
+use Rattle.program.specs.Questions.{exists}
+use borrow.Author.Needs.{needs}
+use mathlib.Core.Path.{sym, _∙_}
 
--- src/question7.rt:42:9
 registers-requires : tie.Need-registers-requires
 registers-requires c κs = search needs
 
--- src/question7.rt:43:8
 field-requires : tie.Need-field-requires
 field-requires c κs = search needs
 
--- src/question7.rt:44:35
 field-requires-2 : tie.Need-field-requires-2
 field-requires-2 c κs = search needs
 
--- src/question7.rt:44:9
 all-exist-requires : tie.Need-all-exist-requires
 all-exist-requires c κs = search needs
 
--- src/question7.rt:39:1
 returns : tie.Need-returns
 unfolding exists instrOf choose
 returns c =
-      (c .all-exist) .ensures ∙ all-same _ 2 1 ((c .before .before .before .before .registers) .ensures .0) ((c .before .field2) .ensures .0) ∙ sym (and-on _ (is-below ((c .before .before .before .field) .ensures .0) ((c .before .before .before .before .registers) .ensures .0) ((c .before .before .if1) .taken)))
+    (c .all-exist) .ensures ∙ all-same _ 2 1 ((c .before .before .before .before .registers) .ensures .0) ((c .before .field2) .ensures .0) ∙ sym (and-on _ (is-below ((c .before .before .before .field) .ensures .0) ((c .before .before .before .before .registers) .ensures .0) ((c .before .before .if1) .taken)))
 
--- src/question7.rt:39:1
 returns-2 : tie.Need-returns-2
 unfolding exists instrOf choose
 returns-2 c =
-      sym (and-off _ (is-above ((c .before .field) .ensures .0) ((c .before .before .registers) .ensures .0) ((c .if1) .left)))
+    sym (and-off _ (is-above ((c .before .field) .ensures .0) ((c .before .before .registers) .ensures .0) ((c .if1) .left)))
 
 pub vec-exists-spec : {M : Type 1} → statement M
 vec-exists-spec =

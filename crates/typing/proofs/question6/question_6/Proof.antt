@@ -1,22 +1,17 @@
-use Rattle.typing.specs.Questions.{question6}
-use Rattle.program.proofs.Passes.{Asking, start, at-end, at-broken, say-no, go-on}
-use Rattle.program.proofs.Views.{Whole}
-use Rattle.program.specs.Search.{first}
-use Rattle.program.specs.Program.{program}
+-- `typing::question6::question_6`: the loop is a pass along the records, and each turn meets the law of a pass.
+use Prim.Native.Nat.{_-_}
 use Rattle.layout.proofs.Walk.{size-in}
 use Rattle.layout.specs.Records.{records}
-use mathlib.Core.Path.{refl, sym, _∙_}
-use borrow.Author.Needs.{needs}
-use native.Mathlib.Omega.{arith}
-use lib.ListN.{length}
-use Prim.Native.Nat.{_-_}
+use Rattle.program.proofs.Passes.{Asking, start, at-end, at-broken, say-no, go-on}
+use Rattle.program.specs.Program.{program}
+use Rattle.program.specs.Search.{first}
 use Rattle.typing.proofs.question6.question_6.Statement.{statement}
 use Rattle.typing.proofs.question6.question_6.Tie as tie
-use Rattle.typing.proofs.question6.question_6.Reads as reads
-use Rattle.typing.proofs.question6.question_6.Lts as lts
-use Rattle.layout.proofs.size_at.Reads as size-at-reads
-use Rattle.program.proofs.pass.moved.Reads as moved-reads
-use Rattle.typing.proofs.question6.types_at.Reads as types-at-reads
+use Rattle.typing.specs.Questions.{question6}
+use borrow.Author.Needs.{needs}
+use lib.ListN.{length}
+use mathlib.Core.Path.{refl, sym, _∙_}
+use native.Mathlib.Omega.{arith}
 
 abbrev Inv-loop : tie.InvT-loop
 Inv-loop image p₀ here₀ p here = Asking question6 (first question6 (program (records image))) image p here
@@ -24,55 +19,45 @@ Inv-loop image p₀ here₀ p here = Asking question6 (first question6 (program 
 abbrev μ-loop : tie.MeasureT-loop
 μ-loop image p₀ here₀ p here = length image - p
 
--- src/question6.rt:97:5
 loop-holds : tie.Need-loop-holds Inv-loop μ-loop
 loop-holds c =
-      start _ _
+    start _ _
 
--- src/question6.rt:98:13
 size-at-requires : tie.Need-size-at-requires Inv-loop μ-loop
 size-at-requires c κs =
-      search needs
+    search needs
 
--- src/question6.rt:100:13
 returns : tie.Need-returns Inv-loop μ-loop
 returns c =
-      at-broken ((c .before .before .before .loop) .inv) ((c .before .size-at) .ensures) ((c .if1) .taken)
+    at-broken ((c .before .before .before .loop) .inv) ((c .before .size-at) .ensures) ((c .if1) .taken)
 
--- src/question6.rt:102:9
 moved-requires : tie.Need-moved-requires Inv-loop μ-loop
 moved-requires c κs =
-      omega (arith, (c .before .before .before .loop) .inv .few, (c .before .before .loop-test) .taken)
+    omega (arith, (c .before .before .before .loop) .inv .few, (c .before .before .loop-test) .taken)
 
--- src/question6.rt:103:12
 types-at-requires : tie.Need-types-at-requires Inv-loop μ-loop
 types-at-requires c κs =
-      search needs
+    search needs
 
--- src/question6.rt:104:13
 add-p : tie.Need-add-p Inv-loop μ-loop
 add-p c =
-      omega (arith, size-in _ _ ((c .before .before .before .before .size-at) .ensures) ((c .before .before .before .if1) .left))
+    omega (arith, size-in _ _ ((c .before .before .before .before .size-at) .ensures) ((c .before .before .before .if1) .left))
 
--- src/question6.rt:97:5
 loop-less : tie.Need-loop-less Inv-loop μ-loop
 loop-less c =
-      omega (arith, (c .before .before .before .if1) .left, (c .before .before .before .before .before .loop-test) .taken)
+    omega (arith, (c .before .before .before .if1) .left, (c .before .before .before .before .before .loop-test) .taken)
 
--- src/question6.rt:97:5
 loop-again : tie.Need-loop-again Inv-loop μ-loop
 loop-again c =
-      go-on ((c .before .before .before .before .before .before .loop) .inv) (record { inside = (c .before .before .before .before .before .loop-test) .taken; size = (c .before .before .before .before .size-at) .ensures; whole = (c .before .before .before .if1) .left; kind = refl }) ((c .before .before .moved) .ensures) (sym ((c .before .types-at) .ensures) ∙ (c .if2) .taken)
+    go-on ((c .before .before .before .before .before .before .loop) .inv) (record { inside = (c .before .before .before .before .before .loop-test) .taken; size = (c .before .before .before .before .size-at) .ensures; whole = (c .before .before .before .if1) .left; kind = refl }) ((c .before .before .moved) .ensures) (sym ((c .before .types-at) .ensures) ∙ (c .if2) .taken)
 
--- src/question6.rt:106:13
 returns-2 : tie.Need-returns-2 Inv-loop μ-loop
 returns-2 c =
-      say-no ((c .before .before .before .before .before .before .loop) .inv) (record { inside = (c .before .before .before .before .before .loop-test) .taken; size = (c .before .before .before .before .size-at) .ensures; whole = (c .before .before .before .if1) .left; kind = refl }) ((c .before .before .moved) .ensures) (sym ((c .before .types-at) .ensures) ∙ (c .if2) .left)
+    say-no ((c .before .before .before .before .before .before .loop) .inv) (record { inside = (c .before .before .before .before .before .loop-test) .taken; size = (c .before .before .before .before .size-at) .ensures; whole = (c .before .before .before .if1) .left; kind = refl }) ((c .before .before .moved) .ensures) (sym ((c .before .types-at) .ensures) ∙ (c .if2) .left)
 
--- src/question6.rt:89:1
 returns-3 : tie.Need-returns-3 Inv-loop μ-loop
 returns-3 c =
-      at-end ((c .before .loop) .inv) ((c .loop-test) .left)
+    at-end ((c .before .loop) .inv) ((c .loop-test) .left)
 
 pub question-6-spec : {M : Type 1} → statement M
 question-6-spec =

@@ -1,60 +1,44 @@
-use Rattle.typing.proofs.TypeBytes.{no-types}
-use Rattle.typing.specs.Questions.{question6, typesAllowed}
+-- `typing::question6::types_at`: only VERSION and DISPATCH have type bytes.
 use Rattle.program.proofs.Passes.{asked-version, asked-line, asked-outside, asked-before, asked-anywhere}
 use Rattle.program.specs.Places.{instrAt}
-use Rattle.program.specs.Program.{instrOf}
-use Rattle.layout.specs.Kinds as kind
-use Rattle.layout.specs.Records.{bodyAt}
-use denote.Ref.{now}
-use native.Mathlib.Omega.{arith}
-use mathlib.Core.Path.{_≡_, refl, sym, ap, _∙_}
-use borrow.Author.Needs.{needs}
+use Rattle.typing.proofs.TypeBytes.{no-types}
 use Rattle.typing.proofs.question6.types_at.Statement.{statement}
 use Rattle.typing.proofs.question6.types_at.Tie as tie
-use Rattle.typing.proofs.question6.types_at.Reads as reads
-use Rattle.typing.proofs.question6.types_at.Lts as lts
-use Rattle.layout.proofs.kind_at.Reads as kind-at-reads
-use Rattle.typing.proofs.question6.dispatch_types.Reads as dispatch-types-reads
-use Rattle.typing.proofs.question6.version_types.Reads as version-types-reads
+use Rattle.typing.specs.Questions.{question6}
+use borrow.Author.Needs.{needs}
+use mathlib.Core.Path.{refl, sym, _∙_}
+use native.Mathlib.Omega.{arith}
 
--- src/question6.rt:73:11
 kind-at-requires : tie.Need-kind-at-requires
 kind-at-requires c κs = search needs
 
--- src/question6.rt:74:27
 version-types-requires : tie.Need-version-types-requires
 version-types-requires c κs = search needs
 
--- src/question6.rt:81:17
 dispatch-types-requires : tie.Need-dispatch-types-requires
 dispatch-types-requires c κs = search needs
 
--- src/question6.rt:68:1
 returns : tie.Need-returns
 returns c =
-      (c .version-types) .ensures ∙ sym (asked-version question6 _ _ _ ((c .before .before .kind-at) .ensures) ((c .before .match) .keys1))
+    (c .version-types) .ensures ∙ sym (asked-version question6 _ _ _ ((c .before .before .kind-at) .ensures) ((c .before .match) .keys1))
 
--- src/question6.rt:68:1
 returns-2 : tie.Need-returns-2
 returns-2 c =
-      sym (asked-outside question6 _ _ _ ((c .before .before .kind-at) .ensures) (omega (arith, (c .before .match) .keys2)) ((c .if1) .taken))
+    sym (asked-outside question6 _ _ _ ((c .before .before .kind-at) .ensures) (omega (arith, (c .before .match) .keys2)) ((c .if1) .taken))
 
--- src/question6.rt:68:1
 returns-3 : tie.Need-returns-3
 returns-3 c =
-      sym (asked-before question6 _ _ _ ((c .before .before .before .kind-at) .ensures) (omega (arith, (c .before .before .match) .keys2)) ((c .if2) .taken))
+    sym (asked-before question6 _ _ _ ((c .before .before .before .kind-at) .ensures) (omega (arith, (c .before .before .match) .keys2)) ((c .if2) .taken))
 
--- src/question6.rt:68:1
 returns-4 : tie.Need-returns-4
 unfolding instrAt
 returns-4 c =
-      (c .dispatch-types) .ensures ∙ sym (asked-line question6 _ _ _ ((c .before .before .before .before .kind-at) .ensures) (omega (arith, (c .before .before .before .match) .keys2)) (omega (arith, (c .before .before .before .match) .keys2)) ((c .before .before .if1) .left) ((c .before .if2) .left) ∙ rw (sym ((c .before .before .before .before .kind-at) .ensures) ∙ (c .before .before .before .match) .keys2))
+    (c .dispatch-types) .ensures ∙ sym (asked-line question6 _ _ _ ((c .before .before .before .before .kind-at) .ensures) (omega (arith, (c .before .before .before .match) .keys2)) (omega (arith, (c .before .before .before .match) .keys2)) ((c .before .before .if1) .left) ((c .before .if2) .left) ∙ rw (sym ((c .before .before .before .before .kind-at) .ensures) ∙ (c .before .before .before .match) .keys2))
 
--- src/question6.rt:68:1
 returns-5 : tie.Need-returns-5
 unfolding instrAt
 returns-5 c =
-      sym (asked-anywhere question6 _ _ _ ((c .before .kind-at) .ensures) ((c .match) .rest .0 .1) (λ v n. refl) (λ v n. no-types _ _ (λ e. (c .match) .rest .1 ((c .before .kind-at) .ensures ∙ e))))
+    sym (asked-anywhere question6 _ _ _ ((c .before .kind-at) .ensures) ((c .match) .rest .0 .1) (λ v n. refl) (λ v n. no-types _ _ (λ e. (c .match) .rest .1 ((c .before .kind-at) .ensures ∙ e))))
 
 pub types-at-spec : {M : Type 1} → statement M
 types-at-spec =

@@ -1,0 +1,136 @@
+//! Where runs begin, with which words, and what is done with them.
+
+use crate::random::Random;
+use reference::bounds::{Steps, BUFFER, ITEMS};
+use reference::program::Version;
+use reference::{Integer, Kind, Program, Type};
+
+/// A version that a run may begin at, mostly one of the last function.
+pub fn entry(random: &mut Random, program: &Program) -> Option<(usize, usize)> {
+    let enterable = program.versions.iter().filter(|v| may_begin(v));
+    let enterable: Vec<&Version> = enterable.collect();
+    let last = enterable.last()?.head.function;
+    let of_last = enterable.iter().filter(|v| v.head.function == last);
+    let of_last: Vec<&Version> = of_last.copied().collect();
+    let version = match random.below(10) {
+        0..=5 => of_last[0],
+        6..=7 => random.pick(&of_last),
+        _ => random.pick(&enterable),
+    };
+    Some((version.head.function.into(), version.head.version.into()))
+}
+
+/// Has the version no promise parameter?
+fn may_begin(version: &Version) -> bool {
+    let parameters = version.parameters().iter();
+    let mut kinds = parameters.map(|ty| ty.kind());
+    !kinds.any(|kind| kind == Kind::QUIET || kind == Kind::REFLECTIVE)
+}
+
+/// Words that match the parameters of a version.
+pub fn matching_words(random: &mut Random, version: &Version) -> Vec<Integer> {
+    let parameters = version.parameters().iter();
+    let arguments = parameters.flat_map(|&ty| argument(random, ty));
+    arguments.collect()
+}
+
+/// The words of an argument for a parameter.
+fn argument(random: &mut Random, parameter: Type) -> Vec<Integer> {
+    let vector = match parameter.kind() {
+        Kind::VECTOR => true,
+        Kind::INTEGER => false,
+        _ => random.one_in(2),
+    };
+    if !vector {
+        return vec![-1, integer(random)];
+    }
+    let often = [0, 1, 2, 3, 4, 8, ITEMS, random.below(ITEMS + 1)];
+    let length = random.pick(&often);
+    let mut words = vec![length as Integer];
+    words.extend((0..length).map(|_| integer(random)));
+    words
+}
+
+/// An integer, mostly small, sometimes at an end of the range.
+fn integer(random: &mut Random) -> Integer {
+    match random.below(20) {
+        0 => random.pick(&[Integer::MIN, Integer::MAX, Integer::MIN + 1, -1, 0]),
+        1 => random.number() as Integer,
+        2..=5 => random.between(-1000, 1000) as Integer,
+        _ => random.between(-3, 12) as Integer,
+    }
+}
+
+/// The words with one thing wrong, or by chance still right.
+pub fn wrong_words(random: &mut Random, mut words: Vec<Integer>) -> Vec<Integer> {
+    match random.below(4) {
+        0 => words.push(integer(random)),
+        1 => drop(words.pop()),
+        2 if !words.is_empty() => {
+            let heads = [-2, -1, 0, 1, 16, 17, Integer::MIN, Integer::MAX];
+            let at = random.below(words.len());
+            words[at] = random.pick(&heads);
+        }
+        _ => words.insert(0, random.pick(&[-1, 0, 5, 17])),
+    }
+    words
+}
+
+/// One thing done with a run.
+#[derive(Clone, Copy, PartialEq, Eq, Debug)]
+pub enum Event {
+    /// A single step.
+    Step,
+    /// A budget, lent a buffer of so many places.
+    Budget {
+        /// The steps given.
+        budget: Steps,
+        /// The places lent.
+        places: usize,
+    },
+}
+
+/// A list of things done with a run; it goes past the end of most runs.
+pub fn event_list(random: &mut Random) -> Vec<Event> {
+    let length = random.pick(&[0, 1, 2, 3, 5, 8, 20]);
+    let mut events: Vec<Event> = (0..length).map(|_| event(random)).collect();
+    if random.percent(15) {
+        events.extend([Event::Step; 100]);
+    }
+    if random.percent(70) {
+        let places = places(random);
+        events.push(Event::Budget {
+            budget: 20_000,
+            places,
+        });
+        events.extend((0..random.below(4)).map(|_| event(random)));
+    }
+    events
+}
+
+/// A step or a budget of any size.
+fn event(random: &mut Random) -> Event {
+    if random.percent(50) {
+        return Event::Step;
+    }
+    let budget = match random.below(8) {
+        0 | 1 => 0,
+        2..=4 => 1 + random.below(4) as Steps,
+        5 | 6 => random.below(60) as Steps,
+        _ => random.pick(&[1000, 5000, 20_000]),
+    };
+    let places = places(random);
+    Event::Budget { budget, places }
+}
+
+/// Mostly enough places, sometimes too few.
+fn places(random: &mut Random) -> usize {
+    let few = random.below(BUFFER);
+    random.weighted(&[
+        (60, BUFFER),
+        (15, BUFFER + 1),
+        (10, 40),
+        (8, BUFFER - 1),
+        (7, few),
+    ])
+}

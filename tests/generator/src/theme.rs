@@ -1,0 +1,212 @@
+//! Whole accepted programs of several sizes and aims.
+
+use crate::draft::{Draft, DraftVersion};
+use crate::fact::Fact;
+use crate::grow::{grow, Trap, Wish};
+use crate::padding::pad;
+use crate::random::Random;
+use crate::special::{special, Special};
+use crate::world::{entered, family, Callable};
+use reference::bounds::{BLOCKS, FUNCTIONS, MAX_IMAGE, REGISTERS, VERSIONS, VERSIONS_EACH};
+use reference::program::Signature;
+
+/// What a program is like.
+#[derive(Clone, Copy, PartialEq, Eq, Debug)]
+pub enum Theme {
+    /// One version.
+    Single,
+    /// A few short versions.
+    Small,
+    /// Some versions of some length.
+    Medium,
+    /// Exactly 64 versions.
+    Many,
+    /// As near to 32,768 bytes as can be, or exactly so many.
+    Large,
+    /// Versions that call their own function.
+    Recursive,
+    /// A special function that is called by the last one.
+    Special(Special),
+    /// A program that makes UNDEF by one cause.
+    Trap(Trap),
+}
+
+impl Theme {
+    /// Any theme, those of large images seldom.
+    pub fn any(random: &mut Random) -> Theme {
+        let special = random.pick(&[
+            Special::Endless,
+            Special::Vectors,
+            Special::Promises,
+            Special::Ladder,
+            Special::Ladder,
+        ]);
+        let trap = random.pick(&Trap::ALL);
+        random.weighted(&[
+            (100, Theme::Single),
+            (420, Theme::Small),
+            (200, Theme::Medium),
+            (10, Theme::Many),
+            (1, Theme::Large),
+            (40, Theme::Recursive),
+            (120, Theme::Special(special)),
+            (100, Theme::Trap(trap)),
+        ])
+    }
+
+    /// How many functions, and how many versions of each, if that is fixed.
+    fn families(self, random: &mut Random) -> Vec<Option<usize>> {
+        match self {
+            Theme::Single => vec![Some(1)],
+            Theme::Small | Theme::Special(_) | Theme::Trap(_) => vec![None; 1 + random.below(4)],
+            Theme::Medium | Theme::Recursive => vec![None; 2 + random.below(7)],
+            Theme::Many => partition(random).into_iter().map(Some).collect(),
+            Theme::Large => vec![None; 3 * FUNCTIONS / 4],
+        }
+    }
+
+    /// About how many instructions each block has.
+    fn length(self, random: &mut Random) -> usize {
+        match self {
+            Theme::Many => 2,
+            Theme::Medium => 6 + random.below(14),
+            Theme::Large => 44,
+            _ => 4 + random.below(14),
+        }
+    }
+}
+
+/// So many versions for each function that they are 64.
+fn partition(random: &mut Random) -> Vec<usize> {
+    let least = VERSIONS / VERSIONS_EACH;
+    let functions = least + random.below(FUNCTIONS - least + 1);
+    let mut counts = vec![1; functions];
+    while counts.iter().sum::<usize>() < VERSIONS {
+        let open = (0..functions).filter(|&f| counts[f] < VERSIONS_EACH);
+        let open: Vec<usize> = open.collect();
+        counts[random.pick(&open)] += 1;
+    }
+    counts
+}
+
+/// An accepted program of a theme.
+pub fn program(random: &mut Random, theme: Theme) -> Draft {
+    let mut building = Building::default();
+    if let Theme::Special(kind) = theme {
+        let (versions, callable) = special(random, kind);
+        building.must_call = vec![callable.clone()];
+        building.world.push(callable);
+        building.functions = 1;
+        building.draft.versions = versions;
+    }
+    let families = theme.families(random);
+    let last = families.len() - 1;
+    for (index, versions) in families.into_iter().enumerate() {
+        if !building.add_function(random, theme, versions, index == last) {
+            break;
+        }
+    }
+    if theme == Theme::Large {
+        pad(random, &mut building.draft);
+    }
+    building.draft
+}
+
+/// A program that grows by functions, each of which may call those before it.
+#[derive(Default)]
+struct Building {
+    draft: Draft,
+    world: Vec<Callable>,
+    functions: usize,
+    /// What the last function is to call besides any others.
+    must_call: Vec<Callable>,
+}
+
+impl Building {
+    /// Adds a function; not so if the image would be too large for it.
+    fn add_function(
+        &mut self,
+        random: &mut Random,
+        theme: Theme,
+        versions: Option<usize>,
+        last: bool,
+    ) -> bool {
+        let mut signatures = family(random, versions);
+        if last || self.functions == 0 || random.percent(40) {
+            signatures[0] = entered(signatures[0].clone());
+        }
+        let own = self.own(theme, &signatures);
+        let mut world = self.world.clone();
+        world.extend(own);
+        let mut grown: Vec<(DraftVersion, Callable)> = Vec::new();
+        for (number, signature) in signatures.into_iter().enumerate() {
+            let wish = self.wish(random, theme, signature, number, last);
+            let version = grow(random, &world, &wish);
+            grown.push((version.draft, version.callable));
+        }
+        let (drafts, callables): (Vec<DraftVersion>, Vec<Callable>) = grown.into_iter().unzip();
+        let size: usize = drafts.iter().map(DraftVersion::size).sum();
+        let versions = self.draft.versions.len() + drafts.len();
+        if self.draft.bytes().len() + size > MAX_IMAGE || versions > VERSIONS {
+            return false;
+        }
+        self.draft.versions.extend(drafts);
+        self.world.extend(callables);
+        self.functions += 1;
+        true
+    }
+
+    /// The versions of the function itself, where a theme lets it call them.
+    fn own(&self, theme: Theme, signatures: &[Signature]) -> Vec<Callable> {
+        if theme != Theme::Recursive {
+            return vec![];
+        }
+        let own = signatures.iter().enumerate();
+        own.map(|(version, signature)| Callable {
+            function: self.functions as u8,
+            version: version as u8,
+            signature: signature.clone(),
+            cost: 20,
+            gives: Fact::of_type(signature.returns),
+        })
+        .collect()
+    }
+
+    /// What the last function calls: a few versions, then what it must.
+    fn to_call(&self, random: &mut Random) -> Vec<Callable> {
+        let count = 1 + random.below(5);
+        let any = (0..count).filter_map(|_| random.choose(&self.world));
+        any.chain(self.must_call.clone()).collect()
+    }
+
+    /// What the next version is to be.
+    fn wish(
+        &self,
+        random: &mut Random,
+        theme: Theme,
+        signature: Signature,
+        number: usize,
+        last: bool,
+    ) -> Wish {
+        let trap = match theme {
+            Theme::Trap(trap) if last && number == 0 => Some(trap),
+            _ => None,
+        };
+        let blocks = if theme == Theme::Large {
+            BLOCKS
+        } else {
+            1 + random.below(BLOCKS)
+        };
+        Wish {
+            function: self.functions as u8,
+            version: number as u8,
+            signature,
+            length: theme.length(random),
+            blocks: if trap.is_some() { BLOCKS } else { blocks },
+            registers: REGISTERS - random.below(5),
+            cost: 1500,
+            trap,
+            must_call: if last { self.to_call(random) } else { vec![] },
+        }
+    }
+}

@@ -1,0 +1,109 @@
+//! Event lists: budgets do what as many single steps do, and buffers are kept to.
+
+use crate::tally::Tally;
+use generator::{accepted, entry, events, words, Event};
+use reference::bounds::BUFFER;
+use reference::{Answer, End, Integer, Program, Refusal, Said, State, Status};
+
+/// A budget done by single steps: the state, the answer and the steps that counted.
+fn by_steps(program: &Program, mut state: State, budget: u32) -> (State, Answer, u32) {
+    if let Status::Ended(end) = state.status {
+        return (state, Answer::Ended(end), 0);
+    }
+    for taken in 0..budget {
+        let (after, said) = state.step(program);
+        state = after;
+        match said {
+            Said::GoesOn => {}
+            Said::Stuck => return (state, Answer::Stuck, taken),
+            Said::Ended(end) => {
+                return (state, Answer::Ended(end), taken + u32::from(end.counts()));
+            }
+        }
+    }
+    (state, Answer::Steps, budget)
+}
+
+/// What the buffer holds after an answer, the rest as it was.
+fn expected_buffer(state: &State, answer: Answer, places: usize) -> Vec<Integer> {
+    let mut buffer = vec![77; places];
+    if let Answer::Ended(End::Vector(length)) = answer {
+        assert_eq!(state.result.len(), length);
+        buffer[..length].copy_from_slice(&state.result);
+    }
+    buffer
+}
+
+/// Does one event, and checks it against single steps; what is met.
+fn act(program: &Program, state: State, event: Event) -> (State, String) {
+    let Event::Budget { budget, places } = event else {
+        let (after, said) = state.step(program);
+        return (after, format!("step: {}", kind(&format!("{said:?}"))));
+    };
+    let mut buffer = vec![77; places];
+    let (after, answer, steps) = state.clone().budget(program, budget, &mut buffer);
+    if places < BUFFER {
+        let (number, offset) = (13, 0);
+        assert_eq!(answer, Answer::Refused(Refusal { number, offset }));
+        assert_eq!((&after, steps), (&state, 0));
+        assert_eq!(buffer, vec![77; places]);
+    } else {
+        let expected = by_steps(program, state, budget);
+        assert_eq!(buffer, expected_buffer(&after, answer, places));
+        assert_eq!((after.clone(), answer, steps), expected);
+    }
+    (after, format!("budget: {}", kind(&format!("{answer:?}"))))
+}
+
+/// An answer without its numbers.
+fn kind(answer: &str) -> String {
+    answer.chars().filter(|c| c.is_alphabetic()).collect()
+}
+
+#[test]
+fn budgets_do_what_single_steps_do_and_write_only_items() {
+    let mut met = Tally::new();
+    for seed in 0..2500 {
+        let program = Program::accept(&accepted(seed)).expect("an accepted image");
+        let Some((function, version)) = entry(seed, &program) else {
+            continue;
+        };
+        let words = words(seed, &program, (function, version));
+        let begun = State::begin(&program, function, version, &words, &[0; BUFFER]);
+        let Ok(mut state) = begun else {
+            continue;
+        };
+        for event in events(seed) {
+            let ended = matches!(state.status, Status::Ended(_));
+            let (after, answer) = act(&program, state, event);
+            state = after;
+            met.meet((if ended { "ended" } else { "running" }, answer));
+        }
+    }
+    println!("{met}");
+    for answer in ["EndedInteger", "EndedVector", "EndedUndef", "EndedDeep"] {
+        for before in ["running", "ended"] {
+            assert!(met.count(&(before, format!("budget: {answer}"))) >= 5);
+            assert!(met.count(&(before, format!("step: {answer}"))) >= 5);
+        }
+    }
+    assert!(met.count(&("running", "budget: Steps".to_string())) >= 50);
+}
+
+#[test]
+fn words_are_sometimes_wrong() {
+    let mut met = Tally::new();
+    for seed in 0..1000 {
+        let program = Program::accept(&accepted(seed)).expect("an accepted image");
+        let Some((function, version)) = entry(seed, &program) else {
+            met.meet("no entry");
+            continue;
+        };
+        let words = words(seed, &program, (function, version));
+        let begun = State::begin(&program, function, version, &words, &[0; BUFFER]);
+        met.meet(if begun.is_ok() { "begun" } else { "refused" });
+    }
+    println!("{met}");
+    assert!(met.count(&"begun") > 700);
+    assert!(met.count(&"refused") > 20);
+}

@@ -1,0 +1,9 @@
+//! What generated images, words and event lists are like, over many seeds.
+
+mod accepted;
+mod broken;
+mod damaged;
+mod events;
+mod round_trip;
+mod runs;
+mod tally;
