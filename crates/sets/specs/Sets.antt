@@ -28,6 +28,7 @@ both f [] t = map (f false) t
 both f (a ∷ s) [] = map (λ x. f x false) (a ∷ s)
 both f (a ∷ s) (b ∷ t) = f a b ∷ both f s t
 
+-- in one or the other, in one but not in the other
 infixl 60 _∪_
 abbrev pub _∪_ : Set → Set → Set
 s ∪ t = both _||_ s t
@@ -46,10 +47,11 @@ unfoldable pub inhabited : Set → Bool
 inhabited [] = false
 inhabited (b ∷ s) = b || inhabited s
 
+-- is a register in both?
 abbrev pub meets : Set → Set → Bool
 meets s t = inhabited (both _&&_ s t)
 
--- does it hold the first n registers at most?
+-- does it lie within the first n registers?
 abbrev pub below : ℕ → Set → Bool
 below n s = not (inhabited (drop n s))
 
@@ -58,7 +60,7 @@ unfoldable pub size : Set → ℕ
 size [] = 0
 size (b ∷ s) = cond b 1 0 + size s
 
--- the set of k registers that a mask is: its k lowest digits
+-- the set of k registers that a mask is: its k lowest binary digits
 unfoldable pub setOf : ℕ → ℕ → Set
 setOf zero m = []
 setOf (suc k) m = eqb (m % 2) 1 ∷ setOf k (m / 2)

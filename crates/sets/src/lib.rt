@@ -2,8 +2,8 @@
 ghost use mathlib.Core.Path.{_≡_};
 ghost use Rattle.sets.specs.Sets.{setOf, _∪_, _∖_, meets, below, only, has, size};
 
-/// The registers that a mask has a digit for.
-pub const REGISTERS: usize = 16;
+/// The binary digits of a mask: one for each register.
+pub const WIDTH: usize = 16;
 
 /// The registers in `a`, in `b` or in both.
 pub fn union(a: u16, b: u16) -> u16
@@ -20,39 +20,35 @@ pub fn difference(a: u16, b: u16) -> u16
 }
 
 /// Is a register in both?
-pub fn meet(a: u16, b: u16) -> bool
+pub fn meets(a: u16, b: u16) -> bool
     ensures { λ r. ⌜ r ≡ meets (setOf 16 a) (setOf 16 b) ⌝ }
 {
     a & b != 0
 }
 
 /// Are all in `a` among the first `n` registers? From 16 on every set is.
-pub fn is_below(a: u16, n: usize) -> bool
+pub fn below(a: u16, n: usize) -> bool
     ensures { λ r. ⌜ r ≡ below n (setOf 16 a) ⌝ }
 {
-    if n < REGISTERS { a >> n == 0 } else { true }
+    if n < WIDTH { a >> n == 0 } else { true }
 }
 
 /// The register `r` alone; the empty set where `r` is 16 or more.
-pub fn single(r: usize) -> u16
+pub fn only(r: usize) -> u16
     ensures { λ m. ⌜ setOf 16 m ≡ only 16 r ⌝ }
 {
-    if r < REGISTERS { 1u16 << r } else { 0 }
+    if r < WIDTH { 1u16 << r } else { 0 }
 }
 
 /// Is `r` in `a`? A number of 16 or more is in no set.
-pub fn contains(a: u16, r: usize) -> bool
+pub fn has(a: u16, r: usize) -> bool
     ensures { λ m. ⌜ m ≡ has (setOf 16 a) r ⌝ }
 {
-    if r < REGISTERS {
-        (a >> r) % 2 == 1
-    } else {
-        false
-    }
+    if r < WIDTH { (a >> r) % 2 == 1 } else { false }
 }
 
 /// How many registers are in `a`.
-pub fn count(a: u16) -> u32
+pub fn size(a: u16) -> u32
     ensures { λ r. ⌜ r ≡ size (setOf 16 a) ⌝ }
 {
     u16::count_ones(a)

@@ -1,7 +1,7 @@
--- `sets::contains`: the digit r is the lowest one after a shift by r.
+-- `sets::has`: the digit r is the lowest one after a shift by r.
 use Rattle.sets.proofs.Masks.{has-digit, has-outside}
-use Rattle.sets.proofs.contains.Statement.{statement}
-use Rattle.sets.proofs.contains.Tie as tie
+use Rattle.sets.proofs.has.Statement.{statement}
+use Rattle.sets.proofs.has.Tie as tie
 use borrow.Author.Needs.{needs}
 use mathlib.Core.Path.{sym}
 
@@ -19,5 +19,5 @@ returns-2 : tie.Need-returns-2
 returns-2 c =
     sym (has-outside 16 _ _ ((c .if1) .left))
 
-pub contains-spec : {M : Type 1} → statement M
-contains-spec = tie.close (tie.spec cast-result shr-result returns returns-2)
+pub has-spec : {M : Type 1} → statement M
+has-spec = tie.close (tie.spec cast-result shr-result returns returns-2)

@@ -1,7 +1,7 @@
--- `sets::single`: 1 shifted by r has the digit r alone.
+-- `sets::only`: 1 shifted by r has the digit r alone.
 use Rattle.sets.proofs.Masks.{set-single, set-empty, only-outside}
-use Rattle.sets.proofs.single.Statement.{statement}
-use Rattle.sets.proofs.single.Tie as tie
+use Rattle.sets.proofs.only.Statement.{statement}
+use Rattle.sets.proofs.only.Tie as tie
 use Rattle.sets.specs.Sets.{setOf}
 use borrow.Author.Needs.{needs}
 use lib.Pow.{pow-lt}
@@ -22,5 +22,5 @@ returns-2 : tie.Need-returns-2
 returns-2 c =
     set-empty 16 ∙ sym (only-outside 16 _ ((c .if1) .left))
 
-pub single-spec : {M : Type 1} → statement M
-single-spec = tie.close (tie.spec cast-result shl-result returns returns-2)
+pub only-spec : {M : Type 1} → statement M
+only-spec = tie.close (tie.spec cast-result shl-result returns returns-2)

@@ -1,7 +1,7 @@
--- `sets::is_below`: what is left of a mask after a shift by n is its registers from n on.
+-- `sets::below`: what is left of a mask after a shift by n is its registers from n on.
 use Rattle.sets.proofs.Masks.{inhabited-past, inhabited-none}
-use Rattle.sets.proofs.is_below.Statement.{statement}
-use Rattle.sets.proofs.is_below.Tie as tie
+use Rattle.sets.proofs.below.Statement.{statement}
+use Rattle.sets.proofs.below.Tie as tie
 use borrow.Author.Needs.{needs}
 use mathlib.Core.Bool.{not, Bool·not-not}
 use mathlib.Core.Path.{sym, ap, _∙_}
@@ -20,5 +20,5 @@ returns-2 : tie.Need-returns-2
 returns-2 c =
     sym (ap not (inhabited-none _ 16 _ ((c .if1) .left)))
 
-pub is-below-spec : {M : Type 1} → statement M
-is-below-spec = tie.close (tie.spec cast-result shr-result returns returns-2)
+pub below-spec : {M : Type 1} → statement M
+below-spec = tie.close (tie.spec cast-result shr-result returns returns-2)
