@@ -12,7 +12,7 @@ use Rattle.program.specs.Search.{first}
 use Rattle.program.specs.Questions.{question7}
 use Rattle.typing.specs.Questions.{question6}
 
--- the question of this number, put to an image
+-- the question of this number, put to an image by itself: where records are not whole, 2 to 5 say no, while 6 and 7 speak of the program before them
 unfoldable pub question : ℕ → List ℕ → Found
 question n s =
     let P = program (records s) in

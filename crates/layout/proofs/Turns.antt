@@ -9,7 +9,8 @@ use lib.ListN.{length}
 use borrow.Author.Tests.{lt-ltb, le-ltb, ne-eqb}
 use Rattle.layout.specs.Tests.{_and_}
 use Rattle.layout.specs.Records.{recAt}
-use Rattle.layout.specs.Questions.{turnOf, noneDue, lastAt}
+use Rattle.layout.specs.Questions.{noneDue}
+use Rattle.layout.specs.Turns.{turnOf, lastAt}
 use Rattle.layout.specs.declared.Due.{Due}
 use Rattle.layout.specs.declared.Turn.the-variants.{Next, Refused}
 use Rattle.layout.specs.declared.Found.the-variants.{Nothing, At}

@@ -1,4 +1,4 @@
--- Image: the bounds, each named once.
+-- Image: the bounds, each named once. FUNCTIONS, VERSIONS, NAMES, MARKS and OPERATIONS count numbers from 0 on; the others are greatest counts.
 use Prim.Native.Nat.{ℕ}
 
 -- bytes of an image

@@ -4,3 +4,4 @@ pub mod Tests
 pub mod Records
 pub mod Scan
 pub mod Questions
+pub mod Turns

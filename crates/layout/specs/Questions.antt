@@ -8,13 +8,11 @@ use lib.Dec.{ltb, leb, eqb}
 use Rattle.layout.specs.Bounds.{IMAGE, FUNCTIONS, VERSIONS, ALL-VERSIONS, REGISTERS, PARAMETERS, BLOCKS, INSTRUCTIONS, OPERANDS, MARKS, OPERATIONS}
 use Rattle.layout.specs.Kinds as kind
 use Rattle.layout.specs.Tests.{_and_}
-use Rattle.layout.specs.Records.{Rec, _!_, recAt, choose}
+use Rattle.layout.specs.Records.{Rec, _!_, choose}
 use Rattle.layout.specs.Scan.{scan}
 use Rattle.layout.specs.declared.Found.{Found}
 use Rattle.layout.specs.declared.Found.the-variants.{Nothing, At}
 use Rattle.layout.specs.declared.Due.{Due}
-use Rattle.layout.specs.declared.Turn.{Turn}
-use Rattle.layout.specs.declared.Turn.the-variants.{Next, Refused}
 
 -- 1: has the image 1..32,768 bytes?
 unfoldable pub question1 : List ℕ → Found
@@ -34,7 +32,7 @@ whole st r = true
 unfoldable pub question2 : List Rec → Found
 question2 rs = scan whole same nothing tt rs
 
--- the length that a kind and its fields make; no record has length 0
+-- the length that a kind and its fields make; 0, which no record has, where the kind is not known
 unfoldable pub lengthOf : ℕ → List ℕ → ℕ
 lengthOf k b = choose k 0 (
     (kind.VERSION, 10 + b ! 3) ∷
@@ -67,15 +65,15 @@ unfoldable pub question3 : List Rec → Found
 question3 rs = scan fitting same nothing tt rs
 
 -- a VERSION's numbers and counts: function, version, parameters, registers, blocks
-unfoldable pub numbered : List ℕ → Bool
-numbered b =
+unfoldable pub versionInBounds : List ℕ → Bool
+versionInBounds b =
     ltb (b ! 0) FUNCTIONS and ltb (b ! 1) VERSIONS and leb (b ! 2) PARAMETERS and leb (b ! 2) (b ! 3)
     and ltb 0 (b ! 3) and leb (b ! 3) REGISTERS and ltb 0 (b ! 5) and leb (b ! 5) BLOCKS
 
 -- the bounds that question 4 names: a VERSION's, marks, instruction counts, n and op
 unfoldable pub inBounds : ℕ → List ℕ → Bool
 inBounds k b = choose k true (
-    (kind.VERSION, numbered b) ∷
+    (kind.VERSION, versionInBounds b) ∷
     (kind.BLOCK, ltb (b ! 0) MARKS and leb (b ! 2) INSTRUCTIONS) ∷
     (kind.VEC, leb (b ! 1) OPERANDS) ∷
     (kind.ARITH, ltb (b ! 1) OPERATIONS) ∷
@@ -123,12 +121,3 @@ following before r = not (eqb (r .kind) kind.VERSION) || follows before (r .body
 
 unfoldable pub question5 : List Rec → Found
 question5 rs = scan following lastVersion nothing none rs
-
--- the record at an offset that the code keeps; none stands at the end of the image or past it
-unfoldable pub lastAt : List ℕ → ℕ → Option Rec
-lastAt s p = cond (ltb p (length s)) (some (recAt s p)) none
-
--- what question 4 says to a record, as the code says it
-abbrev pub turnOf : Bool → Due → Turn
-turnOf true due = Next due
-turnOf false due = Refused

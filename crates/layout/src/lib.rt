@@ -6,7 +6,8 @@ ghost use lib.Dec.{eqb};
 ghost use lib.ListN.{length};
 ghost use Rattle.layout.specs.Tests.{_and_};
 ghost use Rattle.layout.specs.Records.{_!_, u16At, sizeAt, kindAt, bodyAt, recAt, records};
-ghost use Rattle.layout.specs.Questions.{question1, question2, question3, question4, question5, lengthOf, fitting, numbered, inBounds, inOrder, placed, dueAfter, follows, following, lastAt, turnOf};
+ghost use Rattle.layout.specs.Questions.{question1, question2, question3, question4, question5, lengthOf, fitting, versionInBounds, inBounds, inOrder, placed, dueAfter, follows, following};
+ghost use Rattle.layout.specs.Turns.{lastAt, turnOf};
 
 pub mod bounds;
 pub mod kinds;
@@ -168,7 +169,7 @@ pub enum Turn {
 
 /// Are the function, version, parameters, registers and blocks of the VERSION at `p` in bounds?
 fn version_in_bounds(image: &[u8], p: usize) -> bool
-    ensures { λ r. ⌜ r ≡ numbered (bodyAt (now (image .entry)) p) ⌝ }
+    ensures { λ r. ⌜ r ≡ versionInBounds (bodyAt (now (image .entry)) p) ⌝ }
 {
     if bounds::FUNCTIONS <= field(image, p, 0) {
         return false;

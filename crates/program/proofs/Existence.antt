@@ -16,7 +16,7 @@ use Rattle.layout.proofs.Rows.{Rows, choose-each}
 use Rattle.program.specs.Program.{Argument, Instr, Line, View, nowhere, arguments, instrOf}
 use Rattle.program.proofs.Forms.{argument-registers}
 use Rattle.program.specs.Places.{viewAt, past, versionAt, blockAt, instrAt, blockPlace}
-use Rattle.program.specs.Questions.{names, namings}
+use Rattle.program.specs.Questions.{namesBlock, namings}
 use Rattle.layout.specs.declared.Found.the-variants.{Nothing, At}
 use Rattle.program.proofs.Lookups.{block-found, block-missing}
 use Rattle.program.proofs.Views.{view-end, Whole, at-version, at-block, at-line}
@@ -47,14 +47,14 @@ block-lacks s v b e = get-none (versionAt s v .blocks) b (block-missing s v b e)
 -- ---- PROMs that name a block
 
 -- only a PROM names a block
-pub names-none : (n k : ℕ) (b : List ℕ) → (k ≡ kind.PROM → ⊥) → names n (instrOf k b) ≡ false
-unfolding names instrOf Rows
-names-none n k b h = choose-each (λ (i : Instr). names n i ≡ false) k _ _ refl
+pub names-none : (n k : ℕ) (b : List ℕ) → (k ≡ kind.PROM → ⊥) → namesBlock n (instrOf k b) ≡ false
+unfolding namesBlock instrOf Rows
+names-none n k b h = choose-each (λ (i : Instr). namesBlock n i ≡ false) k _ _ refl
     (λ e. refl, (λ e. refl, (λ e. refl, (λ e. refl, (λ e. refl, (λ e. refl, (λ e. refl, (λ e. refl, (λ e. refl, (λ e. refl, (λ e. refl, (λ e. refl, (λ e. absurd (h e), (λ e. refl, (λ e. refl, (λ e. refl, (λ e. refl, (λ e. refl, tt))))))))))))))))))
 
 -- how many name the block n, of what is seen; before the first block of a version no instruction counts
 unfoldable pub namingsSeen : ℕ → Bool → View → ℕ
-namingsSeen n begun w = cond begun (count (λ (l : Line). names n (l .does)) (w .code)) 0 + namings n (w .blocks)
+namingsSeen n begun w = cond begun (count (λ (l : Line). namesBlock n (l .does)) (w .code)) 0 + namings n (w .blocks)
 
 pub none-seen : (n : ℕ) (begun : Bool) → namingsSeen n begun nowhere ≡ 0
 unfolding namingsSeen namings count
@@ -83,14 +83,14 @@ module _ {s : List ℕ} {p m k : ℕ} (w : Whole s p m k) (n : ℕ) where
   unfolding namingsSeen
   seen-stray x y = rw (at-line w x y)
 
-  seen-line : (k ≡ kind.VERSION → ⊥) → (k ≡ kind.BLOCK → ⊥) → namingsSeen n true (viewAt s p) ≡ cond (names n (instrAt s p)) 1 0 + namingsSeen n true (viewAt s (p + m))
+  seen-line : (k ≡ kind.VERSION → ⊥) → (k ≡ kind.BLOCK → ⊥) → namingsSeen n true (viewAt s p) ≡ cond (namesBlock n (instrAt s p)) 1 0 + namingsSeen n true (viewAt s (p + m))
   unfolding namingsSeen count instrAt
   seen-line x y = rw (at-line w x y) (omega arith)
 
-  pub seen-named : (k ≡ kind.VERSION → ⊥) → (k ≡ kind.BLOCK → ⊥) → names n (instrAt s p) ≡ true → namingsSeen n true (viewAt s p) ≡ 1 + namingsSeen n true (viewAt s (p + m))
+  pub seen-named : (k ≡ kind.VERSION → ⊥) → (k ≡ kind.BLOCK → ⊥) → namesBlock n (instrAt s p) ≡ true → namingsSeen n true (viewAt s p) ≡ 1 + namingsSeen n true (viewAt s (p + m))
   seen-named x y e = seen-line x y ∙ rw e
 
-  pub seen-other : (k ≡ kind.VERSION → ⊥) → (k ≡ kind.BLOCK → ⊥) → names n (instrAt s p) ≡ false → namingsSeen n true (viewAt s p) ≡ namingsSeen n true (viewAt s (p + m))
+  pub seen-other : (k ≡ kind.VERSION → ⊥) → (k ≡ kind.BLOCK → ⊥) → namesBlock n (instrAt s p) ≡ false → namingsSeen n true (viewAt s p) ≡ namingsSeen n true (viewAt s (p + m))
   seen-other x y e = seen-line x y ∙ rw (e, zero-add)
 
 -- the registers of a DISPATCH's pairs are every second field

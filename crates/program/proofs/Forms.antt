@@ -9,7 +9,7 @@ use Rattle.layout.specs.Records.{_!_, every, fields, choose, kindAt, bodyAt}
 use Rattle.layout.proofs.Rows.{Rows, choose-each}
 use Rattle.program.specs.Program.{Argument, Instr, arguments, instrOf}
 use Rattle.program.specs.Places.{instrAt}
-use Rattle.program.specs.Shapes.{operandsOf, operandTypes}
+use Rattle.program.specs.Shapes.{listedRegisters, listedTypes}
 
 pub length-arguments : (b : List ℕ) (k n : ℕ) → length (arguments b k n) ≡ n
 unfolding arguments
@@ -30,28 +30,28 @@ argument-registers b k (suc n) = let e : k + 2 + 1 ≡ k + 1 + 2 = omega arith i
 -- ---- operands, by the kind of their record
 
 module _ (s : List ℕ) (p i : ℕ) {k : ℕ} (e : k ≡ kindAt s p) where
-  pub operand-vec : k ≡ kind.VEC → operandsOf (instrAt s p) ! i ≡ fields (bodyAt s p) 2 (bodyAt s p ! 1) ! i
-  unfolding operandsOf instrAt instrOf choose
+  pub operand-vec : k ≡ kind.VEC → listedRegisters (instrAt s p) ! i ≡ fields (bodyAt s p) 2 (bodyAt s p ! 1) ! i
+  unfolding listedRegisters instrAt instrOf choose
   operand-vec x = simp (sym e ∙ x)
 
-  pub operand-call : k ≡ kind.CALL → operandsOf (instrAt s p) ! i ≡ fields (bodyAt s p) 4 (bodyAt s p ! 3) ! i
-  unfolding operandsOf instrAt instrOf choose
+  pub operand-call : k ≡ kind.CALL → listedRegisters (instrAt s p) ! i ≡ fields (bodyAt s p) 4 (bodyAt s p ! 3) ! i
+  unfolding listedRegisters instrAt instrOf choose
   operand-call x = simp (sym e ∙ x)
 
-  pub operand-dispatch : k ≡ kind.DISPATCH → operandsOf (instrAt s p) ! i ≡ every (bodyAt s p) 6 2 (bodyAt s p ! 4) ! i
-  unfolding operandsOf instrAt instrOf choose
+  pub operand-dispatch : k ≡ kind.DISPATCH → listedRegisters (instrAt s p) ! i ≡ every (bodyAt s p) 6 2 (bodyAt s p ! 4) ! i
+  unfolding listedRegisters instrAt instrOf choose
   operand-dispatch x = simp (sym e ∙ x, argument-registers)
 
-  pub no-operand : (k ≡ kind.VEC → ⊥) → (k ≡ kind.CALL → ⊥) → (k ≡ kind.DISPATCH → ⊥) → operandsOf (instrAt s p) ! i ≡ 0
-  unfolding operandsOf instrAt instrOf Rows
-  no-operand x y z = rw (← e) (choose-each (λ (j : Instr). operandsOf j ! i ≡ 0) k _ _ refl
+  pub no-operand : (k ≡ kind.VEC → ⊥) → (k ≡ kind.CALL → ⊥) → (k ≡ kind.DISPATCH → ⊥) → listedRegisters (instrAt s p) ! i ≡ 0
+  unfolding listedRegisters instrAt instrOf Rows
+  no-operand x y z = rw (← e) (choose-each (λ (j : Instr). listedRegisters j ! i ≡ 0) k _ _ refl
       (λ h. refl, (λ h. refl, (λ h. refl, (λ h. absurd (x h), (λ h. refl, (λ h. refl, (λ h. refl, (λ h. refl, (λ h. refl, (λ h. refl, (λ h. refl, (λ h. refl, (λ h. refl, (λ h. refl, (λ h. refl, (λ h. refl, (λ h. absurd (y h), (λ h. absurd (z h), tt)))))))))))))))))))
 
-  pub type-dispatch : k ≡ kind.DISPATCH → operandTypes (instrAt s p) ! i ≡ every (bodyAt s p) 5 2 (bodyAt s p ! 4) ! i
-  unfolding operandTypes instrAt instrOf choose
+  pub type-dispatch : k ≡ kind.DISPATCH → listedTypes (instrAt s p) ! i ≡ every (bodyAt s p) 5 2 (bodyAt s p ! 4) ! i
+  unfolding listedTypes instrAt instrOf choose
   type-dispatch x = simp (sym e ∙ x, argument-types)
 
-  pub no-type : (k ≡ kind.DISPATCH → ⊥) → operandTypes (instrAt s p) ! i ≡ 0
-  unfolding operandTypes instrAt instrOf Rows
-  no-type z = rw (← e) (choose-each (λ (j : Instr). operandTypes j ! i ≡ 0) k _ _ refl
+  pub no-type : (k ≡ kind.DISPATCH → ⊥) → listedTypes (instrAt s p) ! i ≡ 0
+  unfolding listedTypes instrAt instrOf Rows
+  no-type z = rw (← e) (choose-each (λ (j : Instr). listedTypes j ! i ≡ 0) k _ _ refl
       (λ h. refl, (λ h. refl, (λ h. refl, (λ h. refl, (λ h. refl, (λ h. refl, (λ h. refl, (λ h. refl, (λ h. refl, (λ h. refl, (λ h. refl, (λ h. refl, (λ h. refl, (λ h. refl, (λ h. refl, (λ h. refl, (λ h. refl, (λ h. absurd (z h), tt)))))))))))))))))))

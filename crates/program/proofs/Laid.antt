@@ -12,7 +12,7 @@ use Rattle.layout.specs.Kinds as kind
 use Rattle.layout.specs.Tests.{_and_}
 use Rattle.layout.specs.Records.{Rec, _!_, choose, every}
 use Rattle.layout.specs.Scan.{scan}
-use Rattle.layout.specs.Questions.{numbered, inBounds, inOrder, dueAfter, noneDue, placed, question4}
+use Rattle.layout.specs.Questions.{versionInBounds, inBounds, inOrder, dueAfter, noneDue, placed, question4}
 use Rattle.layout.specs.declared.Found.{Found}
 use Rattle.layout.specs.declared.Found.the-variants.{Nothing, At}
 use Rattle.layout.specs.declared.Due.{Due}
@@ -85,8 +85,8 @@ one-block : (v : Version) (n : ℕ) (b : Block) (bs : List Block) (more : Found)
 unfolding firstBlock
 one-block v n b bs more h ls ih = rw h (ls _ ∙ ih)
 
-version-inside : (r : Rec) (bs : List Block) → numbered (r .body) ≡ true → length bs ≡ r .body ! 5 → versionBounded (versionOf r bs) ≡ true
-unfolding numbered versionBounded
+version-inside : (r : Rec) (bs : List Block) → versionInBounds (r .body) ≡ true → length bs ≡ r .body ! 5 → versionBounded (versionOf r bs) ≡ true
+unfolding versionInBounds versionBounded
 version-inside r bs h e = rw (length-every (r .body) 6 1 (r .body ! 3), e) h
 
 -- the bounds of a record, by its kind

@@ -134,34 +134,35 @@ module _ {s : List ℕ} {p n k : ℕ} (m : Whole s p n k) (q : Question) (h : He
       go true zero true e = absurd (true≢false (sym e))
       go true (suc l) true e = let less : suc l - 1 ≡ l = omega arith in rw less (at-a-line q (versionAt s (h .version)) (viewAt s (p + n)) l (lineOf (recAt s p)))
 
-  meets : leftAt q s h p ≡ onward q s (movedTo s h p) p n
+  meets : h .blocks < length s → leftAt q s h p ≡ onward q s (movedTo s h p) p n
   unfolding movedTo choose
-  meets = go (eqb k kind.VERSION) (eqb k kind.BLOCK) refl refl
+  meets f = go (eqb k kind.VERSION) (eqb k kind.BLOCK) refl refl
     where
       go : (a b : Bool) → eqb k kind.VERSION ≡ a → eqb k kind.BLOCK ≡ b → leftAt q s h p ≡ onward q s (movedTo s h p) p n
       go true b ea eb = let e : kindAt s p ≡ kind.VERSION = sym (m .kind) ∙ eqb-true k kind.VERSION ea in version-case (eqb-true k kind.VERSION ea) ∙ simp e
-      go false true ea eb = let e : kindAt s p ≡ kind.BLOCK = sym (m .kind) ∙ eqb-true k kind.BLOCK eb in block-case (eqb-true k kind.BLOCK eb) ∙ simp e
+      go false true ea eb = let e : kindAt s p ≡ kind.BLOCK = sym (m .kind) ∙ eqb-true k kind.BLOCK eb in block-case (eqb-true k kind.BLOCK eb) ∙ simp (e, lt-ltb (h .blocks) (length s) f)
       go false false ea eb = line-case (eqb-false k kind.VERSION ea) (eqb-false k kind.BLOCK eb) ∙ simp (← m .kind, ea, eb)
 
 -- blocks begun
 moved-few : (s : List ℕ) (h : Here) (p : ℕ) → h .blocks ≤ p → movedTo s h p .blocks ≤ p + 1
 unfolding movedTo choose
-moved-few s h p e = go (eqb (kindAt s p) kind.VERSION) (eqb (kindAt s p) kind.BLOCK)
+moved-few s h p e = go (eqb (kindAt s p) kind.VERSION) (eqb (kindAt s p) kind.BLOCK) (ltb (h .blocks) (length s))
   where
-    go : (a b : Bool) → cond {A = Here} a (record { version = p; blocks = 0 }) (cond b (record { version = h .version; blocks = h .blocks + 1 }) h) .blocks ≤ p + 1
-    go true b = omega arith
-    go false true = omega arith
-    go false false = omega arith
+    go : (a b c : Bool) → cond {A = Here} a (record { version = p; blocks = 0 }) (cond b (record { version = h .version; blocks = cond c (h .blocks + 1) (h .blocks) }) h) .blocks ≤ p + 1
+    go true b c = omega arith
+    go false true true = omega arith
+    go false true false = omega arith
+    go false false c = omega arith
 
 module _ {q : Question} {answer : Found} {s : List ℕ} {p n k : ℕ} {h g : Here} (a : Asking q answer s p h) (m : Whole s p n k) (e : g ≡ movedTo s h p) where
   pub say-no : asked q s g p ≡ false → At p ≡ answer
-  say-no r = sym (a .left ∙ meets m q h ∙ rw (← e, r))
+  say-no r = sym (a .left ∙ meets m q h (omega (arith, a .few, m .inside)) ∙ rw (← e, r))
 
   pub go-on : asked q s g p ≡ true → Asking q answer s (p + n) g
   go-on r = record {
     inside = rw (m .size) (size-room s p (a .inside));
     few = rw e (omega (arith, moved-few s h p (a .few), m .whole));
-    left = a .left ∙ meets m q h ∙ rw (← e, r);
+    left = a .left ∙ meets m q h (omega (arith, a .few, m .inside)) ∙ rw (← e, r);
   }
 
 -- ---- what is asked of a record, by its kind

@@ -16,15 +16,12 @@ use Rattle.layout.specs.Tests.{_and_, any}
 use Rattle.layout.specs.Records.{_!_, sizeAt, kindAt, bodyAt, records}
 use Rattle.layout.specs.declared.Found.{Found}
 use Rattle.layout.specs.declared.Found.the-variants.{Nothing, At}
-use Rattle.program.specs.Program.{Version, Program, View, nowhere, program, findVersion}
-use Rattle.program.specs.Places.{viewAt, versionAt, versionPlace, offsetOf, numbers, entry, tableOf, slotOf}
+use Rattle.program.specs.Program.{Version, Program, View, nowhere, program, findVersion, hasFunction}
+use Rattle.program.specs.Places.{viewAt, versionAt, versionPlace, offsetOf, numbers, tableEntry, tableOf, slotOf, placeIn, listedIn, functionIn}
 use Rattle.program.proofs.Views.{Whole, at-version, at-block, at-line}
 use Rattle.program.proofs.Lookups.{versionFrom, version-nowhere, version-here, version-later, version-found, isVersion}
 
 -- ---- functions
-
-abbrev pub hasFunction : ℕ → Program → Bool
-hasFunction f P = any (λ (c : Version). eqb (c .function) f) P
 
 pub function-nowhere : (s : List ℕ) (p f : ℕ) → viewAt s p ≡ nowhere → hasFunction f (viewAt s p .versions) ≡ false
 unfolding any
@@ -95,9 +92,9 @@ numbers-length k zero f = refl
 numbers-length k (suc n) f = ap suc (numbers-length (k + 1) n f)
 
 -- the entry k of the table
-pub table-at : (s : List ℕ) (k : ℕ) → k < 128 → getD (tableOf s) k 0 ≡ entry s k
+pub table-at : (s : List ℕ) (k : ℕ) → k < 128 → getD (tableOf s) k 0 ≡ tableEntry s k
 unfolding tableOf
-table-at s k h = numbers-at 0 128 k h (entry s) ∙ ap (entry s) (omega arith)
+table-at s k h = numbers-at 0 128 k h (tableEntry s) ∙ ap (tableEntry s) (omega arith)
 
 -- the rest of an entry, where the records from p on are still to be seen and t stands in the table
 abbrev rest : List ℕ → ℕ → ℕ → ℕ → ℕ
@@ -106,15 +103,15 @@ rest s p k t = cond (eqb t (length s)) (offsetOf s (versionFrom s p (k / 4) (k %
 -- The table is filled with the versions before p.
 pub record Filled (s : List ℕ) (p : ℕ) (t : List ℕ) : Type 0 where
   pub size : length t ≡ 128
-  pub entries : (k : ℕ) → k < 128 → entry s k ≡ rest s p k (getD t k 0)
+  pub entries : (k : ℕ) → k < 128 → tableEntry s k ≡ rest s p k (getD t k 0)
 
 filled-first : (s t : List ℕ) → length t ≡ 128 → ((k : ℕ) → k < 128 → getD t k 0 ≡ length s) → Filled s 0 t
-unfolding entry versionFrom versionPlace
+unfolding tableEntry versionFrom versionPlace
 filled-first s t l h = record { size = l; entries = λ k b. rw (eq-eqb (getD t k 0) (length s) (h k b)) }
 
 pub filled-last : (s : List ℕ) (p : ℕ) (t : List ℕ) → Filled s p t → viewAt s p ≡ nowhere → t ≡ tableOf s
 unfolding tableOf offsetOf
-filled-last s p t h e = sym (ext-getD 0 (tableOf s) t (numbers-length 0 128 (entry s) ∙ sym (h .size)) (λ k b. at k (subst (λ (n : ℕ). k < n) (numbers-length 0 128 (entry s)) b)))
+filled-last s p t h e = sym (ext-getD 0 (tableOf s) t (numbers-length 0 128 (tableEntry s) ∙ sym (h .size)) (λ k b. at k (subst (λ (n : ℕ). k < n) (numbers-length 0 128 (tableEntry s)) b)))
   where
     done : (k : ℕ) (b : Bool) → eqb (getD t k 0) (length s) ≡ b → cond b (offsetOf s Nothing) (getD t k 0) ≡ getD t k 0
     done k true x = sym (eqb-true (getD t k 0) (length s) x)
@@ -135,7 +132,7 @@ module _ {s : List ℕ} {p n : ℕ} {t : List ℕ} (m : Whole s p n (kindAt s p)
   pub filled-again : slotOf s p < 128 → (getD t (slotOf s p) 0 ≡ length s → ⊥) → Filled s (p + n) t
   filled-again o z = record { size = h .size; entries = λ k b. go k b (eqb (slotOf s p) k) refl }
     where
-      go : (k : ℕ) → k < 128 → (a : Bool) → eqb (slotOf s p) k ≡ a → entry s k ≡ rest s (p + n) k (getD t k 0)
+      go : (k : ℕ) → k < 128 → (a : Bool) → eqb (slotOf s p) k ≡ a → tableEntry s k ≡ rest s (p + n) k (getD t k 0)
       go k b true e =
           let i : slotOf s p ≡ k = eqb-true (slotOf s p) k e in
           let y : eqb (getD t k 0) (length s) ≡ false = rw i at (ne-eqb (getD t (slotOf s p) 0) (length s) z) in
@@ -147,7 +144,7 @@ module _ {s : List ℕ} {p n : ℕ} {t : List ℕ} (m : Whole s p n (kindAt s p)
   unfolding offsetOf
   filled-here o z = record { size = simp length-set (h .size); entries = λ k b. go k b (eqb (slotOf s p) k) refl }
     where
-      go : (k : ℕ) → k < 128 → (a : Bool) → eqb (slotOf s p) k ≡ a → entry s k ≡ rest s (p + n) k (getD (set t (slotOf s p) p) k 0)
+      go : (k : ℕ) → k < 128 → (a : Bool) → eqb (slotOf s p) k ≡ a → tableEntry s k ≡ rest s (p + n) k (getD (set t (slotOf s p) p) k 0)
       go k b true e =
           let i : k ≡ slotOf s p = sym (eqb-true (slotOf s p) k e) in
           let there : getD (set t (slotOf s p) p) k 0 ≡ p = rw i (getD-set-same t (slotOf s p) p 0 (rw (h .size) o)) in
@@ -162,19 +159,19 @@ module _ {s : List ℕ} {p n : ℕ} {t : List ℕ} (m : Whole s p n (kindAt s p)
 -- ---- look-up in the table
 
 -- the entry of the version w of the function f
-pub listed-at : (s t : List ℕ) (f w : ℕ) → t ≡ tableOf s → f < 32 → w < 4 → offsetOf s (versionPlace s f w) ≡ getD t (4 * f + w) 0
-unfolding entry
+listed-at : (s t : List ℕ) (f w : ℕ) → t ≡ tableOf s → f < 32 → w < 4 → offsetOf s (versionPlace s f w) ≡ getD t (4 * f + w) 0
+unfolding tableEntry
 listed-at s t f w e hf hw =
     let i : (4 * f + w) / 4 ≡ f = omega arith in
     let j : (4 * f + w) % 4 ≡ w = omega arith in
     sym (ap (λ (l : List ℕ). getD l (4 * f + w) 0) e ∙ table-at s (4 * f + w) (omega arith) ∙ simp (i, j))
 
-pub offset-inside : (s : List ℕ) (o : Found) (q : ℕ) → offsetOf s o ≡ q → q < length s → o ≡ At q
+offset-inside : (s : List ℕ) (o : Found) (q : ℕ) → offsetOf s o ≡ q → q < length s → o ≡ At q
 unfolding offsetOf
 offset-inside s Nothing q e h = absurd (omega arith)
 offset-inside s (At p) q e h = ap At e
 
-pub offset-outside : (s : List ℕ) (f w : ℕ) → length s ≤ offsetOf s (versionPlace s f w) → versionPlace s f w ≡ Nothing
+offset-outside : (s : List ℕ) (f w : ℕ) → length s ≤ offsetOf s (versionPlace s f w) → versionPlace s f w ≡ Nothing
 unfolding offsetOf
 offset-outside s f w h = go (versionPlace s f w) refl h
   where
@@ -191,9 +188,34 @@ find-function (x ∷ P) f w v e = go (eqb (x .function) f) (eqb (x .version) w) 
     go true b ih g = refl
     go false b ih g = ih g
 
-pub function-listed : (s : List ℕ) (f w q : ℕ) → versionPlace s f w ≡ At q → hasFunction f (program (records s)) ≡ true
+function-listed : (s : List ℕ) (f w q : ℕ) → versionPlace s f w ≡ At q → hasFunction f (program (records s)) ≡ true
 function-listed s f w q e = find-function (program (records s)) f w (versionAt s q) (version-found s f w q e .0)
 
 -- a table in which every entry is the image length
 pub filled-empty : (s : List ℕ) → Filled s 0 (replicate 128 (length s))
 filled-empty s = filled-first s (replicate 128 (length s)) (length-replicate 128 (length s)) (λ k h. getD-replicate 128 k (length s) 0 h)
+
+-- THE LAW of the table: by the image's own table each version and each function is found
+pub listed-right : (s t : List ℕ) (f w : ℕ) → t ≡ tableOf s → listedIn s t f w ≡ versionPlace s f w
+unfolding listedIn placeIn _and_
+listed-right s t f w e = go (ltb f 32) (ltb w 4) refl refl
+  where
+    place : (b : Bool) → ltb (getD t (4 * f + w) 0) (length s) ≡ b → f < 32 → w < 4 → cond b (At (getD t (4 * f + w) 0)) Nothing ≡ versionPlace s f w
+    place true x hf hw = sym (offset-inside s (versionPlace s f w) (getD t (4 * f + w) 0) (listed-at s t f w e hf hw) (ltb-true (getD t (4 * f + w) 0) (length s) x))
+    place false x hf hw = sym (offset-outside s f w (omega (arith, listed-at s t f w e hf hw, ltb-false (getD t (4 * f + w) 0) (length s) x)))
+
+    go : (a b : Bool) → ltb f 32 ≡ a → ltb w 4 ≡ b → cond (a and b) (cond (ltb (getD t (4 * f + w) 0) (length s)) (At (getD t (4 * f + w) 0)) Nothing) (versionPlace s f w) ≡ versionPlace s f w
+    go true true ea eb = place (ltb (getD t (4 * f + w) 0) (length s)) refl (ltb-true f 32 ea) (ltb-true w 4 eb)
+    go true false ea eb = refl
+    go false b ea eb = refl
+
+pub function-right : (s t : List ℕ) (f : ℕ) → t ≡ tableOf s → functionIn s t f ≡ hasFunction f (program (records s))
+unfolding functionIn _and_
+function-right s t f e = go (ltb f 32) (ltb (getD t (4 * f) 0) (length s)) refl refl
+  where
+    go : (a b : Bool) → ltb f 32 ≡ a → ltb (getD t (4 * f) 0) (length s) ≡ b → cond (a and b) true (hasFunction f (program (records s))) ≡ hasFunction f (program (records s))
+    go true true ea eb =
+        let l : offsetOf s (versionPlace s f 0) ≡ getD t (4 * f) 0 = rw add-zero at (listed-at s t f 0 e (ltb-true f 32 ea) (omega arith)) in
+        sym (function-listed s f 0 (getD t (4 * f) 0) (offset-inside s (versionPlace s f 0) (getD t (4 * f) 0) l (ltb-true (getD t (4 * f) 0) (length s) eb)))
+    go true false ea eb = refl
+    go false b ea eb = refl

@@ -11,11 +11,11 @@ use Rattle.layout.specs.Tests.{_and_}
 use Rattle.layout.specs.Records.{_!_, sizeAt, kindAt, bodyAt, recAt, rest, records, choose}
 use Rattle.layout.specs.declared.Found.{Found}
 use Rattle.layout.specs.declared.Found.the-variants.{Nothing, At}
-use Rattle.program.specs.Program.{Instr, Line, Block, Version, Program, View, instrOf, lineOf, blockOf, versionOf, view, program, findVersion}
+use Rattle.program.specs.Program.{Instr, Line, Block, Version, View, instrOf, blockOf, versionOf, view, program, findVersion, hasFunction}
 use Rattle.program.specs.Search.{Question}
 use Rattle.program.specs.declared.Here.{Here}
 
--- what an offset looks out on, and the end of the record at an offset
+-- what lies ahead of an offset, and the end of the record at an offset
 abbrev pub viewAt : List ℕ → ℕ → View
 viewAt s p = view (rest s p)
 
@@ -58,12 +58,12 @@ unfoldable pub numbers : ℕ → ℕ → List ℕ
 numbers k zero = []
 numbers k (suc n) = k ∷ numbers (k + 1) n
 
--- the table of an image's versions: where each that the bounds allow stands, by 4 × function + version
-unfoldable pub entry : List ℕ → ℕ → ℕ
-entry s k = offsetOf s (versionPlace s (k / VERSIONS) (k % VERSIONS))
+-- the table of an image's versions: where each that the bounds allow stands, by VERSIONS × function + version
+unfoldable pub tableEntry : List ℕ → ℕ → ℕ
+tableEntry s k = offsetOf s (versionPlace s (k / VERSIONS) (k % VERSIONS))
 
 unfoldable pub tableOf : List ℕ → List ℕ
-tableOf s = map (entry s) (numbers 0 (FUNCTIONS * VERSIONS))
+tableOf s = map (tableEntry s) (numbers 0 (FUNCTIONS * VERSIONS))
 
 -- the entry that the record at p has there, if it is a VERSION within the bounds; else their count
 unfoldable pub slotOf : List ℕ → ℕ → ℕ
@@ -71,11 +71,22 @@ slotOf s p =
     cond (eqb (kindAt s p) kind.VERSION and ltb (bodyAt s p ! 0) FUNCTIONS and ltb (bodyAt s p ! 1) VERSIONS)
     (VERSIONS * bodyAt s p ! 0 + bodyAt s p ! 1) (FUNCTIONS * VERSIONS)
 
--- where a pass along the records stands behind the record at p
+-- where a table says that the version w of the function f stands; what lies outside of the bounds is looked up
+unfoldable pub placeIn : List ℕ → ℕ → Found
+placeIn s p = cond (ltb p (length s)) (At p) Nothing
+
+unfoldable pub listedIn : List ℕ → List ℕ → ℕ → ℕ → Found
+listedIn s t f w = cond (ltb f FUNCTIONS and ltb w VERSIONS) (placeIn s (t ! (VERSIONS * f + w))) (versionPlace s f w)
+
+-- has the function f a version, by a table: version 0 is listed, or one is found
+unfoldable pub functionIn : List ℕ → List ℕ → ℕ → Bool
+functionIn s t f = cond (ltb f FUNCTIONS and ltb (t ! (VERSIONS * f)) (length s)) true (hasFunction f (program (records s)))
+
+-- where a pass along the records stands behind the record at p; it counts no more blocks than there are bytes
 unfoldable pub movedTo : List ℕ → Here → ℕ → Here
 movedTo s h p = choose (kindAt s p) h (
     (kind.VERSION, record { version = p; blocks = 0 }) ∷
-    (kind.BLOCK, record { version = h .version; blocks = h .blocks + 1 }) ∷ [])
+    (kind.BLOCK, record { version = h .version; blocks = cond (ltb (h .blocks) (length s)) (h .blocks + 1) (h .blocks) }) ∷ [])
 
 -- what a question asks of the record at p, by where the pass stands behind it; a record that belongs to no version or block is asked nothing
 unfoldable pub asked : Question → List ℕ → Here → ℕ → Bool

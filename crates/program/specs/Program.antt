@@ -1,7 +1,7 @@
 -- Image: the program that its records make. It is total: records that are not in order make some program, of which nothing is said.
 use mathlib.Core.List.{List, [], _∷_}
 use mathlib.Core.Option.{Option, none, some}
-use mathlib.Core.Bool.{cond}
+use mathlib.Core.Bool.{Bool, cond}
 use Prim.Native.Nat.{ℕ, zero, suc, _+_, _*_}
 use lib.IntN.{ℤ}
 use lib.ListN.{take}
@@ -9,7 +9,7 @@ use lib.Dec.{eqb}
 use mir.Val.{toZ}
 use mir.Syntax.{w32}
 use Rattle.layout.specs.Kinds as kind
-use Rattle.layout.specs.Tests.{_and_}
+use Rattle.layout.specs.Tests.{_and_, any}
 use Rattle.layout.specs.Records.{Rec, _!_, fields, choose}
 
 -- what a call gives: the type that is asked for and the register
@@ -65,7 +65,7 @@ pub record Version : Type 0 where
 abbrev pub Program : Type 0
 Program = List Version
 
--- the i32 at the field k
+-- the little-endian i32 at the field k
 abbrev pub signed : List ℕ → ℕ → ℤ
 signed b k = toZ w32 (b ! k + 256 * (b ! (k + 1) + 256 * (b ! (k + 2) + 256 * b ! (k + 3))))
 
@@ -113,7 +113,7 @@ versionOf r blocks = record {
   blocks = blocks;
 }
 
--- what a place in an image looks out on: the instructions left in its block, the blocks left in its version, the versions left
+-- what lies ahead of an offset: the instructions left in its block, the blocks left in its version, the versions left
 pub record View : Type 0 where
   pub code : List Line
   pub blocks : List Block
@@ -122,7 +122,7 @@ pub record View : Type 0 where
 abbrev pub nowhere : View
 nowhere = record { code = []; blocks = []; versions = [] }
 
--- the view from a record, by the view from its end: a version is followed by its blocks in order, each by its instructions
+-- what lies ahead of a record, by what lies ahead of its end: a version is followed by its blocks in order, each by its instructions
 unfoldable pub put : Rec → View → View
 put r w =
     cond (eqb (r .kind) kind.VERSION) (record { code = []; blocks = []; versions = versionOf r (w .blocks) ∷ w .versions })
@@ -140,6 +140,10 @@ program rs = view rs .versions
 unfoldable pub findVersion : Program → ℕ → ℕ → Option Version
 findVersion [] f w = none
 findVersion (v ∷ vs) f w = cond (eqb (v .function) f and eqb (v .version) w) (some v) (findVersion vs f w)
+
+-- has the function f a version?
+abbrev pub hasFunction : ℕ → Program → Bool
+hasFunction f P = any (λ (v : Version). eqb (v .function) f) P
 
 -- the mark of a version is that of its block 0
 unfoldable pub firstMark : List Block → ℕ

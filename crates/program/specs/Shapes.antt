@@ -30,48 +30,48 @@ shapeOf (CALL d f w rs) = Instruction.Call d f w (length rs)
 shapeOf (DISPATCH d f mark ret pairs) = Instruction.Dispatch d f mark ret (length pairs)
 
 -- the registers that VEC, CALL and DISPATCH list
-unfoldable pub operandsOf : Instr → List ℕ
-operandsOf (LIT d i) = []
-operandsOf (MOVE d a) = []
-operandsOf (USE d a) = []
-operandsOf (DUP d a) = []
-operandsOf (VEC d rs) = rs
-operandsOf (LEN d a) = []
-operandsOf (GET d a i) = []
-operandsOf (SET a i e) = []
-operandsOf (ARITH d op a b) = []
-operandsOf (SELECT d c a b) = []
-operandsOf (CAST d a) = []
-operandsOf (NAMED d x) = []
-operandsOf (STORE x a) = []
-operandsOf (PROM d block) = []
-operandsOf (FORCE d a) = []
-operandsOf (PEEK d a x) = []
-operandsOf (POKE a x e) = []
-operandsOf (CALL d f w rs) = rs
-operandsOf (DISPATCH d f mark ret pairs) = map (λ (a : Argument). a .register) pairs
+unfoldable pub listedRegisters : Instr → List ℕ
+listedRegisters (LIT d i) = []
+listedRegisters (MOVE d a) = []
+listedRegisters (USE d a) = []
+listedRegisters (DUP d a) = []
+listedRegisters (VEC d rs) = rs
+listedRegisters (LEN d a) = []
+listedRegisters (GET d a i) = []
+listedRegisters (SET a i e) = []
+listedRegisters (ARITH d op a b) = []
+listedRegisters (SELECT d c a b) = []
+listedRegisters (CAST d a) = []
+listedRegisters (NAMED d x) = []
+listedRegisters (STORE x a) = []
+listedRegisters (PROM d block) = []
+listedRegisters (FORCE d a) = []
+listedRegisters (PEEK d a x) = []
+listedRegisters (POKE a x e) = []
+listedRegisters (CALL d f w rs) = rs
+listedRegisters (DISPATCH d f mark ret pairs) = map (λ (a : Argument). a .register) pairs
 
 -- the types that DISPATCH lists beside them
-unfoldable pub operandTypes : Instr → List ℕ
-operandTypes (LIT d i) = []
-operandTypes (MOVE d a) = []
-operandTypes (USE d a) = []
-operandTypes (DUP d a) = []
-operandTypes (VEC d rs) = []
-operandTypes (LEN d a) = []
-operandTypes (GET d a i) = []
-operandTypes (SET a i e) = []
-operandTypes (ARITH d op a b) = []
-operandTypes (SELECT d c a b) = []
-operandTypes (CAST d a) = []
-operandTypes (NAMED d x) = []
-operandTypes (STORE x a) = []
-operandTypes (PROM d block) = []
-operandTypes (FORCE d a) = []
-operandTypes (PEEK d a x) = []
-operandTypes (POKE a x e) = []
-operandTypes (CALL d f w rs) = []
-operandTypes (DISPATCH d f mark ret pairs) = map (λ (a : Argument). a .type) pairs
+unfoldable pub listedTypes : Instr → List ℕ
+listedTypes (LIT d i) = []
+listedTypes (MOVE d a) = []
+listedTypes (USE d a) = []
+listedTypes (DUP d a) = []
+listedTypes (VEC d rs) = []
+listedTypes (LEN d a) = []
+listedTypes (GET d a i) = []
+listedTypes (SET a i e) = []
+listedTypes (ARITH d op a b) = []
+listedTypes (SELECT d c a b) = []
+listedTypes (CAST d a) = []
+listedTypes (NAMED d x) = []
+listedTypes (STORE x a) = []
+listedTypes (PROM d block) = []
+listedTypes (FORCE d a) = []
+listedTypes (PEEK d a x) = []
+listedTypes (POKE a x e) = []
+listedTypes (CALL d f w rs) = []
+listedTypes (DISPATCH d f mark ret pairs) = map (λ (a : Argument). a .type) pairs
 
 -- the line of a block that was looked up: its place and its form
 unfoldable pub fetchedLine : Option Line → Fetched

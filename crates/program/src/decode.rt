@@ -8,7 +8,7 @@ ghost use mir.Syntax.{w32};
 ghost use Rattle.layout.specs.Records.{bodyAt, _!_};
 ghost use Rattle.program.specs.Program.{signed};
 ghost use Rattle.program.specs.Places.{instrAt};
-ghost use Rattle.program.specs.Shapes.{shapeOf, operandsOf, operandTypes, fetchOf};
+ghost use Rattle.program.specs.Shapes.{shapeOf, listedRegisters, listedTypes, fetchOf};
 use crate::Fetched;
 use crate::Instruction;
 use crate::lookup;
@@ -130,7 +130,7 @@ pub fn decode(image: &[u8], p: usize) -> Instruction
             d: small(image, p, 0),
             function: small(image, p, 1),
             mark: small(image, p, 2),
-            result: small(image, p, 3),
+            returns: small(image, p, 3),
             n: small(image, p, 4),
         },
         _ => Instruction::Lit {
@@ -141,8 +141,8 @@ pub fn decode(image: &[u8], p: usize) -> Instruction
 }
 
 /// The register `i` that the VEC, CALL or DISPATCH at `p` lists, or 0 where it lists no such register.
-pub fn operand(image: &[u8], p: usize, i: usize) -> usize
-    ensures { λ r. ⌜ (r ≡ operandsOf (instrAt (now (image .entry)) p) ! i) × (r < 256) ⌝ }
+pub fn listed_register(image: &[u8], p: usize, i: usize) -> usize
+    ensures { λ r. ⌜ (r ≡ listedRegisters (instrAt (now (image .entry)) p) ! i) × (r < 256) ⌝ }
 {
     match layout::kind_at(image, p) {
         kinds::VEC => {
@@ -171,8 +171,8 @@ pub fn operand(image: &[u8], p: usize, i: usize) -> usize
 }
 
 /// The type `i` that the DISPATCH at `p` lists, or 0 where it lists no such type.
-pub fn operand_type(image: &[u8], p: usize, i: usize) -> usize
-    ensures { λ r. ⌜ (r ≡ operandTypes (instrAt (now (image .entry)) p) ! i) × (r < 256) ⌝ }
+pub fn listed_type(image: &[u8], p: usize, i: usize) -> usize
+    ensures { λ r. ⌜ (r ≡ listedTypes (instrAt (now (image .entry)) p) ! i) × (r < 256) ⌝ }
 {
     if layout::kind_at(image, p) != kinds::DISPATCH {
         return 0;

@@ -93,7 +93,7 @@ pub enum Instruction {
         d: u8,
         function: u8,
         mark: u8,
-        result: u8,
+        returns: u8,
         n: u8,
     },
 }

@@ -3,11 +3,11 @@ ghost use mathlib.Core.Path.{_≡_};
 ghost use Prim.Native.Nat.{_<_};
 ghost use lib.Dec.{eqb};
 ghost use lib.ListN.{length, getD};
-ghost use Rattle.layout.specs.Tests.{_and_, any};
+ghost use Rattle.layout.specs.Tests.{_and_};
 ghost use Rattle.layout.specs.Records.{records, kindAt, bodyAt, _!_};
 ghost use Rattle.layout.specs.Kinds as kind;
-ghost use Rattle.program.specs.Program.{Version, program, markOf};
-ghost use Rattle.program.specs.Places.{versionAt, versionPlace, blockPlace, linePlace, tableOf, slotOf};
+ghost use Rattle.program.specs.Program.{program, hasFunction, markOf};
+ghost use Rattle.program.specs.Places.{versionAt, versionPlace, blockPlace, linePlace, tableOf, slotOf, listedIn, functionIn};
 use layout::Found;
 
 /// The entries of the table of versions: 4 for each function.
@@ -142,7 +142,7 @@ pub fn mark(image: &[u8], v: usize) -> usize
 
 /// Has the function `f` a version? The image is searched.
 fn search_function(image: &[u8], f: usize) -> bool
-    ensures { λ r. ⌜ r ≡ any (λ (c : Version). eqb (c .function) f) (program (records (now (image .entry)))) ⌝ }
+    ensures { λ r. ⌜ r ≡ hasFunction f (program (records (now (image .entry)))) ⌝ }
 {
     let mut p: usize = 0;
     while p < image.len() {
@@ -207,32 +207,33 @@ fn slot(image: &[u8], p: usize) -> usize
     layout::bounds::VERSIONS * f + w
 }
 
-/// Where the version `w` of the function `f` stands, by the image's table. Its callers make the table once for many look-ups.
+/// Where the table says that the version `w` of the function `f` stands. By the image's own table it is where the version stands.
 pub fn listed(image: &[u8], table: &[usize; 128], f: usize, w: usize) -> Found
-    requires { ⌜ now table ≡ tableOf (now image) ⌝ }
-    ensures { λ r. ⌜ r ≡ versionPlace (now (image .entry)) f w ⌝ }
+    ensures { λ r. ⌜ r ≡ listedIn (now (image .entry)) (now (table .entry)) f w ⌝ }
 {
-    if f < layout::bounds::FUNCTIONS {
-        if w < layout::bounds::VERSIONS {
-            let p = table[layout::bounds::VERSIONS * f + w];
-            if p < image.len() {
-                return Found::At(p);
-            }
-            return Found::Nothing;
-        }
+    if layout::bounds::FUNCTIONS <= f {
+        return version(image, f, w);
     }
-    version(image, f, w)
+    if layout::bounds::VERSIONS <= w {
+        return version(image, f, w);
+    }
+    let p = table[layout::bounds::VERSIONS * f + w];
+    if p < image.len() {
+        Found::At(p)
+    } else {
+        Found::Nothing
+    }
 }
 
-/// Has the function `f` a version, by the image's table? Its callers make the table once for many look-ups.
+/// Has the function `f` a version, by the table? By the image's own table it is whether the function has one.
 pub fn has_function(image: &[u8], table: &[usize; 128], f: usize) -> bool
-    requires { ⌜ now table ≡ tableOf (now image) ⌝ }
-    ensures { λ r. ⌜ r ≡ any (λ (c : Version). eqb (c .function) f) (program (records (now (image .entry)))) ⌝ }
+    ensures { λ r. ⌜ r ≡ functionIn (now (image .entry)) (now (table .entry)) f ⌝ }
 {
-    if f < layout::bounds::FUNCTIONS {
-        if table[layout::bounds::VERSIONS * f] < image.len() {
-            return true;
-        }
+    if layout::bounds::FUNCTIONS <= f {
+        return search_function(image, f);
+    }
+    if table[layout::bounds::VERSIONS * f] < image.len() {
+        return true;
     }
     search_function(image, f)
 }

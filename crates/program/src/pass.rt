@@ -1,13 +1,10 @@
 //! A pass along the records of a program.
 ghost use mathlib.Core.Path.{_≡_};
-ghost use Prim.Native.Nat.{_<_};
-ghost use lib.ListN.{length};
 ghost use Rattle.program.specs.Places.{movedTo};
 use crate::Here;
 
-/// Where the pass stands behind the record at `p`. Its callers have begun fewer blocks than there are bytes.
+/// Where the pass stands behind the record at `p`. It counts no more blocks than there are bytes.
 pub fn moved(image: &[u8], here: Here, p: usize) -> Here
-    requires { ⌜ here .blocks < length (now image) ⌝ }
     ensures { λ r. ⌜ r ≡ movedTo (now (image .entry)) here p ⌝ }
 {
     match layout::kind_at(image, p) {
@@ -15,10 +12,17 @@ pub fn moved(image: &[u8], here: Here, p: usize) -> Here
             version: p,
             blocks: 0,
         },
-        layout::kinds::BLOCK => Here {
-            version: here.version,
-            blocks: here.blocks + 1,
-        },
+        layout::kinds::BLOCK => {
+            let blocks = here.blocks;
+            if blocks < image.len() {
+                Here {
+                    version: here.version,
+                    blocks: blocks + 1,
+                }
+            } else {
+                here
+            }
+        }
         _ => here,
     }
 }

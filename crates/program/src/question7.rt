@@ -9,7 +9,7 @@ ghost use Rattle.layout.specs.Kinds as kind;
 ghost use Rattle.program.specs.Program.{program, instrOf};
 ghost use Rattle.program.specs.Search.{first};
 ghost use Rattle.program.specs.Places.{versionAt, blockAt, instrAt, tableOf, asked};
-ghost use Rattle.program.specs.Questions.{exists, names, namings, blockNamed, question7};
+ghost use Rattle.program.specs.Questions.{exists, namesBlock, namings, blockNamed, question7};
 use crate::Here;
 use crate::lookup;
 use crate::pass;
@@ -197,7 +197,7 @@ fn instruction_exists(image: &[u8], table: &[usize; 128], v: usize, b: usize, p:
 
 /// Is the record at `p` a PROM that names the block `b`?
 fn names_block(image: &[u8], p: usize, b: usize) -> bool
-    ensures { λ r. ⌜ r ≡ names b (instrAt (now (image .entry)) p) ⌝ }
+    ensures { λ r. ⌜ r ≡ namesBlock b (instrAt (now (image .entry)) p) ⌝ }
 {
     if layout::kind_at(image, p) == kinds::PROM {
         layout::field(image, p, 1) == b

@@ -7,7 +7,7 @@ use Rattle.program.specs.Program.{Argument, Instr, LIT, MOVE, USE, DUP, VEC, LE
 use Rattle.program.specs.Search.{Question, free}
 use Rattle.typing.specs.Types.{parameterType, registerType, returnType}
 
--- the type of register r of a version with so many parameters
+-- may register r of a version with so many parameters have the type t?
 unfoldable pub typeAllowed : ℕ → ℕ → ℕ → Bool
 typeAllowed parameters r t = cond (ltb r parameters) (parameterType t) (registerType t)
 

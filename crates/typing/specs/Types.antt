@@ -35,9 +35,13 @@ isPromise t = eqb (kindOf t) 4 || eqb (kindOf t) 5
 unfoldable pub within : ℕ → ℕ → Bool
 within a b = eqb a b || eqb b 0 || ((eqb a 2 || eqb a 3) && eqb b 1) || (eqb a 4 && eqb b 5)
 
+-- how many kinds there are
+abbrev pub KINDS : ℕ
+KINDS = 6
+
 -- a type byte at a parameter or in a call signature: owned and borrowed go with kind 3 only
 unfoldable pub parameterType : ℕ → Bool
-parameterType t = ltb (kindOf t) 6 and (isShared t || ((isOwned t || isBorrowed t) and isVector t))
+parameterType t = ltb (kindOf t) KINDS and (isShared t || ((isOwned t || isBorrowed t) and isVector t))
 
 -- at a register that is no parameter: borrowed stands only on parameters and call signatures
 unfoldable pub registerType : ℕ → Bool

@@ -2,7 +2,7 @@
 ghost use mathlib.Core.Path.{_≡_};
 ghost use Rattle.typing.specs.Types.{parameterType, registerType, returnType};
 
-/// The types of a register's kind: any, value, integer, vector, quiet promise, reflective promise.
+/// The kinds: any, value, integer, vector, quiet promise, reflective promise.
 pub const KINDS: usize = 6;
 
 /// The kind that owned and borrowed go with.

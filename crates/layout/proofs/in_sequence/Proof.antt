@@ -3,8 +3,9 @@ use Prim.Native.Nat.{_+_}
 use Rattle.layout.proofs.Bools.{or-false}
 use Rattle.layout.proofs.in_sequence.Statement.{statement}
 use Rattle.layout.proofs.in_sequence.Tie as tie
-use Rattle.layout.specs.Questions.{follows, lastAt}
+use Rattle.layout.specs.Questions.{follows}
 use Rattle.layout.specs.Tests.{_and_}
+use Rattle.layout.specs.Turns.{lastAt}
 use borrow.Author.Needs.{needs}
 use borrow.Author.Tests.{lt-ltb, le-ltb, eq-eqb, ne-eqb}
 use mathlib.Core.Path.{_∙_}

@@ -4,8 +4,9 @@ use Rattle.layout.proofs.Turns.{last-inside, last-outside}
 use Rattle.layout.proofs.Walk.{Along, ended, broken, say-no, go-on, ends-inside}
 use Rattle.layout.proofs.question_5.Statement.{statement}
 use Rattle.layout.proofs.question_5.Tie as tie
-use Rattle.layout.specs.Questions.{following, lastVersion, nothing, question5, lastAt}
+use Rattle.layout.specs.Questions.{following, lastVersion, nothing, question5}
 use Rattle.layout.specs.Records.{records}
+use Rattle.layout.specs.Turns.{lastAt}
 use borrow.Author.Needs.{needs}
 use borrow.Author.Tests.{ne-eqb}
 use denote.Ref.{now}

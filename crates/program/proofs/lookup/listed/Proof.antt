@@ -1,11 +1,27 @@
--- `program::lookup::listed`: the table has the place of each version within the bounds.
-use Rattle.program.proofs.Tables.{listed-at, offset-inside, offset-outside}
+-- `program::lookup::listed`: by the bounds of both numbers.
+use Rattle.layout.specs.Tests.{_and_}
 use Rattle.program.proofs.lookup.listed.Statement.{statement}
 use Rattle.program.proofs.lookup.listed.Tie as tie
+use Rattle.program.specs.Places.{listedIn, placeIn}
 use borrow.Author.Needs.{needs}
-use denote.Ref.{now}
-use mathlib.Core.Path.{sym}
-use native.Mathlib.Omega.{arith}
+use borrow.Author.Tests.{lt-ltb, le-ltb}
+use mathlib.Core.Path.{_∙_}
+
+version-requires : tie.Need-version-requires
+version-requires c κs = search needs
+
+returns : tie.Need-returns
+unfolding listedIn placeIn _and_
+returns c =
+    (c .version) .ensures ∙ simp (le-ltb _ _ ((c .before .if1) .taken))
+
+version-requires-2 : tie.Need-version-requires-2
+version-requires-2 c κs = search needs
+
+returns-2 : tie.Need-returns-2
+unfolding listedIn placeIn _and_
+returns-2 c =
+    (c .version2) .ensures ∙ simp (lt-ltb _ _ ((c .before .before .if1) .left), le-ltb _ _ ((c .before .if2) .taken))
 
 mul-p : tie.Need-mul-p
 mul-p c = search needs
@@ -19,22 +35,27 @@ mul-p-2 c = search needs
 element-copy-out-p : tie.Need-element-copy-out-p
 element-copy-out-p c = search needs
 
-returns : tie.Need-returns
-returns c =
-    sym (offset-inside _ _ _ (listed-at _ _ _ _ ((c .before .before .before .before .before) .pre) ((c .before .before .before .if1) .taken) ((c .before .before .if2) .taken)) ((c .if3) .taken))
-
-returns-2 : tie.Need-returns-2
-returns-2 c =
-    let e = listed-at (now ((c .before .before .before .before .before) .args .image)) (now ((c .before .before .before .before .before) .args .table)) ((c .before .before .before .before .before) .args .f) ((c .before .before .before .before .before) .args .w) ((c .before .before .before .before .before) .pre) ((c .before .before .before .if1) .taken) ((c .before .before .if2) .taken) in
-    sym (offset-outside _ _ _ (omega (arith, e, (c .if3) .left)))
-
-version-requires : tie.Need-version-requires
-version-requires c κs = search needs
-
 returns-3 : tie.Need-returns-3
-returns-3 c = search needs
+unfolding listedIn placeIn _and_
+returns-3 c =
+    simp (lt-ltb _ _ ((c .before .before .before .if1) .left), lt-ltb _ _ ((c .before .before .if2) .left), lt-ltb _ _ ((c .if3) .taken))
+
+returns-4 : tie.Need-returns-4
+unfolding listedIn placeIn _and_
+returns-4 c =
+    simp (lt-ltb _ _ ((c .before .before .before .if1) .left), lt-ltb _ _ ((c .before .before .if2) .left), le-ltb _ _ ((c .if3) .left))
 
 pub listed-spec : {M : Type 1} → statement M
 listed-spec =
     tie.close
-    (tie.spec mul-p add-p mul-p-2 element-copy-out-p returns returns-2 version-requires returns-3)
+    (tie.spec
+    version-requires
+    returns
+    version-requires-2
+    returns-2
+    mul-p
+    add-p
+    mul-p-2
+    element-copy-out-p
+    returns-3
+    returns-4)

@@ -2,12 +2,12 @@
 use Prim.Native.Nat.{_-_, _≤_}
 use Rattle.layout.proofs.Walk.{size-in}
 use Rattle.layout.specs.Records.{records}
-use Rattle.program.proofs.Tables.{hasFunction, function-nowhere, function-here, function-later, function-behind}
+use Rattle.program.proofs.Tables.{function-nowhere, function-here, function-later, function-behind}
 use Rattle.program.proofs.Views.{view-end, view-past}
 use Rattle.program.proofs.lookup.search_function.Statement.{statement}
 use Rattle.program.proofs.lookup.search_function.Tie as tie
 use Rattle.program.specs.Places.{viewAt}
-use Rattle.program.specs.Program.{program}
+use Rattle.program.specs.Program.{program, hasFunction}
 use borrow.Author.Needs.{needs}
 use lib.ListN.{length}
 use mathlib.Core.Path.{_≡_, refl, sym, _∙_}

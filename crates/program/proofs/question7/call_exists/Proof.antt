@@ -5,6 +5,7 @@ use Rattle.layout.specs.Records.{choose}
 use Rattle.layout.specs.Tests.{_and_}
 use Rattle.program.proofs.Existence.{all-same}
 use Rattle.program.proofs.Lookups.{version-found, version-missing}
+use Rattle.program.proofs.Tables.{listed-right}
 use Rattle.program.proofs.question7.call_exists.Statement.{statement}
 use Rattle.program.proofs.question7.call_exists.Tie as tie
 use Rattle.program.specs.Places.{versionAt}
@@ -48,7 +49,7 @@ enum-told c = search needs
 returns-2 : tie.Need-returns-2
 unfolding exists instrOf choose
 returns-2 c =
-    sym (and-on _ (is-below ((c .before .before .before .before .before .before .before .before .field2) .ensures .0) ((c .before .before .before .before .before .before .before .before .before .before .registers) .ensures .0) ((c .before .before .before .before .before .before .before .if1) .left)) ∙ and-on _ (sym (all-same _ 4 1 ((c .before .before .before .before .before .before .before .before .before .before .registers) .ensures .0) ((c .before .before .before .before .before .before .before .before .before .field) .ensures .0)) ∙ sym ((c .before .before .before .before .before .before .all-exist) .ensures) ∙ (c .before .before .before .before .before .if2) .taken) ∙ found-none _ (rw (← (c .before .before .before .before .field3) .ensures .0, ← (c .before .before .before .field4) .ensures .0) (version-missing _ _ _ (sym ((c .before .before .listed) .ensures) ∙ (c .enum-told) .given .1))))
+    sym (and-on _ (is-below ((c .before .before .before .before .before .before .before .before .field2) .ensures .0) ((c .before .before .before .before .before .before .before .before .before .before .registers) .ensures .0) ((c .before .before .before .before .before .before .before .if1) .left)) ∙ and-on _ (sym (all-same _ 4 1 ((c .before .before .before .before .before .before .before .before .before .before .registers) .ensures .0) ((c .before .before .before .before .before .before .before .before .before .field) .ensures .0)) ∙ sym ((c .before .before .before .before .before .before .all-exist) .ensures) ∙ (c .before .before .before .before .before .if2) .taken) ∙ found-none _ (rw (← (c .before .before .before .before .field3) .ensures .0, ← (c .before .before .before .field4) .ensures .0) (version-missing _ _ _ (sym ((c .before .before .listed) .ensures ∙ listed-right _ _ _ _ ((c .before .before .before .before .before .before .before .before .before .before .before .before) .pre)) ∙ (c .enum-told) .given .1))))
 
 field-requires-5 : tie.Need-field-requires-5
 field-requires-5 c κs = search needs
@@ -56,7 +57,7 @@ field-requires-5 c κs = search needs
 returns-3 : tie.Need-returns-3
 unfolding exists instrOf choose versionAt
 returns-3 c =
-    simp ((c .before .before .before .before .before .before .before .before .before .before .before .field) .ensures .0, (c .field5) .ensures .0) (sym (and-on _ (is-below ((c .before .before .before .before .before .before .before .before .before .before .field2) .ensures .0) ((c .before .before .before .before .before .before .before .before .before .before .before .before .registers) .ensures .0) ((c .before .before .before .before .before .before .before .before .before .if1) .left)) ∙ and-on _ (sym (all-same _ 4 1 ((c .before .before .before .before .before .before .before .before .before .before .before .before .registers) .ensures .0) ((c .before .before .before .before .before .before .before .before .before .before .before .field) .ensures .0)) ∙ sym ((c .before .before .before .before .before .before .before .before .all-exist) .ensures) ∙ (c .before .before .before .before .before .before .before .if2) .taken) ∙ found-some _ (rw ((c .before .before .before .before .before .before .field3) .ensures .0, (c .before .before .before .before .before .field4) .ensures .0) at (version-found _ _ _ _ (sym ((c .before .before .before .before .listed) .ensures) ∙ (c .before .before .q) .given .1) .0)) ∙ simp length-every))
+    simp ((c .before .before .before .before .before .before .before .before .before .before .before .field) .ensures .0, (c .field5) .ensures .0) (sym (and-on _ (is-below ((c .before .before .before .before .before .before .before .before .before .before .field2) .ensures .0) ((c .before .before .before .before .before .before .before .before .before .before .before .before .registers) .ensures .0) ((c .before .before .before .before .before .before .before .before .before .if1) .left)) ∙ and-on _ (sym (all-same _ 4 1 ((c .before .before .before .before .before .before .before .before .before .before .before .before .registers) .ensures .0) ((c .before .before .before .before .before .before .before .before .before .before .before .field) .ensures .0)) ∙ sym ((c .before .before .before .before .before .before .before .before .all-exist) .ensures) ∙ (c .before .before .before .before .before .before .before .if2) .taken) ∙ found-some _ (rw ((c .before .before .before .before .before .before .field3) .ensures .0, (c .before .before .before .before .before .field4) .ensures .0) at (version-found _ _ _ _ (sym ((c .before .before .before .before .listed) .ensures ∙ listed-right _ _ _ _ ((c .before .before .before .before .before .before .before .before .before .before .before .before .before .before) .pre)) ∙ (c .before .before .q) .given .1) .0)) ∙ simp length-every))
 
 returns-4 : tie.Need-returns-4
 unfolding exists instrOf choose

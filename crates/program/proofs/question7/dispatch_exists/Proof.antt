@@ -3,6 +3,7 @@ use Rattle.layout.proofs.Bools.{and-on, and-off, is-below, is-above}
 use Rattle.layout.specs.Records.{choose}
 use Rattle.layout.specs.Tests.{_and_}
 use Rattle.program.proofs.Existence.{all-same, pairs-exist}
+use Rattle.program.proofs.Tables.{function-right}
 use Rattle.program.proofs.question7.dispatch_exists.Statement.{statement}
 use Rattle.program.proofs.question7.dispatch_exists.Tie as tie
 use Rattle.program.specs.Program.{instrOf}
@@ -36,7 +37,7 @@ has-function-requires c κs = search needs
 returns-2 : tie.Need-returns-2
 unfolding exists instrOf choose
 returns-2 c =
-    (c .has-function) .ensures ∙ rw ((c .before .field3) .ensures .0) (sym (and-on _ (is-below ((c .before .before .before .before .before .before .field) .ensures .0) ((c .before .before .before .before .before .before .before .registers) .ensures .0) ((c .before .before .before .before .before .if1) .left)) ∙ and-on _ (pairs-exist _ _ 5 _ ∙ sym (all-same _ 6 2 ((c .before .before .before .before .before .before .before .registers) .ensures .0) ((c .before .before .before .before .field2) .ensures .0)) ∙ sym ((c .before .before .before .all-exist) .ensures) ∙ (c .before .before .if2) .taken)))
+    (c .has-function) .ensures ∙ function-right _ _ _ ((c .before .before .before .before .before .before .before .before .before) .pre) ∙ rw ((c .before .field3) .ensures .0) (sym (and-on _ (is-below ((c .before .before .before .before .before .before .field) .ensures .0) ((c .before .before .before .before .before .before .before .registers) .ensures .0) ((c .before .before .before .before .before .if1) .left)) ∙ and-on _ (pairs-exist _ _ 5 _ ∙ sym (all-same _ 6 2 ((c .before .before .before .before .before .before .before .registers) .ensures .0) ((c .before .before .before .before .field2) .ensures .0)) ∙ sym ((c .before .before .before .all-exist) .ensures) ∙ (c .before .before .if2) .taken)))
 
 returns-3 : tie.Need-returns-3
 unfolding exists instrOf choose

@@ -32,8 +32,7 @@ returns c =
     at-broken ((c .before .before .before .loop) .inv) ((c .before .size-at) .ensures) ((c .if1) .taken)
 
 moved-requires : tie.Need-moved-requires Inv-loop μ-loop
-moved-requires c κs =
-    omega (arith, (c .before .before .before .loop) .inv .few, (c .before .before .loop-test) .taken)
+moved-requires c κs = search needs
 
 types-at-requires : tie.Need-types-at-requires Inv-loop μ-loop
 types-at-requires c κs =

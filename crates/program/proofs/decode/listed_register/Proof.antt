@@ -1,8 +1,8 @@
--- `program::decode::operand`: by the kind of the record.
+-- `program::decode::listed_register`: by the kind of the record.
 use Rattle.layout.proofs.Fields.{every-at, every-past, fields-at}
 use Rattle.program.proofs.Forms.{operand-vec, operand-call, operand-dispatch, no-operand}
-use Rattle.program.proofs.decode.operand.Statement.{statement}
-use Rattle.program.proofs.decode.operand.Tie as tie
+use Rattle.program.proofs.decode.listed_register.Statement.{statement}
+use Rattle.program.proofs.decode.listed_register.Tie as tie
 use borrow.Author.Needs.{needs}
 use mathlib.Core.Path.{sym, _∙_}
 use native.Mathlib.Omega.{arith}
@@ -68,8 +68,8 @@ returns-7 : tie.Need-returns-7
 returns-7 c =
     (sym (no-operand _ _ _ ((c .before .kind-at) .ensures) ((c .match) .rest .0 .0 .1) ((c .match) .rest .0 .1) ((c .match) .rest .1)), omega arith)
 
-pub operand-spec : {M : Type 1} → statement M
-operand-spec =
+pub listed-register-spec : {M : Type 1} → statement M
+listed-register-spec =
     tie.close
     (tie.spec
     kind-at-requires

@@ -1,8 +1,8 @@
--- `program::decode::operand_type`: only a DISPATCH lists types.
+-- `program::decode::listed_type`: only a DISPATCH lists types.
 use Rattle.layout.proofs.Fields.{every-at, every-past}
 use Rattle.program.proofs.Forms.{type-dispatch, no-type}
-use Rattle.program.proofs.decode.operand_type.Statement.{statement}
-use Rattle.program.proofs.decode.operand_type.Tie as tie
+use Rattle.program.proofs.decode.listed_type.Statement.{statement}
+use Rattle.program.proofs.decode.listed_type.Tie as tie
 use borrow.Author.Needs.{needs}
 use mathlib.Core.Path.{sym, _∙_}
 use native.Mathlib.Omega.{arith}
@@ -34,8 +34,8 @@ returns-3 : tie.Need-returns-3
 returns-3 c =
     (sym (type-dispatch _ _ _ ((c .before .before .before .kind-at) .ensures) ((c .before .before .if1) .left) ∙ every-past _ 5 2 _ _ (omega (arith, (c .before .field) .ensures .0, (c .if2) .left))), omega arith)
 
-pub operand-type-spec : {M : Type 1} → statement M
-operand-type-spec =
+pub listed-type-spec : {M : Type 1} → statement M
+listed-type-spec =
     tie.close
     (tie.spec
     kind-at-requires
