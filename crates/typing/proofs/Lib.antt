@@ -1,2 +1,3 @@
-pub mod Ownership
+pub mod Owners
 pub mod TypeBytes
+pub mod Within

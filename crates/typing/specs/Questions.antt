@@ -1,11 +1,13 @@
--- Question 6: the type bytes.
+-- Questions 6, 8 and 9: the type bytes, whether types fit, and effects.
 use mathlib.Core.Bool.{Bool, true, cond}
 use Prim.Native.Nat.{ℕ}
 use lib.Dec.{ltb}
 use Rattle.layout.specs.Tests.{_and_, all, allFrom}
-use Rattle.program.specs.Program.{Argument, Instr, LIT, MOVE, USE, DUP, VEC, LEN, GET, SET, ARITH, SELECT, CAST, NAMED, STORE, PROM, FORCE, PEEK, POKE, CALL, DISPATCH, Version}
+use Rattle.program.specs.Program.{Argument, Instr, LIT, MOVE, USE, DUP, VEC, LEN, GET, SET, ARITH, SELECT, CAST, NAMED, STORE, PROM, FORCE, PEEK, POKE, CALL, DISPATCH, Version, Program}
 use Rattle.program.specs.Search.{Question, free}
 use Rattle.typing.specs.Types.{parameterType, registerType, returnType}
+use Rattle.typing.specs.Fits.{fits, fitsResult}
+use Rattle.typing.specs.Effects.{covered}
 
 -- may register r of a version with so many parameters have the type t?
 unfoldable pub typeAllowed : ℕ → ℕ → ℕ → Bool
@@ -39,3 +41,11 @@ typesAllowed (DISPATCH d f mark ret pairs) = returnType ret and all (λ (a : Arg
 
 abbrev pub question6 : Question
 question6 = record { ofVersion = versionTypes; ofBlock = free; ofInstr = λ v n i. typesAllowed i }
+
+-- 8: do types fit? A wrong result register fails at its BLOCK
+abbrev pub question8 : Program → Question
+question8 P = record { ofVersion = λ v. true; ofBlock = fitsResult; ofInstr = fits P }
+
+-- 9: does each block's mark cover its effect? (at the BLOCK)
+abbrev pub question9 : Program → Question
+question9 P = record { ofVersion = λ v. true; ofBlock = λ v n b. covered P v b; ofInstr = free }

@@ -1,6 +1,8 @@
 //! Type bytes: where each may stand.
 ghost use mathlib.Core.Path.{_≡_};
-ghost use Rattle.typing.specs.Types.{parameterType, registerType, returnType};
+ghost use Rattle.typing.specs.Types.{parameterType, registerType, returnType, within};
+ghost use Rattle.typing.specs.Calls.{ownedKind};
+use crate::Owned;
 
 /// The kinds: any, value, integer, vector, quiet promise, reflective promise.
 pub const KINDS: usize = 6;
@@ -43,5 +45,34 @@ pub fn return_type(t: usize) -> bool
         if kind == 0 { false } else { kind < 4 }
     } else {
         false
+    }
+}
+
+/// The kind of the type byte `t`, if it is owned.
+pub fn owned_kind(t: usize) -> Owned
+    ensures { λ r. ⌜ r ≡ ownedKind t ⌝ }
+{
+    if t / 16 == 1 { Owned::Kind(t % 16) } else { Owned::Not }
+}
+
+/// Is the kind `a` within the kind `b`?
+pub fn is_within(a: usize, b: usize) -> bool
+    ensures { λ r. ⌜ r ≡ within a b ⌝ }
+{
+    match b {
+        0 => true,
+        1 => {
+            if a == 1 {
+                true
+            } else if a == 2 {
+                true
+            } else {
+                a == 3
+            }
+        }
+        5 => {
+            if a == 5 { true } else { a == 4 }
+        }
+        _ => a == b,
     }
 }

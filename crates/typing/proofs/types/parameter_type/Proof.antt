@@ -1,6 +1,6 @@
 -- `typing::types::parameter_type`: by kind and ownership.
 use Rattle.layout.specs.Tests.{_and_}
-use Rattle.typing.proofs.Ownership.{not-shared, no-ownership}
+use Rattle.typing.proofs.Owners.{not-shared, no-ownership}
 use Rattle.typing.proofs.types.parameter_type.Statement.{statement}
 use Rattle.typing.proofs.types.parameter_type.Tie as tie
 use Rattle.typing.specs.Types.{kindOf, ownershipOf, isShared, isVector, parameterType}

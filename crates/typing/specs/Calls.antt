@@ -1,0 +1,28 @@
+-- What the code of question 8 has in hand: a type byte taken apart, and the arguments of a call where they stand.
+use mathlib.Core.List.{List, [], _∷_}
+use mathlib.Core.Bool.{cond}
+use Prim.Native.Nat.{ℕ, zero, suc}
+use Rattle.layout.specs.Records.{every, bodyAt}
+use Rattle.program.specs.Program.{Argument, beside}
+use Rattle.typing.specs.Types.{kindOf, isOwned}
+use Rattle.typing.specs.declared.Owned.{Owned}
+use Rattle.typing.specs.declared.Owned.the-variants.{Kind, Not}
+use Rattle.typing.specs.declared.Call.{Call}
+
+-- the kind of a type byte, if it is owned
+unfoldable pub ownedKind : ℕ → Owned
+ownedKind t = cond (isOwned t) (Kind (kindOf t)) Not
+
+-- n types from the field k of one body on, beside as many registers from the field l of another
+abbrev pub pairs : List ℕ → ℕ → List ℕ → ℕ → ℕ → ℕ → List Argument
+pairs b k c l step n = beside (every b k step n) (every c l step n)
+
+-- the arguments of the call whose record stands at p
+unfoldable pub argumentsAt : List ℕ → ℕ → Call → List Argument
+argumentsAt s p c = pairs (bodyAt s (c .place)) (c .types) (bodyAt s p) (c .registers) (c .step) (c .n)
+
+-- the smaller of two numbers
+unfoldable pub least : ℕ → ℕ → ℕ
+least zero y = zero
+least (suc x) zero = zero
+least (suc x) (suc y) = suc (least x y)
