@@ -35,10 +35,10 @@ digits-enough (suc k) n h =
     by-ten n
     (λ below. digits-one (suc (suc k)) n below ∙ sym (digits-one (suc k) n below))
     (λ above.
-      let tenth : n / 10 < 10 ^ suc k = omega (arith, rw (pow-suc 10 (suc k)) at h) in
-      digits-more (suc (suc k)) n above
-      ∙ ap (λ (front : List ℕ). front ++ ((48 + n % 10) ∷ [])) (digits-enough k (n / 10) tenth)
-      ∙ sym (digits-more (suc k) n above))
+    let tenth : n / 10 < 10 ^ suc k = omega (arith, rw (pow-suc 10 (suc k)) at h) in
+    digits-more (suc (suc k)) n above
+    ∙ ap (λ (front : List ℕ). front ++ ((48 + n % 10) ∷ [])) (digits-enough k (n / 10) tenth)
+    ∙ sym (digits-more (suc k) n above))
 
 -- no more digits than asked for
 digits-most : (k n : ℕ) → length (digits k n) ≤ k

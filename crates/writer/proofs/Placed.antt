@@ -73,6 +73,12 @@ placed-joined out at a b h =
     ∙ sets-joined a b out at
     ∙ sym (placed-sets out at (a ++ b) h)
 
+-- the law as a caller has it: a piece was put, and the next one behind it
+pub placed-then : (out : List ℕ) (at : ℕ) (a b : List ℕ) {first both : List ℕ} {next : ℕ} → first ≡ placed out at a → next ≡ at + length a
+    → both ≡ placed first next b → next + length b ≤ length out → both ≡ placed out at (a ++ b)
+placed-then out at a b e n f h =
+    f ∙ rw (e, n) (placed-joined out at a b (rw length-append (omega arith)))
+
 -- one byte is one store
 pub placed-byte : (out : List ℕ) (at b : ℕ) → at < length out → set out at b ≡ placed out at (b ∷ [])
 placed-byte out at b h = sym (placed-sets out at (b ∷ []) (omega arith))

@@ -52,13 +52,13 @@ fn put_digits(out: &mut [u8], at: usize, size: usize, n: usize)
     ensures { λ _. ⌜ now (out .exit) ≡ placed (now (out .entry)) at (decimal n) ⌝ }
 {
     let mut end = at + size;
-    let mut rest = n;
-    while 10 <= rest {
+    let mut front = n;
+    while 10 <= front {
         end -= 1;
-        out[end] = last_digit(rest);
-        rest = rest / 10;
+        out[end] = last_digit(front);
+        front = front / 10;
     }
-    out[at] = last_digit(rest);
+    out[at] = last_digit(front);
 }
 
 /// Puts the decimal digits of `n` from the place `at` on, where they fit.

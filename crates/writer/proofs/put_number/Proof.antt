@@ -1,41 +1,30 @@
-use native.Mathlib.Omega.{arith}
-use Rattle.writer.proofs.Placed.{placed-past}
-use borrow.Author.Tests.{leb-true, leb-false}
-use mathlib.Core.Path.{sym, _∙_, ap}
+-- `writer::put_number`: by whether the digits fit.
+use mathlib.Core.Path.{sym, _∙_}
 use borrow.Author.Needs.{needs}
+use borrow.Author.Tests.{leb-true, leb-false}
+use Rattle.writer.proofs.Placed.{placed-past}
 use Rattle.writer.proofs.put_number.Statement.{statement}
 use Rattle.writer.proofs.put_number.Tie as tie
-use Rattle.writer.proofs.put_number.Reads as reads
-use Rattle.writer.proofs.put_number.Lts as lts
-use Rattle.writer.proofs.digits_of.Reads as digits-of-reads
-use Rattle.writer.proofs.fits.Reads as fits-reads
-use Rattle.writer.proofs.put_digits.Reads as put-digits-reads
 
--- src/lib.rt:68:9
 digits-of-requires : tie.Need-digits-of-requires
 digits-of-requires c κs = search needs
 
--- src/lib.rt:69:8
 fits-requires : tie.Need-fits-requires
 fits-requires c κs = search needs
 
--- src/lib.rt:70:9
 put-digits-requires : tie.Need-put-digits-requires
 put-digits-requires c κs =
-      ((c .before .before .before .digits-of) .ensures .0, leb-true _ _ (sym ((c .before .before .fits2) .ensures) ∙ (c .before .if1) .taken))
+    (c .before .before .before .digits-of .ensures .0, leb-true _ _ (sym (c .before .before .fits2 .ensures) ∙ c .before .if1 .taken))
 
--- src/lib.rt:65:1
 same-length : tie.Need-same-length
 same-length c = search needs
 
--- src/lib.rt:65:1
 returns : tie.Need-returns
 returns c = search needs
 
--- src/lib.rt:65:1
 returns-2 : tie.Need-returns-2
 returns-2 c =
-      sym (placed-past _ _ _ (leb-false _ _ (rw (← (c .before .before .digits-of) .ensures .0) (sym ((c .before .fits2) .ensures) ∙ (c .if1) .left))))
+    sym (placed-past _ _ _ (leb-false _ _ (rw (← c .before .before .digits-of .ensures .0) (sym (c .before .fits2 .ensures) ∙ c .if1 .left))))
 
 pub put-number-spec : {M : Type 1} → statement M
 put-number-spec =
