@@ -62,7 +62,7 @@ decimal-more n h most =
 pub decimal-most : (n : ℕ) → length (decimal n) ≤ 20
 decimal-most n = digits-most 20 n
 
--- the length, likewise
+-- how many digits, likewise
 pub length-one : (n : ℕ) → n < 10 → length (decimal n) ≡ 1
 length-one n h = ap length (decimal-one n h)
 
