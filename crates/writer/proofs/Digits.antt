@@ -62,9 +62,10 @@ decimal-more n h most =
 pub decimal-most : (n : ℕ) → length (decimal n) ≤ 20
 decimal-most n = digits-most 20 n
 
--- how many digits, likewise
+-- a number below ten has one digit
 pub length-one : (n : ℕ) → n < 10 → length (decimal n) ≡ 1
 length-one n h = ap length (decimal-one n h)
 
+-- any other has one more than its tenth
 pub length-more : (n : ℕ) → 10 ≤ n → n < 10 ^ 20 → length (decimal n) ≡ length (decimal (n / 10)) + 1
 length-more n h most = ap length (decimal-more n h most) ∙ simp length-append

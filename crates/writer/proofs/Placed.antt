@@ -27,11 +27,13 @@ sets-behind (y ∷ t) out at i x h =
 
 -- ---- where the bytes fit, and where not
 
+-- bytes that fit stand between what was before and behind them
 pub placed-fits : (out : List ℕ) (at : ℕ) (t : List ℕ) → at + length t ≤ length out
     → placed out at t ≡ take at out ++ t ++ drop (at + length t) out
 unfolding placed
 placed-fits out at t h = rw (le-leb (at + length t) (length out) h)
 
+-- bytes that do not fit change nothing
 pub placed-past : (out : List ℕ) (at : ℕ) (t : List ℕ) → length out < at + length t → placed out at t ≡ out
 unfolding placed
 placed-past out at t h = rw (lt-leb (at + length t) (length out) h)
