@@ -1,3 +1,5 @@
 pub mod Owners
+pub mod Pairs
 pub mod TypeBytes
+pub mod Ways
 pub mod Within

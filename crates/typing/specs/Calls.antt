@@ -1,8 +1,8 @@
 -- What the code of question 8 has in hand: a type byte taken apart, and the arguments of a call where they stand.
 use mathlib.Core.List.{List, [], _∷_}
 use mathlib.Core.Bool.{cond}
-use Prim.Native.Nat.{ℕ, zero, suc}
-use Rattle.layout.specs.Records.{every, bodyAt}
+use Prim.Native.Nat.{ℕ, zero, suc, _<_}
+use Rattle.layout.specs.Records.{every, bodyAt, _!_}
 use Rattle.program.specs.Program.{Argument, beside}
 use Rattle.typing.specs.Types.{kindOf, isOwned}
 use Rattle.typing.specs.declared.Owned.{Owned}
@@ -26,3 +26,17 @@ unfoldable pub least : ℕ → ℕ → ℕ
 least zero y = zero
 least (suc x) zero = zero
 least (suc x) (suc y) = suc (least x y)
+
+-- a call whose fields are bytes
+pub record Small (c : Call) : Type 0 where
+  pub types : c .types < 256
+  pub registers : c .registers < 256
+  pub step : c .step < 256
+  pub n : c .n < 256
+
+-- where the arguments of the CALL at p of the version at q stand, and those of the DISPATCH at p
+unfoldable pub callOf : List ℕ → ℕ → ℕ → Call
+callOf s p q = record { place = q; types = 6; registers = 4; step = 1; n = least (bodyAt s q ! 2) (least (bodyAt s q ! 3) (bodyAt s p ! 3)) }
+
+unfoldable pub dispatchOf : List ℕ → ℕ → Call
+dispatchOf s p = record { place = p; types = 5; registers = 6; step = 2; n = bodyAt s p ! 4 }

@@ -1,11 +1,11 @@
 //! Type bytes, and questions 6, 8 and 9.
 
-pub mod arguments;
-pub mod fits;
+mod arguments;
+mod fits;
 pub mod question6;
 pub mod question8;
 pub mod question9;
-pub mod registers;
+mod registers;
 pub mod types;
 
 /// A type byte taken apart: the kind of an owned type, or that the type is not owned.

@@ -33,7 +33,7 @@ pub fn is_shared(image: &[u8], v: usize, p: usize, k: usize) -> bool
 pub fn is_integer(image: &[u8], v: usize, p: usize, k: usize) -> bool
     ensures { λ r. ⌜ r ≡ integer (versionAt (now (image .entry)) v) (bodyAt (now (image .entry)) p ! k) ⌝ }
 {
-    kind_in(image, v, p, k) == 2
+    kind_in(image, v, p, k) == types::INTEGER
 }
 
 /// Is it a vector?
@@ -58,7 +58,7 @@ pub fn is_promise(image: &[u8], v: usize, p: usize, k: usize) -> bool
     ensures { λ r. ⌜ r ≡ promise (versionAt (now (image .entry)) v) (bodyAt (now (image .entry)) p ! k) ⌝ }
 {
     let kind = kind_in(image, v, p, k);
-    if kind == 4 { true } else { kind == 5 }
+    if kind == types::PROMISE { true } else { kind == 5 }
 }
 
 /// May a name take it: is it shared, within kind 1?
@@ -66,7 +66,7 @@ pub fn is_value(image: &[u8], v: usize, p: usize, k: usize) -> bool
     ensures { λ r. ⌜ r ≡ value (versionAt (now (image .entry)) v) (bodyAt (now (image .entry)) p ! k) ⌝ }
 {
     if is_shared(image, v, p, k) {
-        types::is_within(kind_in(image, v, p, k), 1)
+        types::is_within(kind_in(image, v, p, k), types::VALUE)
     } else {
         false
     }

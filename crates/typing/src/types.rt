@@ -7,8 +7,14 @@ use crate::Owned;
 /// The kinds: any, value, integer, vector, quiet promise, reflective promise.
 pub const KINDS: usize = 6;
 
-/// The kind that owned and borrowed go with.
+/// The kinds that results have: no promise, an integer, a vector, a quiet promise.
+pub const VALUE: usize = 1;
+
+pub const INTEGER: usize = 2;
+
 pub const VECTOR: usize = 3;
+
+pub const PROMISE: usize = 4;
 
 /// May the type byte `t` stand at a parameter or in a call signature?
 pub fn parameter_type(t: usize) -> bool

@@ -1,0 +1,45 @@
+use Rattle.typing.specs.Calls.{callOf}
+use borrow.Author.Needs.{needs}
+use Rattle.typing.proofs.arguments.of_call.Statement.{statement}
+use Rattle.typing.proofs.arguments.of_call.Tie as tie
+use Rattle.typing.proofs.arguments.of_call.Reads as reads
+use Rattle.typing.proofs.arguments.of_call.Lts as lts
+use Rattle.layout.proofs.field.Reads as field-reads
+use Rattle.typing.proofs.arguments.lesser.Reads as lesser-reads
+
+-- src/arguments.rt:26:9
+field-requires : tie.Need-field-requires
+field-requires c κs = search needs
+
+-- src/arguments.rt:27:9
+field-requires-2 : tie.Need-field-requires-2
+field-requires-2 c κs = search needs
+
+-- src/arguments.rt:33:49
+field-requires-3 : tie.Need-field-requires-3
+field-requires-3 c κs = search needs
+
+-- src/arguments.rt:33:31
+lesser-requires : tie.Need-lesser-requires
+lesser-requires c κs = search needs
+
+-- src/arguments.rt:33:12
+lesser-requires-2 : tie.Need-lesser-requires-2
+lesser-requires-2 c κs = search needs
+
+-- src/arguments.rt:23:1
+returns : tie.Need-returns
+unfolding callOf
+returns c =
+      simp ((c .lesser2) .ensures, (c .before .lesser) .ensures, (c .before .before .before .before .field) .ensures .0, (c .before .before .before .field2) .ensures .0, (c .before .before .field3) .ensures .0)
+
+pub of-call-spec : {M : Type 1} → statement M
+of-call-spec =
+    tie.close
+    (tie.spec
+    field-requires
+    field-requires-2
+    field-requires-3
+    lesser-requires
+    lesser-requires-2
+    returns)

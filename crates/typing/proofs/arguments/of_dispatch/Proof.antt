@@ -1,0 +1,20 @@
+use Rattle.typing.specs.Calls.{dispatchOf}
+use borrow.Author.Needs.{needs}
+use Rattle.typing.proofs.arguments.of_dispatch.Statement.{statement}
+use Rattle.typing.proofs.arguments.of_dispatch.Tie as tie
+use Rattle.typing.proofs.arguments.of_dispatch.Reads as reads
+use Rattle.typing.proofs.arguments.of_dispatch.Lts as lts
+use Rattle.layout.proofs.field.Reads as field-reads
+
+-- src/arguments.rt:46:12
+field-requires : tie.Need-field-requires
+field-requires c κs = search needs
+
+-- src/arguments.rt:38:1
+returns : tie.Need-returns
+unfolding dispatchOf
+returns c =
+      simp ((c .field) .ensures .0)
+
+pub of-dispatch-spec : {M : Type 1} → statement M
+of-dispatch-spec = tie.close (tie.spec field-requires returns)
