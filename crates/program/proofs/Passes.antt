@@ -209,3 +209,13 @@ module _ (q : Question) (s : List ℕ) (h : Here) (p : ℕ) {k : ℕ} (e : k ≡
       go true false = refl
       go false true = i _ _
       go false false = refl
+
+  -- a record that is no BLOCK, where only blocks are asked
+  pub asked-no-block : (k ≡ kind.BLOCK → ⊥) → q .ofVersion (versionAt s p) ≡ true → ((v : Version) (n : ℕ) → q .ofInstr v n (instrAt s p) ≡ true) → asked q s h p ≡ true
+  unfolding asked choose
+  asked-no-block x w i = rw (← e, ne-eqb k kind.BLOCK x) (go (eqb k kind.VERSION) (ltb (h .version) (length s) and ltb 0 (h .blocks)))
+    where
+      go : (t c : Bool) → cond t (q .ofVersion (versionAt s p)) (cond c (q .ofInstr (versionAt s (h .version)) (h .blocks - 1) (instrAt s p)) true) ≡ true
+      go true c = w
+      go false true = i _ _
+      go false false = refl

@@ -1,3 +1,4 @@
+pub mod Lines
 pub mod Owners
 pub mod Pairs
 pub mod TypeBytes

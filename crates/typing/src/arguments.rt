@@ -1,6 +1,6 @@
 //! The arguments of a call: where they stand, and whether they fit.
 ghost use mathlib.Core.Path.{_≡_};
-ghost use Prim.Native.Nat.{_<_};
+ghost use Prim.Native.Nat.{_≤_};
 ghost use lib.Dec.{eqb};
 ghost use Rattle.layout.specs.Tests.{all, any, count};
 ghost use Rattle.layout.specs.Records.{bodyAt, _!_};
@@ -14,14 +14,14 @@ use crate::types;
 
 /// The smaller of two numbers.
 fn lesser(a: usize, b: usize) -> usize
-    ensures { λ r. ⌜ r ≡ least a b ⌝ }
+    ensures { λ r. ⌜ (r ≡ least a b) × (r ≤ a) ⌝ }
 {
     if a < b { a } else { b }
 }
 
 /// Where the arguments of the CALL at `p` of the version at `q` stand.
 pub fn of_call(image: &[u8], p: usize, q: usize) -> Call
-    ensures { λ r. ⌜ r ≡ callOf (now (image .entry)) p q ⌝ }
+    ensures { λ r. ⌜ (r ≡ callOf (now (image .entry)) p q) × Small r ⌝ }
 {
     let parameters = layout::field(image, q, 2);
     let registers = layout::field(image, q, 3);
@@ -36,7 +36,7 @@ pub fn of_call(image: &[u8], p: usize, q: usize) -> Call
 
 /// Where the arguments of the DISPATCH at `p` stand.
 pub fn of_dispatch(image: &[u8], p: usize) -> Call
-    ensures { λ r. ⌜ r ≡ dispatchOf (now (image .entry)) p ⌝ }
+    ensures { λ r. ⌜ (r ≡ dispatchOf (now (image .entry)) p) × Small r ⌝ }
 {
     Call {
         place: p,
@@ -158,7 +158,11 @@ pub fn call_fits(image: &[u8], v: usize, b: usize, p: usize, call: Call, t: usiz
         if b == 0 {
             return return_fits(image, v, p, t);
         }
-        if does_empty(image, p, call) { false } else { return_fits(image, v, p, t) }
+        if does_empty(image, p, call) {
+            false
+        } else {
+            return_fits(image, v, p, t)
+        }
     } else {
         false
     }

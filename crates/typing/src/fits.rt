@@ -223,14 +223,28 @@ fn call_fits(image: &[u8], table: &[usize; 128], v: usize, b: usize, p: usize) -
     let Found::At(q) = lookup::listed(image, table, f, w) else {
         return false;
     };
-    arguments::call_fits(image, v, b, p, arguments::of_call(image, p, q), layout::field(image, q, 4))
+    arguments::call_fits(
+        image,
+        v,
+        b,
+        p,
+        arguments::of_call(image, p, q),
+        layout::field(image, q, 4),
+    )
 }
 
 /// DISPATCH: the arguments and the return of its own signature.
 fn dispatch_fits(image: &[u8], v: usize, b: usize, p: usize) -> bool
     ensures { λ r. ⌜ r ≡ fits (program (records (now (image .entry)))) (versionAt (now (image .entry)) v) b (instrOf kind.DISPATCH (bodyAt (now (image .entry)) p)) ⌝ }
 {
-    arguments::call_fits(image, v, b, p, arguments::of_dispatch(image, p), layout::field(image, p, 3))
+    arguments::call_fits(
+        image,
+        v,
+        b,
+        p,
+        arguments::of_dispatch(image, p),
+        layout::field(image, p, 3),
+    )
 }
 
 /// Do the types of the instruction fit?
@@ -281,5 +295,9 @@ fn body_result_fits(image: &[u8], v: usize, p: usize) -> bool
 pub fn result_fits(image: &[u8], v: usize, b: usize, p: usize) -> bool
     ensures { λ r. ⌜ r ≡ fitsResult (versionAt (now (image .entry)) v) b (blockAt (now (image .entry)) p) ⌝ }
 {
-    if b == 0 { body_result_fits(image, v, p) } else { registers::is_integer(image, v, p, 1) }
+    if b == 0 {
+        body_result_fits(image, v, p)
+    } else {
+        registers::is_integer(image, v, p, 1)
+    }
 }

@@ -91,7 +91,11 @@ fn covers_at(image: &[u8], table: &[usize; 128], here: Here, p: usize) -> bool
     if layout::field(image, p, 0) == 1 {
         return true;
     }
-    if block_reflects(image, table, version, p) { false } else { true }
+    if block_reflects(image, table, version, p) {
+        false
+    } else {
+        true
+    }
 }
 
 /// Question 9: does each block's mark cover its effect?

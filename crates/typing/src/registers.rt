@@ -58,7 +58,11 @@ pub fn is_promise(image: &[u8], v: usize, p: usize, k: usize) -> bool
     ensures { λ r. ⌜ r ≡ promise (versionAt (now (image .entry)) v) (bodyAt (now (image .entry)) p ! k) ⌝ }
 {
     let kind = kind_in(image, v, p, k);
-    if kind == types::PROMISE { true } else { kind == 5 }
+    if kind == types::PROMISE {
+        true
+    } else {
+        kind == 5
+    }
 }
 
 /// May a name take it: is it shared, within kind 1?

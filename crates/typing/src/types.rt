@@ -58,7 +58,11 @@ pub fn return_type(t: usize) -> bool
 pub fn owned_kind(t: usize) -> Owned
     ensures { λ r. ⌜ r ≡ ownedKind t ⌝ }
 {
-    if t / 16 == 1 { Owned::Kind(t % 16) } else { Owned::Not }
+    if t / 16 == 1 {
+        Owned::Kind(t % 16)
+    } else {
+        Owned::Not
+    }
 }
 
 /// Is the kind `a` within the kind `b`?
@@ -76,9 +80,7 @@ pub fn is_within(a: usize, b: usize) -> bool
                 a == 3
             }
         }
-        5 => {
-            if a == 5 { true } else { a == 4 }
-        }
+        5 => { if a == 5 { true } else { a == 4 } }
         _ => a == b,
     }
 }

@@ -30,47 +30,47 @@ abbrev μ-loop : tie.MeasureT-loop
 loop-holds : tie.Need-loop-holds Inv-loop μ-loop
 unfolding argumentsAt
 loop-holds c =
-      (omega arith, omega (arith, (c .before) .pre .types), omega (arith, (c .before) .pre .registers), simp sub-zero)
+    (omega arith, omega (arith, (c .before) .pre .types), omega (arith, (c .before) .pre .registers), simp sub-zero)
 
 -- src/arguments.rt:110:12
 argument-fits-requires : tie.Need-argument-fits-requires Inv-loop μ-loop
 argument-fits-requires c κs =
-      (c .before .before .before) .pre
+    (c .before .before .before) .pre
 
 -- src/arguments.rt:111:13
 add-i : tie.Need-add-i Inv-loop μ-loop
 add-i c =
-      omega (arith, (c .before .before .before .before .before) .pre .n, (c .before .before .before .before .before) .pre .step, (c .before .before .before .before .before) .pre .registers, (c .before .before .before .before .before) .pre .types, (c .before .before .loop-test) .taken, (c .before .before .before .loop) .inv .0, (c .before .before .before .loop) .inv .1, (c .before .before .before .loop) .inv .2)
+    omega (arith, (c .before .before .before .before .before) .pre .n, (c .before .before .before .before .before) .pre .step, (c .before .before .before .before .before) .pre .registers, (c .before .before .before .before .before) .pre .types, (c .before .before .loop-test) .taken, (c .before .before .before .loop) .inv .0, (c .before .before .before .loop) .inv .1, (c .before .before .before .loop) .inv .2)
 
 -- src/arguments.rt:112:13
 add-k : tie.Need-add-k Inv-loop μ-loop
 add-k c =
-      omega (arith, (c .before .before .before .before .before) .pre .n, (c .before .before .before .before .before) .pre .step, (c .before .before .before .before .before) .pre .registers, (c .before .before .before .before .before) .pre .types, (c .before .before .loop-test) .taken, (c .before .before .before .loop) .inv .0, (c .before .before .before .loop) .inv .1, (c .before .before .before .loop) .inv .2)
+    omega (arith, (c .before .before .before .before .before) .pre .n, (c .before .before .before .before .before) .pre .step, (c .before .before .before .before .before) .pre .registers, (c .before .before .before .before .before) .pre .types, (c .before .before .loop-test) .taken, (c .before .before .before .loop) .inv .0, (c .before .before .before .loop) .inv .1, (c .before .before .before .loop) .inv .2)
 
 -- src/arguments.rt:113:13
 add-l : tie.Need-add-l Inv-loop μ-loop
 add-l c =
-      omega (arith, (c .before .before .before .before .before) .pre .n, (c .before .before .before .before .before) .pre .step, (c .before .before .before .before .before) .pre .registers, (c .before .before .before .before .before) .pre .types, (c .before .before .loop-test) .taken, (c .before .before .before .loop) .inv .0, (c .before .before .before .loop) .inv .1, (c .before .before .before .loop) .inv .2)
+    omega (arith, (c .before .before .before .before .before) .pre .n, (c .before .before .before .before .before) .pre .step, (c .before .before .before .before .before) .pre .registers, (c .before .before .before .before .before) .pre .types, (c .before .before .loop-test) .taken, (c .before .before .before .loop) .inv .0, (c .before .before .before .loop) .inv .1, (c .before .before .before .loop) .inv .2)
 
 -- src/arguments.rt:109:5
 loop-less : tie.Need-loop-less Inv-loop μ-loop
 loop-less c =
-      omega (arith, (c .before .before .loop-test) .taken)
+    omega (arith, (c .before .before .loop-test) .taken)
 
 -- src/arguments.rt:109:5
 loop-again : tie.Need-loop-again Inv-loop μ-loop
 loop-again c =
-      (omega (arith, (c .before .before .before .before .before) .pre .n, (c .before .before .before .before .before) .pre .step, (c .before .before .before .before .before) .pre .registers, (c .before .before .before .before .before) .pre .types, (c .before .before .loop-test) .taken, (c .before .before .before .loop) .inv .0, (c .before .before .before .loop) .inv .1, (c .before .before .before .loop) .inv .2), omega (arith, (c .before .before .before .before .before) .pre .n, (c .before .before .before .before .before) .pre .step, (c .before .before .before .before .before) .pre .registers, (c .before .before .before .before .before) .pre .types, (c .before .before .loop-test) .taken, (c .before .before .before .loop) .inv .0, (c .before .before .before .loop) .inv .1, (c .before .before .before .loop) .inv .2), omega (arith, (c .before .before .before .before .before) .pre .n, (c .before .before .before .before .before) .pre .step, (c .before .before .before .before .before) .pre .registers, (c .before .before .before .before .before) .pre .types, (c .before .before .loop-test) .taken, (c .before .before .before .loop) .inv .0, (c .before .before .before .loop) .inv .1, (c .before .before .before .loop) .inv .2), (c .before .before .before .loop) .inv .3 ∙ all-passed _ _ _ _ _ _ _ _ ((c .before .before .loop-test) .taken) (sym ((c .before .argument-fits) .ensures) ∙ (c .if1) .taken))
+    (omega (arith, (c .before .before .before .before .before) .pre .n, (c .before .before .before .before .before) .pre .step, (c .before .before .before .before .before) .pre .registers, (c .before .before .before .before .before) .pre .types, (c .before .before .loop-test) .taken, (c .before .before .before .loop) .inv .0, (c .before .before .before .loop) .inv .1, (c .before .before .before .loop) .inv .2), omega (arith, (c .before .before .before .before .before) .pre .n, (c .before .before .before .before .before) .pre .step, (c .before .before .before .before .before) .pre .registers, (c .before .before .before .before .before) .pre .types, (c .before .before .loop-test) .taken, (c .before .before .before .loop) .inv .0, (c .before .before .before .loop) .inv .1, (c .before .before .before .loop) .inv .2), omega (arith, (c .before .before .before .before .before) .pre .n, (c .before .before .before .before .before) .pre .step, (c .before .before .before .before .before) .pre .registers, (c .before .before .before .before .before) .pre .types, (c .before .before .loop-test) .taken, (c .before .before .before .loop) .inv .0, (c .before .before .before .loop) .inv .1, (c .before .before .before .loop) .inv .2), (c .before .before .before .loop) .inv .3 ∙ all-passed _ _ _ _ _ _ _ _ ((c .before .before .loop-test) .taken) (sym ((c .before .argument-fits) .ensures) ∙ (c .if1) .taken))
 
 -- src/arguments.rt:115:13
 returns : tie.Need-returns Inv-loop μ-loop
 returns c =
-      sym ((c .before .before .before .loop) .inv .3 ∙ all-failed _ _ _ _ _ _ _ _ ((c .before .before .loop-test) .taken) (sym ((c .before .argument-fits) .ensures) ∙ (c .if1) .left))
+    sym ((c .before .before .before .loop) .inv .3 ∙ all-failed _ _ _ _ _ _ _ _ ((c .before .before .loop-test) .taken) (sym ((c .before .argument-fits) .ensures) ∙ (c .if1) .left))
 
 -- src/arguments.rt:100:1
 returns-2 : tie.Need-returns-2 Inv-loop μ-loop
 returns-2 c =
-      sym ((c .before .loop) .inv .3 ∙ all-done _ _ _ _ _ _ _ _ ((c .loop-test) .left))
+    sym ((c .before .loop) .inv .3 ∙ all-done _ _ _ _ _ _ _ _ ((c .loop-test) .left))
 
 pub all-fit-spec : {M : Type 1} → statement M
 all-fit-spec =

@@ -51,27 +51,27 @@ is-within-requires c κs = search needs
 -- src/arguments.rt:74:1
 returns : tie.Need-returns
 returns c =
-      ap (λ (n : ℕ). eqb n 1) (rw ((c .before .field2) .ensures .0) at ((c .occurrences) .ensures)) ∙ sym (fits-owned _ _ _ ((c .before .before .before .before .before .field) .ensures .0) ((c .before .before .before .before .match) .keys1) ∙ and-on _ (sym ((c .before .before .before .is-owned) .ensures) ∙ (c .before .before .if1) .taken))
+    ap (λ (n : ℕ). eqb n 1) (rw ((c .before .field2) .ensures .0) at ((c .occurrences) .ensures)) ∙ sym (fits-owned _ _ _ ((c .before .before .before .before .before .field) .ensures .0) ((c .before .before .before .before .match) .keys1) ∙ and-on _ (sym ((c .before .before .before .is-owned) .ensures) ∙ (c .before .before .if1) .taken))
 
 -- src/arguments.rt:74:1
 returns-2 : tie.Need-returns-2
 returns-2 c =
-      sym (fits-owned _ _ _ ((c .before .before .before .field) .ensures .0) ((c .before .before .match) .keys1) ∙ and-off _ (sym ((c .before .is-owned) .ensures) ∙ (c .if1) .left))
+    sym (fits-owned _ _ _ ((c .before .before .before .field) .ensures .0) ((c .before .before .match) .keys1) ∙ and-off _ (sym ((c .before .is-owned) .ensures) ∙ (c .if1) .left))
 
 -- src/arguments.rt:74:1
 returns-3 : tie.Need-returns-3
 returns-3 c =
-      (c .is-vector) .ensures ∙ sym (fits-borrowed _ _ _ ((c .before .before .field) .ensures .0) ((c .before .match) .keys2))
+    (c .is-vector) .ensures ∙ sym (fits-borrowed _ _ _ ((c .before .before .field) .ensures .0) ((c .before .match) .keys2))
 
 -- src/arguments.rt:74:1
 returns-4 : tie.Need-returns-4
 returns-4 c =
-      (c .is-within) .ensures ∙ rw ((c .before .kind-in) .ensures) (sym (fits-shared _ _ _ ((c .before .before .before .before .before .field) .ensures .0) ((c .before .before .before .before .match) .rest .0 .1) ((c .before .before .before .before .match) .rest .1) ∙ and-on _ (sym ((c .before .before .before .is-shared) .ensures) ∙ (c .before .before .if2) .taken)))
+    (c .is-within) .ensures ∙ rw ((c .before .kind-in) .ensures) (sym (fits-shared _ _ _ ((c .before .before .before .before .before .field) .ensures .0) ((c .before .before .before .before .match) .rest .0 .1) ((c .before .before .before .before .match) .rest .1) ∙ and-on _ (sym ((c .before .before .before .is-shared) .ensures) ∙ (c .before .before .if2) .taken)))
 
 -- src/arguments.rt:74:1
 returns-5 : tie.Need-returns-5
 returns-5 c =
-      sym (fits-shared _ _ _ ((c .before .before .before .field) .ensures .0) ((c .before .before .match) .rest .0 .1) ((c .before .before .match) .rest .1) ∙ and-off _ (sym ((c .before .is-shared) .ensures) ∙ (c .if2) .left))
+    sym (fits-shared _ _ _ ((c .before .before .before .field) .ensures .0) ((c .before .before .match) .rest .0 .1) ((c .before .before .match) .rest .1) ∙ and-off _ (sym ((c .before .is-shared) .ensures) ∙ (c .if2) .left))
 
 pub argument-fits-spec : {M : Type 1} → statement M
 argument-fits-spec =

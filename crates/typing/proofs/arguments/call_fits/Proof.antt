@@ -23,7 +23,7 @@ return-fits-requires c κs = search needs
 returns : tie.Need-returns
 unfolding fitsCall
 returns c =
-      (c .return-fits) .ensures ∙ sym (and-on _ (sym ((c .before .before .before .all-fit) .ensures) ∙ (c .before .before .if1) .taken) ∙ and-on _ (rw (eq-eqb _ _ ((c .before .if2) .taken))))
+    (c .return-fits) .ensures ∙ sym (and-on _ (sym ((c .before .before .before .all-fit) .ensures) ∙ (c .before .before .if1) .taken) ∙ and-on _ (rw (eq-eqb _ _ ((c .before .if2) .taken))))
 
 -- src/arguments.rt:161:12
 does-empty-requires : tie.Need-does-empty-requires
@@ -37,19 +37,19 @@ return-fits-requires-2 c κs = search needs
 returns-2 : tie.Need-returns-2
 unfolding fitsCall
 returns-2 c =
-      sym (and-on _ (sym ((c .before .before .before .before .all-fit) .ensures) ∙ (c .before .before .before .if1) .taken) ∙ and-off _ (rw (ne-eqb _ _ ((c .before .before .if2) .left), sym ((c .before .does-empty) .ensures) ∙ (c .if3) .taken)))
+    sym (and-on _ (sym ((c .before .before .before .before .all-fit) .ensures) ∙ (c .before .before .before .if1) .taken) ∙ and-off _ (rw (ne-eqb _ _ ((c .before .before .if2) .left), sym ((c .before .does-empty) .ensures) ∙ (c .if3) .taken)))
 
 -- src/arguments.rt:153:1
 returns-3 : tie.Need-returns-3
 unfolding fitsCall
 returns-3 c =
-      (c .return-fits2) .ensures ∙ sym (and-on _ (sym ((c .before .before .before .before .before .all-fit) .ensures) ∙ (c .before .before .before .before .if1) .taken) ∙ and-on _ (rw (ne-eqb _ _ ((c .before .before .before .if2) .left), sym ((c .before .before .does-empty) .ensures) ∙ (c .before .if3) .left)))
+    (c .return-fits2) .ensures ∙ sym (and-on _ (sym ((c .before .before .before .before .before .all-fit) .ensures) ∙ (c .before .before .before .before .if1) .taken) ∙ and-on _ (rw (ne-eqb _ _ ((c .before .before .before .if2) .left), sym ((c .before .before .does-empty) .ensures) ∙ (c .before .if3) .left)))
 
 -- src/arguments.rt:153:1
 returns-4 : tie.Need-returns-4
 unfolding fitsCall
 returns-4 c =
-      sym (and-off _ (sym ((c .before .all-fit) .ensures) ∙ (c .if1) .left))
+    sym (and-off _ (sym ((c .before .all-fit) .ensures) ∙ (c .if1) .left))
 
 pub call-fits-spec : {M : Type 1} → statement M
 call-fits-spec =

@@ -27,45 +27,45 @@ abbrev μ-loop : tie.MeasureT-loop
 -- src/arguments.rt:131:5
 loop-holds : tie.Need-loop-holds Inv-loop μ-loop
 loop-holds c =
-      (omega arith, omega (arith, (c .before) .pre .types), simp sub-zero)
+    (omega arith, omega (arith, (c .before) .pre .types), simp sub-zero)
 
 -- src/arguments.rt:132:12
 field-requires : tie.Need-field-requires Inv-loop μ-loop
 field-requires c κs =
-      search needs
+    search needs
 
 -- src/arguments.rt:133:13
 returns : tie.Need-returns Inv-loop μ-loop
 unfolding argumentsAt isOwned ownershipOf
 returns c =
-      sym (registers-free _ _ _ _ _ _ _ _ ∙ (c .before .before .before .loop) .inv .2 ∙ any-met _ _ _ _ _ (λ (a : Argument). isOwned (a .type)) _ _ ((c .before .before .loop-test) .taken) (simp (← (c .before .field) .ensures .0, eq-eqb _ _ ((c .if1) .taken))))
+    sym (registers-free _ _ _ _ _ _ _ _ ∙ (c .before .before .before .loop) .inv .2 ∙ any-met _ _ _ _ _ (λ (a : Argument). isOwned (a .type)) _ _ ((c .before .before .loop-test) .taken) (simp (← (c .before .field) .ensures .0, eq-eqb _ _ ((c .if1) .taken))))
 
 -- src/arguments.rt:135:9
 add-i : tie.Need-add-i Inv-loop μ-loop
 add-i c =
-      omega (arith, (c .before .before .before .before .before) .pre .n, (c .before .before .before .before .before) .pre .step, (c .before .before .before .before .before) .pre .registers, (c .before .before .before .before .before) .pre .types, (c .before .before .loop-test) .taken, (c .before .before .before .loop) .inv .0, (c .before .before .before .loop) .inv .1)
+    omega (arith, (c .before .before .before .before .before) .pre .n, (c .before .before .before .before .before) .pre .step, (c .before .before .before .before .before) .pre .registers, (c .before .before .before .before .before) .pre .types, (c .before .before .loop-test) .taken, (c .before .before .before .loop) .inv .0, (c .before .before .before .loop) .inv .1)
 
 -- src/arguments.rt:136:9
 add-k : tie.Need-add-k Inv-loop μ-loop
 add-k c =
-      omega (arith, (c .before .before .before .before .before) .pre .n, (c .before .before .before .before .before) .pre .step, (c .before .before .before .before .before) .pre .registers, (c .before .before .before .before .before) .pre .types, (c .before .before .loop-test) .taken, (c .before .before .before .loop) .inv .0, (c .before .before .before .loop) .inv .1)
+    omega (arith, (c .before .before .before .before .before) .pre .n, (c .before .before .before .before .before) .pre .step, (c .before .before .before .before .before) .pre .registers, (c .before .before .before .before .before) .pre .types, (c .before .before .loop-test) .taken, (c .before .before .before .loop) .inv .0, (c .before .before .before .loop) .inv .1)
 
 -- src/arguments.rt:131:5
 loop-less : tie.Need-loop-less Inv-loop μ-loop
 loop-less c =
-      omega (arith, (c .before .before .loop-test) .taken)
+    omega (arith, (c .before .before .loop-test) .taken)
 
 -- src/arguments.rt:131:5
 loop-again : tie.Need-loop-again Inv-loop μ-loop
 unfolding isOwned ownershipOf
 loop-again c =
-      (omega (arith, (c .before .before .before .before .before) .pre .n, (c .before .before .before .before .before) .pre .step, (c .before .before .before .before .before) .pre .registers, (c .before .before .before .before .before) .pre .types, (c .before .before .loop-test) .taken, (c .before .before .before .loop) .inv .0, (c .before .before .before .loop) .inv .1), omega (arith, (c .before .before .before .before .before) .pre .n, (c .before .before .before .before .before) .pre .step, (c .before .before .before .before .before) .pre .registers, (c .before .before .before .before .before) .pre .types, (c .before .before .loop-test) .taken, (c .before .before .before .loop) .inv .0, (c .before .before .before .loop) .inv .1), (c .before .before .before .loop) .inv .2 ∙ any-passed _ _ _ _ _ (λ (a : Argument). isOwned (a .type)) _ _ ((c .before .before .loop-test) .taken) (simp (← (c .before .field) .ensures .0, ne-eqb _ _ ((c .if1) .left))))
+    (omega (arith, (c .before .before .before .before .before) .pre .n, (c .before .before .before .before .before) .pre .step, (c .before .before .before .before .before) .pre .registers, (c .before .before .before .before .before) .pre .types, (c .before .before .loop-test) .taken, (c .before .before .before .loop) .inv .0, (c .before .before .before .loop) .inv .1), omega (arith, (c .before .before .before .before .before) .pre .n, (c .before .before .before .before .before) .pre .step, (c .before .before .before .before .before) .pre .registers, (c .before .before .before .before .before) .pre .types, (c .before .before .loop-test) .taken, (c .before .before .before .loop) .inv .0, (c .before .before .before .loop) .inv .1), (c .before .before .before .loop) .inv .2 ∙ any-passed _ _ _ _ _ (λ (a : Argument). isOwned (a .type)) _ _ ((c .before .before .loop-test) .taken) (simp (← (c .before .field) .ensures .0, ne-eqb _ _ ((c .if1) .left))))
 
 -- src/arguments.rt:122:1
 returns-2 : tie.Need-returns-2 Inv-loop μ-loop
 unfolding argumentsAt
 returns-2 c =
-      sym (registers-free _ _ _ _ _ _ _ _ ∙ (c .before .loop) .inv .2 ∙ any-done _ _ _ _ _ (λ (a : Argument). isOwned (a .type)) _ _ ((c .loop-test) .left))
+    sym (registers-free _ _ _ _ _ _ _ _ ∙ (c .before .loop) .inv .2 ∙ any-done _ _ _ _ _ (λ (a : Argument). isOwned (a .type)) _ _ ((c .loop-test) .left))
 
 pub does-empty-spec : {M : Type 1} → statement M
 does-empty-spec =

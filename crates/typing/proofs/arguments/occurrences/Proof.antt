@@ -27,63 +27,63 @@ abbrev μ-loop : tie.MeasureT-loop
 -- src/arguments.rt:60:5
 loop-holds : tie.Need-loop-holds Inv-loop μ-loop
 loop-holds c =
-      (omega arith, omega arith, omega (arith, (c .before) .pre .registers), simp (sub-zero, zero-add))
+    (omega arith, omega arith, omega (arith, (c .before) .pre .registers), simp (sub-zero, zero-add))
 
 -- src/arguments.rt:61:12
 field-requires : tie.Need-field-requires Inv-loop μ-loop
 field-requires c κs =
-      search needs
+    search needs
 
 -- src/arguments.rt:62:13
 add-found : tie.Need-add-found Inv-loop μ-loop
 add-found c =
-      omega (arith, (c .before .before .before .before .before) .pre .n, (c .before .before .before .before .before) .pre .step, (c .before .before .before .before .before) .pre .registers, (c .before .before .before .before .before) .pre .types, (c .before .before .loop-test) .taken, (c .before .before .before .loop) .inv .0, (c .before .before .before .loop) .inv .1, (c .before .before .before .loop) .inv .2)
+    omega (arith, (c .before .before .before .before .before) .pre .n, (c .before .before .before .before .before) .pre .step, (c .before .before .before .before .before) .pre .registers, (c .before .before .before .before .before) .pre .types, (c .before .before .loop-test) .taken, (c .before .before .before .loop) .inv .0, (c .before .before .before .loop) .inv .1, (c .before .before .before .loop) .inv .2)
 
 -- src/arguments.rt:63:13
 add-i : tie.Need-add-i Inv-loop μ-loop
 add-i c =
-      omega (arith, (c .before .before .before .before .before) .pre .n, (c .before .before .before .before .before) .pre .step, (c .before .before .before .before .before) .pre .registers, (c .before .before .before .before .before) .pre .types, (c .before .before .loop-test) .taken, (c .before .before .before .loop) .inv .0, (c .before .before .before .loop) .inv .1, (c .before .before .before .loop) .inv .2)
+    omega (arith, (c .before .before .before .before .before) .pre .n, (c .before .before .before .before .before) .pre .step, (c .before .before .before .before .before) .pre .registers, (c .before .before .before .before .before) .pre .types, (c .before .before .loop-test) .taken, (c .before .before .before .loop) .inv .0, (c .before .before .before .loop) .inv .1, (c .before .before .before .loop) .inv .2)
 
 -- src/arguments.rt:64:13
 add-l : tie.Need-add-l Inv-loop μ-loop
 add-l c =
-      omega (arith, (c .before .before .before .before .before) .pre .n, (c .before .before .before .before .before) .pre .step, (c .before .before .before .before .before) .pre .registers, (c .before .before .before .before .before) .pre .types, (c .before .before .loop-test) .taken, (c .before .before .before .loop) .inv .0, (c .before .before .before .loop) .inv .1, (c .before .before .before .loop) .inv .2)
+    omega (arith, (c .before .before .before .before .before) .pre .n, (c .before .before .before .before .before) .pre .step, (c .before .before .before .before .before) .pre .registers, (c .before .before .before .before .before) .pre .types, (c .before .before .loop-test) .taken, (c .before .before .before .loop) .inv .0, (c .before .before .before .loop) .inv .1, (c .before .before .before .loop) .inv .2)
 
 -- src/arguments.rt:60:5
 loop-less : tie.Need-loop-less Inv-loop μ-loop
 loop-less c =
-      omega (arith, (c .before .before .loop-test) .taken)
+    omega (arith, (c .before .before .loop-test) .taken)
 
 -- src/arguments.rt:60:5
 loop-again : tie.Need-loop-again Inv-loop μ-loop
 loop-again c =
-      (omega (arith, (c .before .before .before .before .before) .pre .n, (c .before .before .before .before .before) .pre .step, (c .before .before .before .before .before) .pre .registers, (c .before .before .before .before .before) .pre .types, (c .before .before .loop-test) .taken, (c .before .before .before .loop) .inv .0, (c .before .before .before .loop) .inv .1, (c .before .before .before .loop) .inv .2), omega (arith, (c .before .before .before .before .before) .pre .n, (c .before .before .before .before .before) .pre .step, (c .before .before .before .before .before) .pre .registers, (c .before .before .before .before .before) .pre .types, (c .before .before .loop-test) .taken, (c .before .before .before .loop) .inv .0, (c .before .before .before .loop) .inv .1, (c .before .before .before .loop) .inv .2), omega (arith, (c .before .before .before .before .before) .pre .n, (c .before .before .before .before .before) .pre .step, (c .before .before .before .before .before) .pre .registers, (c .before .before .before .before .before) .pre .types, (c .before .before .loop-test) .taken, (c .before .before .before .loop) .inv .0, (c .before .before .before .loop) .inv .1, (c .before .before .before .loop) .inv .2), (c .before .before .before .loop) .inv .3 ∙ rw (count-met _ _ _ _ _ (λ (a : Argument). eqb (a .register) ((c .before .before .before .before .before) .args .r)) _ _ ((c .before .before .loop-test) .taken) (eq-eqb _ _ (sym ((c .before .field) .ensures .0) ∙ (c .if1) .taken))) (omega arith))
+    (omega (arith, (c .before .before .before .before .before) .pre .n, (c .before .before .before .before .before) .pre .step, (c .before .before .before .before .before) .pre .registers, (c .before .before .before .before .before) .pre .types, (c .before .before .loop-test) .taken, (c .before .before .before .loop) .inv .0, (c .before .before .before .loop) .inv .1, (c .before .before .before .loop) .inv .2), omega (arith, (c .before .before .before .before .before) .pre .n, (c .before .before .before .before .before) .pre .step, (c .before .before .before .before .before) .pre .registers, (c .before .before .before .before .before) .pre .types, (c .before .before .loop-test) .taken, (c .before .before .before .loop) .inv .0, (c .before .before .before .loop) .inv .1, (c .before .before .before .loop) .inv .2), omega (arith, (c .before .before .before .before .before) .pre .n, (c .before .before .before .before .before) .pre .step, (c .before .before .before .before .before) .pre .registers, (c .before .before .before .before .before) .pre .types, (c .before .before .loop-test) .taken, (c .before .before .before .loop) .inv .0, (c .before .before .before .loop) .inv .1, (c .before .before .before .loop) .inv .2), (c .before .before .before .loop) .inv .3 ∙ rw (count-met _ _ _ _ _ (λ (a : Argument). eqb (a .register) ((c .before .before .before .before .before) .args .r)) _ _ ((c .before .before .loop-test) .taken) (eq-eqb _ _ (sym ((c .before .field) .ensures .0) ∙ (c .if1) .taken))) (omega arith))
 
 -- src/arguments.rt:66:13
 add-i-2 : tie.Need-add-i-2 Inv-loop μ-loop
 add-i-2 c =
-      omega (arith, (c .before .before .before .before .before) .pre .n, (c .before .before .before .before .before) .pre .step, (c .before .before .before .before .before) .pre .registers, (c .before .before .before .before .before) .pre .types, (c .before .before .loop-test) .taken, (c .before .before .before .loop) .inv .0, (c .before .before .before .loop) .inv .1, (c .before .before .before .loop) .inv .2)
+    omega (arith, (c .before .before .before .before .before) .pre .n, (c .before .before .before .before .before) .pre .step, (c .before .before .before .before .before) .pre .registers, (c .before .before .before .before .before) .pre .types, (c .before .before .loop-test) .taken, (c .before .before .before .loop) .inv .0, (c .before .before .before .loop) .inv .1, (c .before .before .before .loop) .inv .2)
 
 -- src/arguments.rt:67:13
 add-l-2 : tie.Need-add-l-2 Inv-loop μ-loop
 add-l-2 c =
-      omega (arith, (c .before .before .before .before .before) .pre .n, (c .before .before .before .before .before) .pre .step, (c .before .before .before .before .before) .pre .registers, (c .before .before .before .before .before) .pre .types, (c .before .before .loop-test) .taken, (c .before .before .before .loop) .inv .0, (c .before .before .before .loop) .inv .1, (c .before .before .before .loop) .inv .2)
+    omega (arith, (c .before .before .before .before .before) .pre .n, (c .before .before .before .before .before) .pre .step, (c .before .before .before .before .before) .pre .registers, (c .before .before .before .before .before) .pre .types, (c .before .before .loop-test) .taken, (c .before .before .before .loop) .inv .0, (c .before .before .before .loop) .inv .1, (c .before .before .before .loop) .inv .2)
 
 -- src/arguments.rt:60:5
 loop-less-2 : tie.Need-loop-less-2 Inv-loop μ-loop
 loop-less-2 c =
-      omega (arith, (c .before .before .loop-test) .taken)
+    omega (arith, (c .before .before .loop-test) .taken)
 
 -- src/arguments.rt:60:5
 loop-again-2 : tie.Need-loop-again-2 Inv-loop μ-loop
 loop-again-2 c =
-      (omega (arith, (c .before .before .before .before .before) .pre .n, (c .before .before .before .before .before) .pre .step, (c .before .before .before .before .before) .pre .registers, (c .before .before .before .before .before) .pre .types, (c .before .before .loop-test) .taken, (c .before .before .before .loop) .inv .0, (c .before .before .before .loop) .inv .1, (c .before .before .before .loop) .inv .2), omega (arith, (c .before .before .before .before .before) .pre .n, (c .before .before .before .before .before) .pre .step, (c .before .before .before .before .before) .pre .registers, (c .before .before .before .before .before) .pre .types, (c .before .before .loop-test) .taken, (c .before .before .before .loop) .inv .0, (c .before .before .before .loop) .inv .1, (c .before .before .before .loop) .inv .2), omega (arith, (c .before .before .before .before .before) .pre .n, (c .before .before .before .before .before) .pre .step, (c .before .before .before .before .before) .pre .registers, (c .before .before .before .before .before) .pre .types, (c .before .before .loop-test) .taken, (c .before .before .before .loop) .inv .0, (c .before .before .before .loop) .inv .1, (c .before .before .before .loop) .inv .2), (c .before .before .before .loop) .inv .3 ∙ rw (count-passed _ _ _ _ _ (λ (a : Argument). eqb (a .register) ((c .before .before .before .before .before) .args .r)) _ _ ((c .before .before .loop-test) .taken) (ne-eqb _ _ (λ e. (c .if1) .left ((c .before .field) .ensures .0 ∙ e)))))
+    (omega (arith, (c .before .before .before .before .before) .pre .n, (c .before .before .before .before .before) .pre .step, (c .before .before .before .before .before) .pre .registers, (c .before .before .before .before .before) .pre .types, (c .before .before .loop-test) .taken, (c .before .before .before .loop) .inv .0, (c .before .before .before .loop) .inv .1, (c .before .before .before .loop) .inv .2), omega (arith, (c .before .before .before .before .before) .pre .n, (c .before .before .before .before .before) .pre .step, (c .before .before .before .before .before) .pre .registers, (c .before .before .before .before .before) .pre .types, (c .before .before .loop-test) .taken, (c .before .before .before .loop) .inv .0, (c .before .before .before .loop) .inv .1, (c .before .before .before .loop) .inv .2), omega (arith, (c .before .before .before .before .before) .pre .n, (c .before .before .before .before .before) .pre .step, (c .before .before .before .before .before) .pre .registers, (c .before .before .before .before .before) .pre .types, (c .before .before .loop-test) .taken, (c .before .before .before .loop) .inv .0, (c .before .before .before .loop) .inv .1, (c .before .before .before .loop) .inv .2), (c .before .before .before .loop) .inv .3 ∙ rw (count-passed _ _ _ _ _ (λ (a : Argument). eqb (a .register) ((c .before .before .before .before .before) .args .r)) _ _ ((c .before .before .loop-test) .taken) (ne-eqb _ _ (λ e. (c .if1) .left ((c .before .field) .ensures .0 ∙ e)))))
 
 -- src/arguments.rt:51:1
 returns : tie.Need-returns Inv-loop μ-loop
 unfolding argumentsAt
 returns c =
-      sym (types-free _ _ _ _ _ _ _ _ _ ∙ (c .before .loop) .inv .3 ∙ rw (count-done _ _ _ _ _ (λ (a : Argument). eqb (a .register) ((c .before .before .before) .args .r)) _ _ ((c .loop-test) .left), add-zero))
+    sym (types-free _ _ _ _ _ _ _ _ _ ∙ (c .before .loop) .inv .3 ∙ rw (count-done _ _ _ _ _ (λ (a : Argument). eqb (a .register) ((c .before .before .before) .args .r)) _ _ ((c .loop-test) .left), add-zero))
 
 pub occurrences-spec : {M : Type 1} → statement M
 occurrences-spec =

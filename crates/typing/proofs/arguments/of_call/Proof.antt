@@ -1,3 +1,5 @@
+use lib.Dec.{lit<}
+use native.Mathlib.Omega.{arith}
 use Rattle.typing.specs.Calls.{callOf}
 use borrow.Author.Needs.{needs}
 use Rattle.typing.proofs.arguments.of_call.Statement.{statement}
@@ -31,7 +33,7 @@ lesser-requires-2 c κs = search needs
 returns : tie.Need-returns
 unfolding callOf
 returns c =
-      simp ((c .lesser2) .ensures, (c .before .lesser) .ensures, (c .before .before .before .before .field) .ensures .0, (c .before .before .before .field2) .ensures .0, (c .before .before .field3) .ensures .0)
+    (simp ((c .lesser2) .ensures .0, (c .before .lesser) .ensures .0, (c .before .before .before .before .field) .ensures .0, (c .before .before .before .field2) .ensures .0, (c .before .before .field3) .ensures .0), record { types = lit< tt; registers = lit< tt; step = lit< tt; n = omega (arith, (c .lesser2) .ensures .1, (c .before .before .before .before .field) .ensures .1) })
 
 pub of-call-spec : {M : Type 1} → statement M
 of-call-spec =

@@ -1,3 +1,4 @@
+use lib.Dec.{lit<}
 use Rattle.typing.specs.Calls.{dispatchOf}
 use borrow.Author.Needs.{needs}
 use Rattle.typing.proofs.arguments.of_dispatch.Statement.{statement}
@@ -14,7 +15,7 @@ field-requires c κs = search needs
 returns : tie.Need-returns
 unfolding dispatchOf
 returns c =
-      simp ((c .field) .ensures .0)
+    (simp ((c .field) .ensures .0), record { types = lit< tt; registers = lit< tt; step = lit< tt; n = (c .field) .ensures .1 })
 
 pub of-dispatch-spec : {M : Type 1} → statement M
 of-dispatch-spec = tie.close (tie.spec field-requires returns)

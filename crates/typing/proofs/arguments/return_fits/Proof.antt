@@ -22,13 +22,13 @@ takes-plain-requires c κs = search needs
 returns : tie.Need-returns
 unfolding fitsReturn isOwned ownershipOf
 returns c =
-      (c .takes-fresh) .ensures ∙ simp (eq-eqb _ _ ((c .before .if1) .taken))
+    (c .takes-fresh) .ensures ∙ simp (eq-eqb _ _ ((c .before .if1) .taken))
 
 -- src/arguments.rt:142:1
 returns-2 : tie.Need-returns-2
 unfolding fitsReturn isOwned ownershipOf kindOf
 returns-2 c =
-      (c .takes-plain) .ensures ∙ simp (ne-eqb _ _ ((c .before .if1) .left))
+    (c .takes-plain) .ensures ∙ simp (ne-eqb _ _ ((c .before .if1) .left))
 
 pub return-fits-spec : {M : Type 1} → statement M
 return-fits-spec = tie.close (tie.spec takes-fresh-requires takes-plain-requires returns returns-2)

@@ -14,7 +14,7 @@ kind-in-requires c κs = search needs
 returns : tie.Need-returns
 unfolding isInteger
 returns c =
-      simp ((c .kind-in) .ensures)
+    simp ((c .kind-in) .ensures)
 
 pub is-integer-spec : {M : Type 1} → statement M
 is-integer-spec = tie.close (tie.spec kind-in-requires returns)

@@ -32,12 +32,12 @@ enum-told c = search needs
 -- src/registers.rt:51:9
 returns : tie.Need-returns
 returns c =
-      sym (no-vector _ (rw ((c .before .before .before .type-in) .ensures .0) at (sym ((c .before .before .owned-kind) .ensures) ∙ (c .enum-told) .given .1)))
+    sym (no-vector _ (rw ((c .before .before .before .type-in) .ensures .0) at (sym ((c .before .before .owned-kind) .ensures) ∙ (c .enum-told) .given .1)))
 
 -- src/registers.rt:47:1
 returns-2 : tie.Need-returns-2
 returns-2 c =
-      owned-vector _ _ (rw ((c .before .before .before .before .type-in) .ensures .0) at (sym ((c .before .before .before .owned-kind) .ensures) ∙ (c .before .kind) .given .1))
+    owned-vector _ _ (rw ((c .before .before .before .before .type-in) .ensures .0) at (sym ((c .before .before .before .owned-kind) .ensures) ∙ (c .before .kind) .given .1))
 
 pub is-owned-spec : {M : Type 1} → statement M
 is-owned-spec =

@@ -15,13 +15,13 @@ kind-in-requires c κs = search needs
 returns : tie.Need-returns
 unfolding isPromise
 returns c =
-      simp (← (c .before .kind-in) .ensures, eq-eqb _ _ ((c .if1) .taken))
+    simp (← (c .before .kind-in) .ensures, eq-eqb _ _ ((c .if1) .taken))
 
 -- src/registers.rt:61:1
 returns-2 : tie.Need-returns-2
 unfolding isPromise
 returns-2 c =
-      simp (← (c .before .kind-in) .ensures, ne-eqb _ _ ((c .if1) .left))
+    simp (← (c .before .kind-in) .ensures, ne-eqb _ _ ((c .if1) .left))
 
 pub is-promise-spec : {M : Type 1} → statement M
 is-promise-spec = tie.close (tie.spec kind-in-requires returns returns-2)

@@ -14,7 +14,7 @@ kind-in-requires c κs = search needs
 returns : tie.Need-returns
 unfolding isVector
 returns c =
-      simp ((c .kind-in) .ensures)
+    simp ((c .kind-in) .ensures)
 
 pub is-vector-spec : {M : Type 1} → statement M
 is-vector-spec = tie.close (tie.spec kind-in-requires returns)

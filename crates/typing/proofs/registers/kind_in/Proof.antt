@@ -14,7 +14,7 @@ type-in-requires c κs = search needs
 returns : tie.Need-returns
 unfolding kindOf
 returns c =
-      simp ((c .type-in) .ensures .0)
+    simp ((c .type-in) .ensures .0)
 
 pub kind-in-spec : {M : Type 1} → statement M
 kind-in-spec = tie.close (tie.spec type-in-requires returns)

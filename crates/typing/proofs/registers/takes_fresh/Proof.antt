@@ -20,13 +20,13 @@ takes-plain-requires c κs = search needs
 returns : tie.Need-returns
 unfolding fresh
 returns c =
-      simp (sym ((c .before .is-owned) .ensures) ∙ (c .if1) .taken)
+    simp (sym ((c .before .is-owned) .ensures) ∙ (c .if1) .taken)
 
 -- src/registers.rt:91:1
 returns-2 : tie.Need-returns-2
 unfolding fresh
 returns-2 c =
-      (c .takes-plain) .ensures ∙ simp (sym ((c .before .before .is-owned) .ensures) ∙ (c .before .if1) .left)
+    (c .takes-plain) .ensures ∙ simp (sym ((c .before .before .is-owned) .ensures) ∙ (c .before .if1) .left)
 
 pub takes-fresh-spec : {M : Type 1} → statement M
 takes-fresh-spec = tie.close (tie.spec is-owned-requires takes-plain-requires returns returns-2)

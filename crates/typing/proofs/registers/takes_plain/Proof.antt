@@ -24,12 +24,12 @@ is-within-requires c κs = search needs
 -- src/registers.rt:80:1
 returns : tie.Need-returns
 returns c =
-      (c .is-within) .ensures ∙ rw ((c .before .kind-in) .ensures) (sym (and-on _ (sym ((c .before .before .before .is-shared) .ensures) ∙ (c .before .before .if1) .taken)))
+    (c .is-within) .ensures ∙ rw ((c .before .kind-in) .ensures) (sym (and-on _ (sym ((c .before .before .before .is-shared) .ensures) ∙ (c .before .before .if1) .taken)))
 
 -- src/registers.rt:80:1
 returns-2 : tie.Need-returns-2
 returns-2 c =
-      sym (and-off _ (sym ((c .before .is-shared) .ensures) ∙ (c .if1) .left))
+    sym (and-off _ (sym ((c .before .is-shared) .ensures) ∙ (c .if1) .left))
 
 pub takes-plain-spec : {M : Type 1} → statement M
 takes-plain-spec =

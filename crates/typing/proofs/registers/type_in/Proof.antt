@@ -19,7 +19,7 @@ type-of-requires c κs = search needs
 -- src/registers.rt:12:1
 returns : tie.Need-returns
 returns c =
-      (rw ((c .before .field) .ensures .0) at ((c .type-of) .ensures .0), (c .type-of) .ensures .1)
+    (rw ((c .before .field) .ensures .0) at ((c .type-of) .ensures .0), (c .type-of) .ensures .1)
 
 pub type-in-spec : {M : Type 1} → statement M
 type-in-spec = tie.close (tie.spec field-requires type-of-requires returns)

@@ -10,13 +10,13 @@ use Rattle.typing.proofs.types.owned_kind.Lts as lts
 returns : tie.Need-returns
 unfolding ownedKind isOwned ownershipOf kindOf
 returns c =
-      simp (eq-eqb _ _ ((c .if1) .taken))
+    simp (eq-eqb _ _ ((c .if1) .taken))
 
 -- src/types.rt:52:1
 returns-2 : tie.Need-returns-2
 unfolding ownedKind isOwned ownershipOf
 returns-2 c =
-      simp (ne-eqb _ _ ((c .if1) .left))
+    simp (ne-eqb _ _ ((c .if1) .left))
 
 pub owned-kind-spec : {M : Type 1} → statement M
 owned-kind-spec = tie.close (tie.spec returns returns-2)
