@@ -1,74 +1,53 @@
-use Rattle.typing.proofs.Ways.{fits-owned, fits-borrowed, fits-shared}
-use Rattle.layout.proofs.Bools.{and-on, and-off}
-use lib.Dec.{eqb}
+-- `typing::arguments::argument_fits`: by the ownership of the parameter.
 use Prim.Native.Nat.{ℕ}
-use mathlib.Core.Path.{_≡_, sym, ap, _∙_}
-use borrow.Author.Needs.{needs}
+use Rattle.layout.proofs.Bools.{and-on, and-off}
+use Rattle.typing.proofs.Ways.{fits-owned, fits-borrowed, fits-shared}
 use Rattle.typing.proofs.arguments.argument_fits.Statement.{statement}
 use Rattle.typing.proofs.arguments.argument_fits.Tie as tie
-use Rattle.typing.proofs.arguments.argument_fits.Reads as reads
-use Rattle.typing.proofs.arguments.argument_fits.Lts as lts
-use Rattle.layout.proofs.field.Reads as field-reads
-use Rattle.typing.proofs.arguments.occurrences.Reads as occurrences-reads
-use Rattle.typing.proofs.registers.is_owned.Reads as is-owned-reads
-use Rattle.typing.proofs.registers.is_shared.Reads as is-shared-reads
-use Rattle.typing.proofs.registers.is_vector.Reads as is-vector-reads
-use Rattle.typing.proofs.registers.kind_in.Reads as kind-in-reads
-use Rattle.typing.proofs.types.is_within.Reads as is-within-reads
+use borrow.Author.Needs.{needs}
+use lib.Dec.{eqb}
+use mathlib.Core.Path.{sym, ap, _∙_}
 
--- src/arguments.rt:79:9
 field-requires : tie.Need-field-requires
 field-requires c κs = search needs
 
--- src/arguments.rt:82:16
 is-owned-requires : tie.Need-is-owned-requires
 is-owned-requires c κs = search needs
 
--- src/arguments.rt:83:45
 field-requires-2 : tie.Need-field-requires-2
 field-requires-2 c κs = search needs
 
--- src/arguments.rt:83:17
 occurrences-requires : tie.Need-occurrences-requires
 occurrences-requires c κs = search needs
 
--- src/arguments.rt:88:14
 is-vector-requires : tie.Need-is-vector-requires
 is-vector-requires c κs = search needs
 
--- src/arguments.rt:90:16
 is-shared-requires : tie.Need-is-shared-requires
 is-shared-requires c κs = search needs
 
--- src/arguments.rt:91:34
 kind-in-requires : tie.Need-kind-in-requires
 kind-in-requires c κs = search needs
 
--- src/arguments.rt:91:17
 is-within-requires : tie.Need-is-within-requires
 is-within-requires c κs = search needs
 
--- src/arguments.rt:74:1
 returns : tie.Need-returns
 returns c =
     ap (λ (n : ℕ). eqb n 1) (rw ((c .before .field2) .ensures .0) at ((c .occurrences) .ensures)) ∙ sym (fits-owned _ _ _ ((c .before .before .before .before .before .field) .ensures .0) ((c .before .before .before .before .match) .keys1) ∙ and-on _ (sym ((c .before .before .before .is-owned) .ensures) ∙ (c .before .before .if1) .taken))
 
--- src/arguments.rt:74:1
 returns-2 : tie.Need-returns-2
 returns-2 c =
     sym (fits-owned _ _ _ ((c .before .before .before .field) .ensures .0) ((c .before .before .match) .keys1) ∙ and-off _ (sym ((c .before .is-owned) .ensures) ∙ (c .if1) .left))
 
--- src/arguments.rt:74:1
 returns-3 : tie.Need-returns-3
 returns-3 c =
     (c .is-vector) .ensures ∙ sym (fits-borrowed _ _ _ ((c .before .before .field) .ensures .0) ((c .before .match) .keys2))
 
--- src/arguments.rt:74:1
 returns-4 : tie.Need-returns-4
 returns-4 c =
     (c .is-within) .ensures ∙ rw ((c .before .kind-in) .ensures) (sym (fits-shared _ _ _ ((c .before .before .before .before .before .field) .ensures .0) ((c .before .before .before .before .match) .rest .0 .1) ((c .before .before .before .before .match) .rest .1) ∙ and-on _ (sym ((c .before .before .before .is-shared) .ensures) ∙ (c .before .before .if2) .taken)))
 
--- src/arguments.rt:74:1
 returns-5 : tie.Need-returns-5
 returns-5 c =
     sym (fits-shared _ _ _ ((c .before .before .before .field) .ensures .0) ((c .before .before .match) .rest .0 .1) ((c .before .before .match) .rest .1) ∙ and-off _ (sym ((c .before .is-shared) .ensures) ∙ (c .if2) .left))

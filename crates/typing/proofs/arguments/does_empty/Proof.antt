@@ -1,22 +1,18 @@
-use Rattle.typing.proofs.Pairs.{registers-free, any-met, any-passed, any-done}
-use Rattle.typing.specs.Calls.{pairs, argumentsAt}
-use Rattle.typing.specs.Types.{isOwned, ownershipOf}
+-- `typing::arguments::does_empty`: the loop goes along the types, and what is left of the test is put to the arguments from the field k on.
+use Prim.Native.Nat.{_+_, _*_, _-_, _≤_}
+use Rattle.layout.specs.Records.{bodyAt}
+use Rattle.layout.specs.Tests.{any}
 use Rattle.program.specs.Program.{Argument}
-use Rattle.layout.specs.Records.{bodyAt, _!_}
-use Rattle.layout.specs.Tests.{all, any, count}
-use mathlib.Core.Path.{_≡_, sym, ap, _∙_}
-use lib.Dec.{eqb}
-use denote.Ref.{now}
-use borrow.Author.Tests.{eq-eqb, ne-eqb}
-use borrow.Author.Needs.{needs}
-use native.Mathlib.Nat.{sub-zero, zero-add, add-zero}
-use native.Mathlib.Omega.{arith}
-use Prim.Native.Nat.{ℕ, _+_, _*_, _-_, _≤_}
+use Rattle.typing.proofs.Pairs.{registers-free, any-met, any-passed, any-done}
 use Rattle.typing.proofs.arguments.does_empty.Statement.{statement}
 use Rattle.typing.proofs.arguments.does_empty.Tie as tie
-use Rattle.typing.proofs.arguments.does_empty.Reads as reads
-use Rattle.typing.proofs.arguments.does_empty.Lts as lts
-use Rattle.layout.proofs.field.Reads as field-reads
+use Rattle.typing.specs.Calls.{pairs, argumentsAt}
+use Rattle.typing.specs.Types.{isOwned, ownershipOf}
+use borrow.Author.Needs.{needs}
+use borrow.Author.Tests.{eq-eqb, ne-eqb}
+use mathlib.Core.Path.{_≡_, sym, _∙_}
+use native.Mathlib.Nat.{sub-zero}
+use native.Mathlib.Omega.{arith}
 
 abbrev Inv-loop : tie.InvT-loop
 Inv-loop image p n step place k₀ i₀ k i = (i ≤ n) × (k ≤ 256 * (i + 1)) × (any (λ (a : Argument). isOwned (a .type)) (pairs (bodyAt image place) k₀ (bodyAt image place) k₀ step n) ≡ any (λ (a : Argument). isOwned (a .type)) (pairs (bodyAt image place) k (bodyAt image place) k step (n - i)))
@@ -24,44 +20,36 @@ Inv-loop image p n step place k₀ i₀ k i = (i ≤ n) × (k ≤ 256 * (i + 1))
 abbrev μ-loop : tie.MeasureT-loop
 μ-loop image p n step place k₀ i₀ k i = n - i
 
--- src/arguments.rt:131:5
 loop-holds : tie.Need-loop-holds Inv-loop μ-loop
 loop-holds c =
     (omega arith, omega (arith, (c .before) .pre .types), simp sub-zero)
 
--- src/arguments.rt:132:12
 field-requires : tie.Need-field-requires Inv-loop μ-loop
 field-requires c κs =
     search needs
 
--- src/arguments.rt:133:13
 returns : tie.Need-returns Inv-loop μ-loop
 unfolding argumentsAt isOwned ownershipOf
 returns c =
     sym (registers-free _ _ _ _ _ _ _ _ ∙ (c .before .before .before .loop) .inv .2 ∙ any-met _ _ _ _ _ (λ (a : Argument). isOwned (a .type)) _ _ ((c .before .before .loop-test) .taken) (simp (← (c .before .field) .ensures .0, eq-eqb _ _ ((c .if1) .taken))))
 
--- src/arguments.rt:135:9
 add-i : tie.Need-add-i Inv-loop μ-loop
 add-i c =
     omega (arith, (c .before .before .before .before .before) .pre .n, (c .before .before .before .before .before) .pre .step, (c .before .before .before .before .before) .pre .registers, (c .before .before .before .before .before) .pre .types, (c .before .before .loop-test) .taken, (c .before .before .before .loop) .inv .0, (c .before .before .before .loop) .inv .1)
 
--- src/arguments.rt:136:9
 add-k : tie.Need-add-k Inv-loop μ-loop
 add-k c =
     omega (arith, (c .before .before .before .before .before) .pre .n, (c .before .before .before .before .before) .pre .step, (c .before .before .before .before .before) .pre .registers, (c .before .before .before .before .before) .pre .types, (c .before .before .loop-test) .taken, (c .before .before .before .loop) .inv .0, (c .before .before .before .loop) .inv .1)
 
--- src/arguments.rt:131:5
 loop-less : tie.Need-loop-less Inv-loop μ-loop
 loop-less c =
     omega (arith, (c .before .before .loop-test) .taken)
 
--- src/arguments.rt:131:5
 loop-again : tie.Need-loop-again Inv-loop μ-loop
 unfolding isOwned ownershipOf
 loop-again c =
     (omega (arith, (c .before .before .before .before .before) .pre .n, (c .before .before .before .before .before) .pre .step, (c .before .before .before .before .before) .pre .registers, (c .before .before .before .before .before) .pre .types, (c .before .before .loop-test) .taken, (c .before .before .before .loop) .inv .0, (c .before .before .before .loop) .inv .1), omega (arith, (c .before .before .before .before .before) .pre .n, (c .before .before .before .before .before) .pre .step, (c .before .before .before .before .before) .pre .registers, (c .before .before .before .before .before) .pre .types, (c .before .before .loop-test) .taken, (c .before .before .before .loop) .inv .0, (c .before .before .before .loop) .inv .1), (c .before .before .before .loop) .inv .2 ∙ any-passed _ _ _ _ _ (λ (a : Argument). isOwned (a .type)) _ _ ((c .before .before .loop-test) .taken) (simp (← (c .before .field) .ensures .0, ne-eqb _ _ ((c .if1) .left))))
 
--- src/arguments.rt:122:1
 returns-2 : tie.Need-returns-2 Inv-loop μ-loop
 unfolding argumentsAt
 returns-2 c =

@@ -1,35 +1,26 @@
-use lib.Dec.{lit<}
-use native.Mathlib.Omega.{arith}
-use Rattle.typing.specs.Calls.{callOf}
-use borrow.Author.Needs.{needs}
+-- `typing::arguments::of_call`: as many arguments as there are parameters, registers and operands.
 use Rattle.typing.proofs.arguments.of_call.Statement.{statement}
 use Rattle.typing.proofs.arguments.of_call.Tie as tie
-use Rattle.typing.proofs.arguments.of_call.Reads as reads
-use Rattle.typing.proofs.arguments.of_call.Lts as lts
-use Rattle.layout.proofs.field.Reads as field-reads
-use Rattle.typing.proofs.arguments.lesser.Reads as lesser-reads
+use Rattle.typing.specs.Calls.{callOf}
+use borrow.Author.Needs.{needs}
+use lib.Dec.{lit<}
+use native.Mathlib.Omega.{arith}
 
--- src/arguments.rt:26:9
 field-requires : tie.Need-field-requires
 field-requires c κs = search needs
 
--- src/arguments.rt:27:9
 field-requires-2 : tie.Need-field-requires-2
 field-requires-2 c κs = search needs
 
--- src/arguments.rt:33:49
 field-requires-3 : tie.Need-field-requires-3
 field-requires-3 c κs = search needs
 
--- src/arguments.rt:33:31
 lesser-requires : tie.Need-lesser-requires
 lesser-requires c κs = search needs
 
--- src/arguments.rt:33:12
 lesser-requires-2 : tie.Need-lesser-requires-2
 lesser-requires-2 c κs = search needs
 
--- src/arguments.rt:23:1
 returns : tie.Need-returns
 unfolding callOf
 returns c =

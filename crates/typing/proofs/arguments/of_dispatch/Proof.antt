@@ -1,17 +1,13 @@
-use lib.Dec.{lit<}
-use Rattle.typing.specs.Calls.{dispatchOf}
-use borrow.Author.Needs.{needs}
+-- `typing::arguments::of_dispatch`: its pairs.
 use Rattle.typing.proofs.arguments.of_dispatch.Statement.{statement}
 use Rattle.typing.proofs.arguments.of_dispatch.Tie as tie
-use Rattle.typing.proofs.arguments.of_dispatch.Reads as reads
-use Rattle.typing.proofs.arguments.of_dispatch.Lts as lts
-use Rattle.layout.proofs.field.Reads as field-reads
+use Rattle.typing.specs.Calls.{dispatchOf}
+use borrow.Author.Needs.{needs}
+use lib.Dec.{lit<}
 
--- src/arguments.rt:46:12
 field-requires : tie.Need-field-requires
 field-requires c κs = search needs
 
--- src/arguments.rt:38:1
 returns : tie.Need-returns
 unfolding dispatchOf
 returns c =

@@ -1,30 +1,23 @@
-use Rattle.typing.specs.Fits.{fitsReturn}
-use Rattle.typing.specs.Types.{kindOf, ownershipOf, isOwned}
-use mathlib.Core.Path.{_∙_}
-use borrow.Author.Tests.{eq-eqb, ne-eqb}
-use borrow.Author.Needs.{needs}
+-- `typing::arguments::return_fits`: by the ownership of the return.
 use Rattle.typing.proofs.arguments.return_fits.Statement.{statement}
 use Rattle.typing.proofs.arguments.return_fits.Tie as tie
-use Rattle.typing.proofs.arguments.return_fits.Reads as reads
-use Rattle.typing.proofs.arguments.return_fits.Lts as lts
-use Rattle.typing.proofs.registers.takes_fresh.Reads as takes-fresh-reads
-use Rattle.typing.proofs.registers.takes_plain.Reads as takes-plain-reads
+use Rattle.typing.specs.Fits.{fitsReturn}
+use Rattle.typing.specs.Types.{kindOf, ownershipOf, isOwned}
+use borrow.Author.Needs.{needs}
+use borrow.Author.Tests.{eq-eqb, ne-eqb}
+use mathlib.Core.Path.{_∙_}
 
--- src/arguments.rt:146:9
 takes-fresh-requires : tie.Need-takes-fresh-requires
 takes-fresh-requires c κs = search needs
 
--- src/arguments.rt:148:9
 takes-plain-requires : tie.Need-takes-plain-requires
 takes-plain-requires c κs = search needs
 
--- src/arguments.rt:142:1
 returns : tie.Need-returns
 unfolding fitsReturn isOwned ownershipOf
 returns c =
     (c .takes-fresh) .ensures ∙ simp (eq-eqb _ _ ((c .before .if1) .taken))
 
--- src/arguments.rt:142:1
 returns-2 : tie.Need-returns-2
 unfolding fitsReturn isOwned ownershipOf kindOf
 returns-2 c =

@@ -1,63 +1,47 @@
-use Rattle.typing.proofs.Pairs.{call-arguments, dispatch-arguments}
-use Rattle.typing.specs.Fits.{fits, fitsResult}
-use Rattle.program.proofs.Tables.{listed-right}
-use Rattle.program.proofs.Lookups.{version-found, version-missing, block-found, block-missing}
-use Rattle.program.specs.Places.{versionAt, blockAt}
-use Rattle.program.specs.Program.{instrOf}
-use Rattle.layout.proofs.Bools.{and-on, and-off, found-some, found-none}
+-- `typing::fits::call_fits`: a version that is looked up stands at its place.
+use Rattle.layout.proofs.Bools.{found-some, found-none}
 use Rattle.layout.specs.Records.{choose}
-use native.Mathlib.Omega.{arith}
-use mathlib.Core.Path.{_≡_, refl, sym, ap, _∙_}
-use borrow.Author.Needs.{needs}
+use Rattle.program.proofs.Lookups.{version-found, version-missing}
+use Rattle.program.proofs.Tables.{listed-right}
+use Rattle.program.specs.Places.{versionAt}
+use Rattle.program.specs.Program.{instrOf}
+use Rattle.typing.proofs.Pairs.{call-arguments}
 use Rattle.typing.proofs.fits.call_fits.Statement.{statement}
 use Rattle.typing.proofs.fits.call_fits.Tie as tie
-use Rattle.typing.proofs.fits.call_fits.Reads as reads
-use Rattle.typing.proofs.fits.call_fits.Lts as lts
-use Rattle.layout.proofs.field.Reads as field-reads
-use Rattle.program.proofs.lookup.listed.Reads as listed-reads
-use Rattle.typing.proofs.arguments.call_fits.Reads as call-fits-reads
-use Rattle.typing.proofs.arguments.of_call.Reads as of-call-reads
+use Rattle.typing.specs.Fits.{fits}
+use borrow.Author.Needs.{needs}
+use mathlib.Core.Path.{sym, _∙_}
 
--- src/fits.rt:221:9
 field-requires : tie.Need-field-requires
 field-requires c κs = search needs
 
--- src/fits.rt:222:9
 field-requires-2 : tie.Need-field-requires-2
 field-requires-2 c κs = search needs
 
--- src/fits.rt:223:24
 listed-requires : tie.Need-listed-requires
 listed-requires c κs = search needs
 
--- src/fits.rt:223:19
 enum-known-q : tie.Need-enum-known-q
 enum-known-q c = search needs
 
--- src/fits.rt:224:9
 enum-told : tie.Need-enum-told
 enum-told c = search needs
 
--- src/fits.rt:224:9
 returns : tie.Need-returns
 unfolding fits instrOf choose
 returns c =
     sym (found-none _ (rw (← (c .before .before .before .before .field) .ensures .0, ← (c .before .before .before .field2) .ensures .0) (version-missing _ _ _ (sym ((c .before .before .listed) .ensures ∙ listed-right _ _ _ _ ((c .before .before .before .before .before .before) .pre)) ∙ (c .enum-told) .given .1))))
 
--- src/fits.rt:226:42
 of-call-requires : tie.Need-of-call-requires
 of-call-requires c κs = search needs
 
--- src/fits.rt:226:75
 field-requires-3 : tie.Need-field-requires-3
 field-requires-3 c κs = search needs
 
--- src/fits.rt:226:5
 call-fits-requires : tie.Need-call-fits-requires
 call-fits-requires c κs =
     (c .before .of-call) .ensures .1
 
--- src/fits.rt:217:1
 returns-2 : tie.Need-returns-2
 unfolding fits instrOf choose versionAt
 returns-2 c =

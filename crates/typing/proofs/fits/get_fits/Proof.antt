@@ -1,43 +1,32 @@
-use Rattle.typing.specs.Fits.{fits}
-use Rattle.program.specs.Program.{instrOf}
+-- `typing::fits::get_fits`: one test after the other.
 use Rattle.layout.proofs.Bools.{and-on, and-off}
 use Rattle.layout.specs.Records.{choose}
-use mathlib.Core.Path.{sym, _∙_}
-use borrow.Author.Tests.{eq-eqb, ne-eqb}
-use borrow.Author.Needs.{needs}
+use Rattle.program.specs.Program.{instrOf}
 use Rattle.typing.proofs.fits.get_fits.Statement.{statement}
 use Rattle.typing.proofs.fits.get_fits.Tie as tie
-use Rattle.typing.proofs.fits.get_fits.Reads as reads
-use Rattle.typing.proofs.fits.get_fits.Lts as lts
-use Rattle.typing.proofs.registers.is_integer.Reads as is-integer-reads
-use Rattle.typing.proofs.registers.is_vector.Reads as is-vector-reads
-use Rattle.typing.proofs.registers.takes_plain.Reads as takes-plain-reads
+use Rattle.typing.specs.Fits.{fits}
+use borrow.Author.Needs.{needs}
+use mathlib.Core.Path.{sym, _∙_}
 
--- src/fits.rt:98:8
 is-vector-requires : tie.Need-is-vector-requires
 is-vector-requires c κs = search needs
 
--- src/fits.rt:99:12
 is-integer-requires : tie.Need-is-integer-requires
 is-integer-requires c κs = search needs
 
--- src/fits.rt:100:13
 takes-plain-requires : tie.Need-takes-plain-requires
 takes-plain-requires c κs = search needs
 
--- src/fits.rt:95:1
 returns : tie.Need-returns
 unfolding fits instrOf choose
 returns c =
     (c .takes-plain) .ensures ∙ sym (and-on _ (sym ((c .before .before .before .before .is-vector) .ensures) ∙ (c .before .before .before .if1) .taken) ∙ and-on _ (sym ((c .before .before .is-integer) .ensures) ∙ (c .before .if2) .taken))
 
--- src/fits.rt:95:1
 returns-2 : tie.Need-returns-2
 unfolding fits instrOf choose
 returns-2 c =
     sym (and-on _ (sym ((c .before .before .before .is-vector) .ensures) ∙ (c .before .before .if1) .taken) ∙ and-off _ (sym ((c .before .is-integer) .ensures) ∙ (c .if2) .left))
 
--- src/fits.rt:95:1
 returns-3 : tie.Need-returns-3
 unfolding fits instrOf choose
 returns-3 c =

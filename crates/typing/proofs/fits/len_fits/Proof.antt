@@ -1,32 +1,24 @@
-use Rattle.typing.specs.Fits.{fits}
-use Rattle.program.specs.Program.{instrOf}
+-- `typing::fits::len_fits`: one test after the other.
 use Rattle.layout.proofs.Bools.{and-on, and-off}
 use Rattle.layout.specs.Records.{choose}
-use mathlib.Core.Path.{sym, _∙_}
-use borrow.Author.Tests.{eq-eqb, ne-eqb}
-use borrow.Author.Needs.{needs}
+use Rattle.program.specs.Program.{instrOf}
 use Rattle.typing.proofs.fits.len_fits.Statement.{statement}
 use Rattle.typing.proofs.fits.len_fits.Tie as tie
-use Rattle.typing.proofs.fits.len_fits.Reads as reads
-use Rattle.typing.proofs.fits.len_fits.Lts as lts
-use Rattle.typing.proofs.registers.is_vector.Reads as is-vector-reads
-use Rattle.typing.proofs.registers.takes_plain.Reads as takes-plain-reads
+use Rattle.typing.specs.Fits.{fits}
+use borrow.Author.Needs.{needs}
+use mathlib.Core.Path.{sym, _∙_}
 
--- src/fits.rt:87:8
 is-vector-requires : tie.Need-is-vector-requires
 is-vector-requires c κs = search needs
 
--- src/fits.rt:88:9
 takes-plain-requires : tie.Need-takes-plain-requires
 takes-plain-requires c κs = search needs
 
--- src/fits.rt:84:1
 returns : tie.Need-returns
 unfolding fits instrOf choose
 returns c =
     (c .takes-plain) .ensures ∙ sym (and-on _ (sym ((c .before .before .is-vector) .ensures) ∙ (c .before .if1) .taken))
 
--- src/fits.rt:84:1
 returns-2 : tie.Need-returns-2
 unfolding fits instrOf choose
 returns-2 c =

@@ -1,32 +1,24 @@
-use Rattle.typing.specs.Fits.{fits}
-use Rattle.program.specs.Program.{instrOf}
+-- `typing::fits::poke_fits`: one test after the other.
 use Rattle.layout.proofs.Bools.{and-on, and-off}
 use Rattle.layout.specs.Records.{choose}
-use mathlib.Core.Path.{sym, _∙_}
-use borrow.Author.Tests.{eq-eqb, ne-eqb}
-use borrow.Author.Needs.{needs}
+use Rattle.program.specs.Program.{instrOf}
 use Rattle.typing.proofs.fits.poke_fits.Statement.{statement}
 use Rattle.typing.proofs.fits.poke_fits.Tie as tie
-use Rattle.typing.proofs.fits.poke_fits.Reads as reads
-use Rattle.typing.proofs.fits.poke_fits.Lts as lts
-use Rattle.typing.proofs.registers.is_promise.Reads as is-promise-reads
-use Rattle.typing.proofs.registers.is_value.Reads as is-value-reads
+use Rattle.typing.specs.Fits.{fits}
+use borrow.Author.Needs.{needs}
+use mathlib.Core.Path.{sym, _∙_}
 
--- src/fits.rt:199:8
 is-promise-requires : tie.Need-is-promise-requires
 is-promise-requires c κs = search needs
 
--- src/fits.rt:200:9
 is-value-requires : tie.Need-is-value-requires
 is-value-requires c κs = search needs
 
--- src/fits.rt:196:1
 returns : tie.Need-returns
 unfolding fits instrOf choose
 returns c =
     (c .is-value) .ensures ∙ sym (and-on _ (sym ((c .before .before .is-promise) .ensures) ∙ (c .before .if1) .taken))
 
--- src/fits.rt:196:1
 returns-2 : tie.Need-returns-2
 unfolding fits instrOf choose
 returns-2 c =

@@ -1,52 +1,40 @@
-use Rattle.typing.specs.Fits.{fits}
-use Rattle.program.specs.Program.{instrOf}
+-- `typing::fits::select_fits`: one test after the other.
 use Rattle.layout.proofs.Bools.{and-on, and-off}
 use Rattle.layout.specs.Records.{choose}
-use mathlib.Core.Path.{sym, _∙_}
-use borrow.Author.Tests.{eq-eqb, ne-eqb}
-use borrow.Author.Needs.{needs}
+use Rattle.program.specs.Program.{instrOf}
 use Rattle.typing.proofs.fits.select_fits.Statement.{statement}
 use Rattle.typing.proofs.fits.select_fits.Tie as tie
-use Rattle.typing.proofs.fits.select_fits.Reads as reads
-use Rattle.typing.proofs.fits.select_fits.Lts as lts
-use Rattle.typing.proofs.registers.is_integer.Reads as is-integer-reads
-use Rattle.typing.proofs.registers.takes_plain.Reads as takes-plain-reads
+use Rattle.typing.specs.Fits.{fits}
+use borrow.Author.Needs.{needs}
+use mathlib.Core.Path.{sym, _∙_}
 
--- src/fits.rt:147:8
 is-integer-requires : tie.Need-is-integer-requires
 is-integer-requires c κs = search needs
 
--- src/fits.rt:148:12
 is-integer-requires-2 : tie.Need-is-integer-requires-2
 is-integer-requires-2 c κs = search needs
 
--- src/fits.rt:149:16
 is-integer-requires-3 : tie.Need-is-integer-requires-3
 is-integer-requires-3 c κs = search needs
 
--- src/fits.rt:150:17
 takes-plain-requires : tie.Need-takes-plain-requires
 takes-plain-requires c κs = search needs
 
--- src/fits.rt:144:1
 returns : tie.Need-returns
 unfolding fits instrOf choose
 returns c =
     (c .takes-plain) .ensures ∙ sym (and-on _ (sym ((c .before .before .before .before .before .before .is-integer) .ensures) ∙ (c .before .before .before .before .before .if1) .taken) ∙ and-on _ (sym ((c .before .before .before .before .is-integer2) .ensures) ∙ (c .before .before .before .if2) .taken) ∙ and-on _ (sym ((c .before .before .is-integer3) .ensures) ∙ (c .before .if3) .taken))
 
--- src/fits.rt:144:1
 returns-2 : tie.Need-returns-2
 unfolding fits instrOf choose
 returns-2 c =
     sym (and-on _ (sym ((c .before .before .before .before .before .is-integer) .ensures) ∙ (c .before .before .before .before .if1) .taken) ∙ and-on _ (sym ((c .before .before .before .is-integer2) .ensures) ∙ (c .before .before .if2) .taken) ∙ and-off _ (sym ((c .before .is-integer3) .ensures) ∙ (c .if3) .left))
 
--- src/fits.rt:144:1
 returns-3 : tie.Need-returns-3
 unfolding fits instrOf choose
 returns-3 c =
     sym (and-on _ (sym ((c .before .before .before .is-integer) .ensures) ∙ (c .before .before .if1) .taken) ∙ and-off _ (sym ((c .before .is-integer2) .ensures) ∙ (c .if2) .left))
 
--- src/fits.rt:144:1
 returns-4 : tie.Need-returns-4
 unfolding fits instrOf choose
 returns-4 c =

@@ -1,48 +1,38 @@
-use Rattle.typing.specs.Fits.{fits}
-use Rattle.program.specs.Program.{instrOf}
+-- `typing::fits::set_fits`: one test after the other.
 use Rattle.layout.proofs.Bools.{and-on, and-off}
 use Rattle.layout.specs.Records.{choose}
-use mathlib.Core.Path.{sym, _∙_}
-use borrow.Author.Tests.{eq-eqb, ne-eqb}
-use borrow.Author.Needs.{needs}
+use Rattle.program.specs.Program.{instrOf}
 use Rattle.typing.proofs.fits.set_fits.Statement.{statement}
 use Rattle.typing.proofs.fits.set_fits.Tie as tie
-use Rattle.typing.proofs.fits.set_fits.Reads as reads
-use Rattle.typing.proofs.fits.set_fits.Lts as lts
-use Rattle.typing.proofs.registers.is_integer.Reads as is-integer-reads
-use Rattle.typing.proofs.registers.is_owned.Reads as is-owned-reads
+use Rattle.typing.specs.Fits.{fits}
+use borrow.Author.Needs.{needs}
+use borrow.Author.Tests.{eq-eqb, ne-eqb}
+use mathlib.Core.Path.{sym, _∙_}
 
--- src/fits.rt:114:12
 is-owned-requires : tie.Need-is-owned-requires
 is-owned-requires c κs = search needs
 
--- src/fits.rt:115:16
 is-integer-requires : tie.Need-is-integer-requires
 is-integer-requires c κs = search needs
 
--- src/fits.rt:116:17
 is-integer-requires-2 : tie.Need-is-integer-requires-2
 is-integer-requires-2 c κs = search needs
 
--- src/fits.rt:110:1
 returns : tie.Need-returns
 unfolding fits instrOf choose
 returns c =
     (c .is-integer2) .ensures ∙ sym (and-on _ (eq-eqb _ _ ((c .before .before .before .before .before .if1) .taken)) ∙ and-on _ (sym ((c .before .before .before .before .is-owned) .ensures) ∙ (c .before .before .before .if2) .taken) ∙ and-on _ (sym ((c .before .before .is-integer) .ensures) ∙ (c .before .if3) .taken))
 
--- src/fits.rt:110:1
 returns-2 : tie.Need-returns-2
 unfolding fits instrOf choose
 returns-2 c =
     sym (and-on _ (eq-eqb _ _ ((c .before .before .before .before .if1) .taken)) ∙ and-on _ (sym ((c .before .before .before .is-owned) .ensures) ∙ (c .before .before .if2) .taken) ∙ and-off _ (sym ((c .before .is-integer) .ensures) ∙ (c .if3) .left))
 
--- src/fits.rt:110:1
 returns-3 : tie.Need-returns-3
 unfolding fits instrOf choose
 returns-3 c =
     sym (and-on _ (eq-eqb _ _ ((c .before .before .if1) .taken)) ∙ and-off _ (sym ((c .before .is-owned) .ensures) ∙ (c .if2) .left))
 
--- src/fits.rt:110:1
 returns-4 : tie.Need-returns-4
 unfolding fits instrOf choose
 returns-4 c =

@@ -1,38 +1,30 @@
-use Rattle.typing.specs.Fits.{fits}
-use Rattle.program.specs.Program.{instrOf}
+-- `typing::fits::use_fits`: one test after the other.
 use Rattle.layout.proofs.Bools.{and-on, and-off}
 use Rattle.layout.specs.Records.{choose}
-use mathlib.Core.Path.{sym, _∙_}
-use borrow.Author.Tests.{eq-eqb, ne-eqb}
-use borrow.Author.Needs.{needs}
+use Rattle.program.specs.Program.{instrOf}
 use Rattle.typing.proofs.fits.use_fits.Statement.{statement}
 use Rattle.typing.proofs.fits.use_fits.Tie as tie
-use Rattle.typing.proofs.fits.use_fits.Reads as reads
-use Rattle.typing.proofs.fits.use_fits.Lts as lts
-use Rattle.typing.proofs.registers.is_owned.Reads as is-owned-reads
-use Rattle.typing.proofs.registers.takes_fresh.Reads as takes-fresh-reads
+use Rattle.typing.specs.Fits.{fits}
+use borrow.Author.Needs.{needs}
+use borrow.Author.Tests.{eq-eqb, ne-eqb}
+use mathlib.Core.Path.{sym, _∙_}
 
--- src/fits.rt:51:12
 is-owned-requires : tie.Need-is-owned-requires
 is-owned-requires c κs = search needs
 
--- src/fits.rt:52:13
 takes-fresh-requires : tie.Need-takes-fresh-requires
 takes-fresh-requires c κs = search needs
 
--- src/fits.rt:47:1
 returns : tie.Need-returns
 unfolding fits instrOf choose
 returns c =
     (c .takes-fresh) .ensures ∙ sym (and-on _ (eq-eqb _ _ ((c .before .before .before .if1) .taken)) ∙ and-on _ (sym ((c .before .before .is-owned) .ensures) ∙ (c .before .if2) .taken))
 
--- src/fits.rt:47:1
 returns-2 : tie.Need-returns-2
 unfolding fits instrOf choose
 returns-2 c =
     sym (and-on _ (eq-eqb _ _ ((c .before .before .if1) .taken)) ∙ and-off _ (sym ((c .before .is-owned) .ensures) ∙ (c .if2) .left))
 
--- src/fits.rt:47:1
 returns-3 : tie.Need-returns-3
 unfolding fits instrOf choose
 returns-3 c =

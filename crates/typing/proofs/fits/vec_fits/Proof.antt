@@ -1,36 +1,27 @@
-use Rattle.typing.specs.Fits.{fits}
-use Rattle.program.specs.Program.{instrOf}
+-- `typing::fits::vec_fits`: one test after the other.
 use Rattle.layout.proofs.Bools.{and-on, and-off}
 use Rattle.layout.specs.Records.{choose}
-use mathlib.Core.Path.{sym, _∙_}
-use borrow.Author.Needs.{needs}
+use Rattle.program.specs.Program.{instrOf}
 use Rattle.typing.proofs.fits.vec_fits.Statement.{statement}
 use Rattle.typing.proofs.fits.vec_fits.Tie as tie
-use Rattle.typing.proofs.fits.vec_fits.Reads as reads
-use Rattle.typing.proofs.fits.vec_fits.Lts as lts
-use Rattle.layout.proofs.field.Reads as field-reads
-use Rattle.typing.proofs.fits.all_integers.Reads as all-integers-reads
-use Rattle.typing.proofs.registers.takes_fresh.Reads as takes-fresh-reads
+use Rattle.typing.specs.Fits.{fits}
+use borrow.Author.Needs.{needs}
+use mathlib.Core.Path.{sym, _∙_}
 
--- src/fits.rt:76:34
 field-requires : tie.Need-field-requires
 field-requires c κs = search needs
 
--- src/fits.rt:76:8
 all-integers-requires : tie.Need-all-integers-requires
 all-integers-requires c κs = search needs
 
--- src/fits.rt:77:9
 takes-fresh-requires : tie.Need-takes-fresh-requires
 takes-fresh-requires c κs = search needs
 
--- src/fits.rt:73:1
 returns : tie.Need-returns
 unfolding fits instrOf choose
 returns c =
     (c .takes-fresh) .ensures ∙ sym (and-on _ (rw ((c .before .before .before .field) .ensures .0) at (sym ((c .before .before .all-integers) .ensures) ∙ (c .before .if1) .taken)))
 
--- src/fits.rt:73:1
 returns-2 : tie.Need-returns-2
 unfolding fits instrOf choose
 returns-2 c =

@@ -1,23 +1,19 @@
-use Rattle.typing.proofs.Lines.{anyAhead, none-ahead, block-ahead, none-outside, version-ahead, next-ahead, met-ahead, passed-ahead}
-use Rattle.typing.specs.Effects.{reflective}
-use Rattle.program.proofs.Views.{Whole, view-end, view-past}
-use Rattle.program.specs.Places.{versionAt, past}
-use Rattle.program.specs.Program.{program}
+-- `typing::question9::block_reflects`: the loop goes along the records of a block, and what is left of the test is put to the instructions ahead of p.
+use Prim.Native.Nat.{_-_, _≤_}
 use Rattle.layout.proofs.Walk.{size-room, size-in}
 use Rattle.layout.specs.Records.{records}
-use mathlib.Core.Path.{_≡_, refl, sym, ap, _∙_}
-use denote.Ref.{now}
-use borrow.Author.Needs.{needs}
-use native.Mathlib.Omega.{arith}
-use lib.ListN.{length}
-use Prim.Native.Nat.{ℕ, _+_, _-_, _≤_}
+use Rattle.program.proofs.Views.{view-end, view-past}
+use Rattle.program.specs.Places.{versionAt, past}
+use Rattle.program.specs.Program.{program}
+use Rattle.typing.proofs.Lines.{anyAhead, none-ahead, block-ahead, none-outside, version-ahead, next-ahead, met-ahead, passed-ahead}
 use Rattle.typing.proofs.question9.block_reflects.Statement.{statement}
 use Rattle.typing.proofs.question9.block_reflects.Tie as tie
-use Rattle.typing.proofs.question9.block_reflects.Reads as reads
-use Rattle.typing.proofs.question9.block_reflects.Lts as lts
-use Rattle.layout.proofs.kind_at.Reads as kind-at-reads
-use Rattle.layout.proofs.size_at.Reads as size-at-reads
-use Rattle.typing.proofs.question9.reflects.Reads as reflects-reads
+use Rattle.typing.specs.Effects.{reflective}
+use borrow.Author.Needs.{needs}
+use denote.Ref.{now}
+use lib.ListN.{length}
+use mathlib.Core.Path.{_≡_, sym, _∙_}
+use native.Mathlib.Omega.{arith}
 
 abbrev Inv-loop : tie.InvT-loop
 Inv-loop image table v b p₀ p = (p ≤ length image) × (anyAhead (reflective (program (records image)) (versionAt image v)) image (past image b) ≡ anyAhead (reflective (program (records image)) (versionAt image v)) image p)
@@ -25,77 +21,62 @@ Inv-loop image table v b p₀ p = (p ≤ length image) × (anyAhead (reflective 
 abbrev μ-loop : tie.MeasureT-loop
 μ-loop image table v b p₀ p = length image - p
 
--- src/question9.rt:52:9
 returns : tie.Need-returns Inv-loop μ-loop
 returns c =
     sym (none-outside _ _ _ ((c .if1) .taken))
 
--- src/question9.rt:54:21
 size-at-requires : tie.Need-size-at-requires Inv-loop μ-loop
 size-at-requires c κs =
     search needs
 
--- src/question9.rt:54:17
 add-p : tie.Need-add-p Inv-loop μ-loop
 add-p c =
     omega (arith, (c .size-at) .ensures, size-room (now ((c .before .before .before) .args .image)) ((c .before .before .before) .args .b) (omega (arith, (c .before .if1) .left)))
 
--- src/question9.rt:55:5
 loop-holds : tie.Need-loop-holds Inv-loop μ-loop
 loop-holds c =
     (omega (arith, (c .size-at) .ensures, size-room (now ((c .before .before .before) .args .image)) ((c .before .before .before) .args .b) (omega (arith, (c .before .if1) .left))), rw ((c .size-at) .ensures))
 
--- src/question9.rt:56:13
 size-at-requires-2 : tie.Need-size-at-requires-2 Inv-loop μ-loop
 size-at-requires-2 c κs =
     search needs
 
--- src/question9.rt:58:13
 returns-2 : tie.Need-returns-2 Inv-loop μ-loop
 returns-2 c =
     sym (block-ahead _ _ _ ∙ (c .before .before .before .loop) .inv .1 ∙ none-ahead _ _ _ (view-past _ _ (sym ((c .before .size-at2) .ensures) ∙ (c .if2) .taken)))
 
--- src/question9.rt:60:13
 kind-at-requires : tie.Need-kind-at-requires Inv-loop μ-loop
 kind-at-requires c κs =
     search needs
 
--- src/question9.rt:62:13
 returns-3 : tie.Need-returns-3 Inv-loop μ-loop
 returns-3 c =
     sym (block-ahead _ _ _ ∙ (c .before .before .before .before .before .loop) .inv .1 ∙ version-ahead _ (record { inside = (c .before .before .before .before .loop-test) .taken; size = (c .before .before .before .size-at2) .ensures; whole = (c .before .before .if2) .left; kind = (c .before .kind-at) .ensures }) ((c .if3) .taken))
 
--- src/question9.rt:65:13
 returns-4 : tie.Need-returns-4 Inv-loop μ-loop
 returns-4 c =
     sym (block-ahead _ _ _ ∙ (c .before .before .before .before .before .before .loop) .inv .1 ∙ next-ahead _ (record { inside = (c .before .before .before .before .before .loop-test) .taken; size = (c .before .before .before .before .size-at2) .ensures; whole = (c .before .before .before .if2) .left; kind = (c .before .before .kind-at) .ensures }) ((c .if4) .taken))
 
--- src/question9.rt:67:12
 reflects-requires : tie.Need-reflects-requires Inv-loop μ-loop
 reflects-requires c κs =
     (c .before .before .before .before .before .before .before .before .before .before) .pre
 
--- src/question9.rt:68:13
 returns-5 : tie.Need-returns-5 Inv-loop μ-loop
 returns-5 c =
     sym (block-ahead _ _ _ ∙ (c .before .before .before .before .before .before .before .before .loop) .inv .1 ∙ met-ahead _ (record { inside = (c .before .before .before .before .before .before .before .loop-test) .taken; size = (c .before .before .before .before .before .before .size-at2) .ensures; whole = (c .before .before .before .before .before .if2) .left; kind = (c .before .before .before .before .kind-at) .ensures }) ((c .before .before .before .if3) .left) ((c .before .before .if4) .left) (sym ((c .before .reflects) .ensures) ∙ (c .if5) .taken))
 
--- src/question9.rt:70:9
 add-p-2 : tie.Need-add-p-2 Inv-loop μ-loop
 add-p-2 c =
     omega (arith, size-in _ _ ((c .before .before .before .before .before .before .size-at2) .ensures) ((c .before .before .before .before .before .if2) .left))
 
--- src/question9.rt:55:5
 loop-less : tie.Need-loop-less Inv-loop μ-loop
 loop-less c =
     omega (arith, (c .before .before .before .before .before .if2) .left, (c .before .before .before .before .before .before .before .loop-test) .taken)
 
--- src/question9.rt:55:5
 loop-again : tie.Need-loop-again Inv-loop μ-loop
 loop-again c =
     (omega (arith, size-in _ _ ((c .before .before .before .before .before .before .size-at2) .ensures) ((c .before .before .before .before .before .if2) .left)), (c .before .before .before .before .before .before .before .before .loop) .inv .1 ∙ passed-ahead _ (record { inside = (c .before .before .before .before .before .before .before .loop-test) .taken; size = (c .before .before .before .before .before .before .size-at2) .ensures; whole = (c .before .before .before .before .before .if2) .left; kind = (c .before .before .before .before .kind-at) .ensures }) ((c .before .before .before .if3) .left) ((c .before .before .if4) .left) (sym ((c .before .reflects) .ensures) ∙ (c .if5) .left))
 
--- src/question9.rt:47:1
 returns-6 : tie.Need-returns-6 Inv-loop μ-loop
 returns-6 c =
     sym (block-ahead _ _ _ ∙ (c .before .loop) .inv .1 ∙ none-ahead _ _ _ (view-end _ _ ((c .loop-test) .left)))

@@ -1,70 +1,54 @@
-use Rattle.typing.proofs.Lines.{is-quiet}
-use Rattle.typing.specs.Effects.{reflective}
+-- `typing::question9::reflects`: one row for each kind that can be reflective.
+use Prim.Native.Nat.{ℕ}
+use Rattle.layout.specs.Records.{choose}
 use Rattle.program.specs.Places.{instrAt}
 use Rattle.program.specs.Program.{instrOf}
-use Rattle.layout.specs.Records.{choose}
-use lib.Dec.{eqb}
-use Prim.Native.Nat.{ℕ}
-use mathlib.Core.Path.{sym, ap, _∙_}
-use borrow.Author.Tests.{ne-eqb}
-use borrow.Author.Needs.{needs}
+use Rattle.typing.proofs.Lines.{is-quiet}
 use Rattle.typing.proofs.question9.reflects.Statement.{statement}
 use Rattle.typing.proofs.question9.reflects.Tie as tie
-use Rattle.typing.proofs.question9.reflects.Reads as reads
-use Rattle.typing.proofs.question9.reflects.Lts as lts
-use Rattle.layout.proofs.field.Reads as field-reads
-use Rattle.layout.proofs.kind_at.Reads as kind-at-reads
-use Rattle.typing.proofs.question9.call_reflects.Reads as call-reflects-reads
-use Rattle.typing.proofs.registers.kind_in.Reads as kind-in-reads
+use Rattle.typing.specs.Effects.{reflective}
+use borrow.Author.Needs.{needs}
+use lib.Dec.{eqb}
+use mathlib.Core.Path.{sym, ap, _∙_}
 
--- src/question9.rt:36:11
 kind-at-requires : tie.Need-kind-at-requires
 kind-at-requires c κs = search needs
 
--- src/question9.rt:37:25
 kind-in-requires : tie.Need-kind-in-requires
 kind-in-requires c κs = search needs
 
--- src/question9.rt:40:24
 call-reflects-requires : tie.Need-call-reflects-requires
 call-reflects-requires c κs =
     (c .before .before .before) .pre
 
--- src/question9.rt:41:28
 field-requires : tie.Need-field-requires
 field-requires c κs = search needs
 
--- src/question9.rt:32:1
 returns : tie.Need-returns
 unfolding reflective instrAt instrOf choose
 returns c =
     ap (λ (n : ℕ). eqb n 5) ((c .kind-in) .ensures) ∙ simp (sym ((c .before .before .kind-at) .ensures) ∙ (c .before .match) .keys1)
 
--- src/question9.rt:32:1
 returns-2 : tie.Need-returns-2
 unfolding reflective instrAt instrOf choose
 returns-2 c =
     simp (sym ((c .before .kind-at) .ensures) ∙ (c .match) .keys2)
 
--- src/question9.rt:32:1
 returns-3 : tie.Need-returns-3
 unfolding reflective instrAt instrOf choose
 returns-3 c =
     simp (sym ((c .before .kind-at) .ensures) ∙ (c .match) .keys3)
 
--- src/question9.rt:32:1
 returns-4 : tie.Need-returns-4
 unfolding instrAt
 returns-4 c =
     (c .call-reflects) .ensures ∙ simp (sym ((c .before .before .kind-at) .ensures) ∙ (c .before .match) .keys4)
 
--- src/question9.rt:32:1
 returns-5 : tie.Need-returns-5
 unfolding reflective instrAt instrOf choose
 returns-5 c =
     ap (λ (n : ℕ). eqb n 1) ((c .field) .ensures .0) ∙ simp (sym ((c .before .before .kind-at) .ensures) ∙ (c .before .match) .keys5)
 
--- src/question9.rt:32:1
 returns-6 : tie.Need-returns-6
 unfolding instrAt
 returns-6 c =

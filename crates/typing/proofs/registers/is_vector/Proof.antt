@@ -1,16 +1,12 @@
-use Rattle.typing.specs.Types.{isVector}
-use borrow.Author.Needs.{needs}
+-- `typing::registers::is_vector`: the kind of its type.
 use Rattle.typing.proofs.registers.is_vector.Statement.{statement}
 use Rattle.typing.proofs.registers.is_vector.Tie as tie
-use Rattle.typing.proofs.registers.is_vector.Reads as reads
-use Rattle.typing.proofs.registers.is_vector.Lts as lts
-use Rattle.typing.proofs.registers.kind_in.Reads as kind-in-reads
+use Rattle.typing.specs.Types.{isVector}
+use borrow.Author.Needs.{needs}
 
--- src/registers.rt:43:5
 kind-in-requires : tie.Need-kind-in-requires
 kind-in-requires c κs = search needs
 
--- src/registers.rt:40:1
 returns : tie.Need-returns
 unfolding isVector
 returns c =

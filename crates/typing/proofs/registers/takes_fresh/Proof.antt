@@ -1,28 +1,21 @@
-use Rattle.typing.specs.Fits.{fresh}
-use mathlib.Core.Path.{sym, _∙_}
-use borrow.Author.Needs.{needs}
+-- `typing::registers::takes_fresh`: owned, or shared of a kind that holds a vector.
 use Rattle.typing.proofs.registers.takes_fresh.Statement.{statement}
 use Rattle.typing.proofs.registers.takes_fresh.Tie as tie
-use Rattle.typing.proofs.registers.takes_fresh.Reads as reads
-use Rattle.typing.proofs.registers.takes_fresh.Lts as lts
-use Rattle.typing.proofs.registers.is_owned.Reads as is-owned-reads
-use Rattle.typing.proofs.registers.takes_plain.Reads as takes-plain-reads
+use Rattle.typing.specs.Fits.{fresh}
+use borrow.Author.Needs.{needs}
+use mathlib.Core.Path.{sym, _∙_}
 
--- src/registers.rt:94:8
 is-owned-requires : tie.Need-is-owned-requires
 is-owned-requires c κs = search needs
 
--- src/registers.rt:97:9
 takes-plain-requires : tie.Need-takes-plain-requires
 takes-plain-requires c κs = search needs
 
--- src/registers.rt:91:1
 returns : tie.Need-returns
 unfolding fresh
 returns c =
     simp (sym ((c .before .is-owned) .ensures) ∙ (c .if1) .taken)
 
--- src/registers.rt:91:1
 returns-2 : tie.Need-returns-2
 unfolding fresh
 returns-2 c =

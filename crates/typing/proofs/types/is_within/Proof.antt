@@ -1,46 +1,37 @@
+-- `typing::types::is_within`: by the kind on the right.
 use Rattle.typing.proofs.Within.{within-any, within-value, within-promise, within-other}
-use Rattle.typing.specs.Types.{within}
-use mathlib.Core.Bool.{Bool, true, false, _||_}
-use borrow.Author.Tests.{eq-eqb, ne-eqb}
 use Rattle.typing.proofs.types.is_within.Statement.{statement}
 use Rattle.typing.proofs.types.is_within.Tie as tie
-use Rattle.typing.proofs.types.is_within.Reads as reads
-use Rattle.typing.proofs.types.is_within.Lts as lts
+use Rattle.typing.specs.Types.{within}
+use borrow.Author.Tests.{eq-eqb, ne-eqb}
 
--- src/types.rt:64:1
 returns : tie.Need-returns
 returns c =
     within-any _ ((c .match) .keys1)
 
--- src/types.rt:64:1
 returns-2 : tie.Need-returns-2
 unfolding within
 returns-2 c =
     simp ((c .before .match) .keys2, eq-eqb _ _ ((c .if1) .taken))
 
--- src/types.rt:64:1
 returns-3 : tie.Need-returns-3
 unfolding within
 returns-3 c =
     simp ((c .before .before .match) .keys2, ne-eqb _ _ ((c .before .if1) .left), eq-eqb _ _ ((c .if2) .taken))
 
--- src/types.rt:64:1
 returns-4 : tie.Need-returns-4
 returns-4 c =
     within-value _ ((c .before .before .match) .keys2) ((c .before .if1) .left) ((c .if2) .left)
 
--- src/types.rt:64:1
 returns-5 : tie.Need-returns-5
 unfolding within
 returns-5 c =
     simp ((c .before .match) .keys3, eq-eqb _ _ ((c .if3) .taken))
 
--- src/types.rt:64:1
 returns-6 : tie.Need-returns-6
 returns-6 c =
     within-promise _ ((c .before .match) .keys3) ((c .if3) .left)
 
--- src/types.rt:64:1
 returns-7 : tie.Need-returns-7
 returns-7 c =
     within-other _ ((c .match) .rest .0 .0 .1) ((c .match) .rest .0 .1) ((c .match) .rest .1)
