@@ -1,0 +1,1 @@
+//! Flow: actions of instructions, blocks and versions, and question 10.
