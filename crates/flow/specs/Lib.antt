@@ -1,2 +1,3 @@
 pub mod Actions
+pub mod Masks
 pub mod Questions
