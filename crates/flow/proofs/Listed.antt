@@ -60,6 +60,12 @@ empty-only zero r = refl
 empty-only (suc k) zero = ap (λ (l : Set). true ∷ l) (empty-empty k)
 empty-only (suc k) (suc r) = ap (λ (l : Set). false ∷ l) (empty-only k r)
 
+pub only-alone : (k r : ℕ) → only k r ∪ empty k ≡ only k r
+unfolding both empty only
+only-alone zero r = refl
+only-alone (suc k) zero = ap (λ (l : Set). true ∷ l) (empty-empty k)
+only-alone (suc k) (suc r) = ap (λ (l : Set). false ∷ l) (only-alone k r)
+
 empty-union : (k : ℕ) (rs : List ℕ) → empty k ∪ those k rs ≡ those k rs
 unfolding those
 empty-union k [] = empty-empty k
@@ -77,10 +83,10 @@ gather-start rs = record { is = sym (ap (λ (l : Set). l ∪ those 16 rs) (set-e
 pub gather-one : {all rest next : List ℕ} {m n r x : ℕ} (o : ℕ) → Gathers all m rest → rest ≡ r ∷ next → x ≡ r → setOf 16 o ≡ only 16 x → setOf 16 n ≡ setOf 16 m ∪ setOf 16 o → Gathers all n next
 unfolding those
 gather-one {all} {rest} {next} {m} {n} {r} {x} o g d h e f = record {
-    is =
+  is =
       g .is ∙ ap (λ (l : List ℕ). setOf 16 m ∪ those 16 l) d ∙ sym (union-assoc (setOf 16 m) (only 16 r) (those 16 next))
       ∙ ap (λ (l : Set). l ∪ those 16 next) (sym (f ∙ ap (λ (l : Set). setOf 16 m ∪ l) (e ∙ ap (only 16) h)));
-  }
+}
 
 pub gather-none : {all rest next : List ℕ} {m : ℕ} → Gathers all m rest → rest ≡ next → Gathers all m next
 gather-none {all} {rest} {next} {m} g e = rw e at g

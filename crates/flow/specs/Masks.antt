@@ -1,11 +1,9 @@
 -- Actions as the code has them: a mask of 16 registers for each set.
-use mathlib.Core.List.{List, [], _∷_}
 use mathlib.Core.Option.{Option, none, some}
-use mathlib.Core.Bool.{Bool, true, false}
 use Prim.Native.Nat.{ℕ}
 use Rattle.layout.specs.Bounds.{REGISTERS}
 use Rattle.sets.specs.Sets.{setOf}
-use Rattle.program.specs.Program.{Instr, Line, Program}
+use Rattle.program.specs.Program.{Instr, Program}
 use Rattle.flow.specs.Actions.{Action, touch, actionOf}
 use Rattle.flow.specs.declared.Action.{Action as Masks}
 use Rattle.flow.specs.declared.Flowed.{Flowed}
@@ -26,8 +24,3 @@ flowed Refused = none
 -- what an instruction does that enters no block
 abbrev pub alone : Program → Instr → Option Action
 alone P i = actionOf (λ block. none) (touch P i)
-
--- is an instruction left?
-unfoldable pub more : List Line → Bool
-more [] = false
-more (l ∷ ls) = true

@@ -98,7 +98,10 @@ pub fn promised(block: Flowed) -> Flowed
             reads: a.reads,
             assigns: 0,
             empties: a.empties,
-            captures: sets::union(sets::union(sets::union(a.reads, a.assigns), a.empties), a.captures),
+            captures: sets::union(
+                sets::union(sets::union(a.reads, a.assigns), a.empties),
+                a.captures,
+            ),
         }),
         Flowed::Refused => Flowed::Refused,
     }

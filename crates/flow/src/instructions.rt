@@ -108,7 +108,10 @@ fn used(image: &[u8], p: usize) -> Flowed
 fn promising(image: &[u8], p: usize, entered: Flowed) -> Flowed
     ensures { λ r. ⌜ flowed r ≡ actionOf (λ block. flowed entered) (touch (program (records (now (image .entry)))) (instrOf kind.PROM (bodyAt (now (image .entry)) p))) ⌝ }
 {
-    actions::chain(actions::promised(entered), actions::assigning(named(image, p, 0, 1, 1)))
+    actions::chain(
+        actions::promised(entered),
+        actions::assigning(named(image, p, 0, 1, 1)),
+    )
 }
 
 /// The registers that the CALL at `p` empties: none where its version is not there.
@@ -130,7 +133,11 @@ fn calling(image: &[u8], table: &[usize; 128], p: usize) -> Flowed
     ensures { λ r. ⌜ flowed r ≡ alone (program (records (now (image .entry)))) (instrOf kind.CALL (bodyAt (now (image .entry)) p)) ⌝ }
 {
     let reads = named(image, p, 4, 1, layout::field(image, p, 3));
-    actions::touching(reads, call_empties(image, table, p), named(image, p, 0, 1, 1))
+    actions::touching(
+        reads,
+        call_empties(image, table, p),
+        named(image, p, 0, 1, 1),
+    )
 }
 
 /// DISPATCH: it reads its operands, and empties those of owned types.

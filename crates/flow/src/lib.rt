@@ -2,6 +2,8 @@
 
 pub mod actions;
 pub mod instructions;
+pub mod question10;
+pub mod walk;
 
 /// An action: the registers read before they are assigned, assigned, emptied and captured, a mask for each.
 pub struct Action {
