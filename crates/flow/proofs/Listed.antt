@@ -1,7 +1,7 @@
 -- Lists of registers as a loop gathers them: those it passed, and those that are left.
 use mathlib.Core.Path.{_≡_, refl, sym, ap, ap₂, _∙_}
 use mathlib.Core.List.{List, [], _∷_, map}
-use mathlib.Core.Bool.{Bool, true, false, cond, _||_}
+use mathlib.Core.Bool.{Bool, true, false, cond, _||_, or-false, or-assoc}
 use Prim.Native.Nat.{ℕ, zero, suc, _+_, _-_, _*_, _/_, _≤_, _<_}
 use native.Mathlib.Numerals.{add-one}
 use native.Mathlib.Omega.{arith}
@@ -14,7 +14,6 @@ use Rattle.layout.specs.declared.Found.the-variants.{Nothing, At}
 use Rattle.program.specs.Places.{versionAt, versionPlace}
 use Rattle.program.proofs.Lookups.{version-found, version-missing}
 use mathlib.Core.Option.{Option, none, some}
-use Rattle.layout.proofs.Bools.{or-false}
 use Rattle.sets.specs.Sets.{Set, empty, only, those, both, _∪_, setOf}
 use Rattle.sets.proofs.Masks.{set-empty}
 use Rattle.program.specs.Program.{Argument, Version, arguments, parameterTypes, beside, program, findVersion}
@@ -31,10 +30,6 @@ none-left (b ∷ t) = ap (λ (l : Set). b ∷ l) (none-left t)
 none-right : (s : Set) → map (λ x. x || false) s ≡ s
 none-right [] = refl
 none-right (a ∷ s) = ap₂ _∷_ (or-false a) (none-right s)
-
-or-assoc : (a b c : Bool) → ((a || b) || c) ≡ (a || (b || c))
-or-assoc true b c = refl
-or-assoc false b c = refl
 
 pub union-assoc : (s t u : Set) → (s ∪ t) ∪ u ≡ s ∪ (t ∪ u)
 unfolding both
