@@ -215,7 +215,7 @@ module _ (a b c : Action) (f : Follows a b (joined a b)) (g : Follows b c (joine
       emptied = λ r u.
         let x = f .clear .emptied r u in
         let y = h .emptied r (first-empties f r u) in
-        (g .reads r ∙ or-none (x .0) (minus-none _ (y .0)), g .assigns r ∙ or-none (x .1) (y .1), g .empties r ∙ or-none (x .2) (y .2), g .captures r ∙ or-none (x .3) (y .3));
+        (g .reads r ∙ or-none (x .0) (minus-none (has (b .W) r) (y .0)), g .assigns r ∙ or-none (x .1) (y .1), g .empties r ∙ or-none (x .2) (y .2), g .captures r ∙ or-none (x .3) (y .3));
       captured = λ r q. g .empties r ∙ or-none (f .clear .captured r q) (h .captured r (first-captures f r q));
     }
 

@@ -1,3 +1,4 @@
 pub mod Blocks
 pub mod Follows
 pub mod Listed
+pub mod Suffixes

@@ -6,7 +6,7 @@ use Prim.Native.Nat.{ℕ}
 use lib.ListN.{getD}
 use lib.Dec.{ltb}
 use Rattle.program.specs.Program.{Instr, Line, Version, Program}
-use Rattle.flow.specs.Actions.{Action, touch, actionOf, actions}
+use Rattle.flow.specs.Actions.{Action, _then_, reading, Touch, reads_empties_assigns_, enters_assigns_, touch, actionOf, actions}
 
 -- what the block b of a version does
 abbrev pub blockAction : Program → Version → ℕ → Option Action
@@ -24,3 +24,17 @@ acts P v b i = actionOf (entered P v b) (touch P i)
 unfoldable pub more : List Line → Bool
 more [] = false
 more (l ∷ ls) = true
+
+-- what instructions have done behind what was done before them, and what they do from here to the end of their block
+unfoldable pub before : (Instr → Option Action) → Option Action → List Line → Option Action
+before act a [] = a
+before act a (l ∷ ls) = before act (a then act (l .does)) ls
+
+unfoldable pub after : (Instr → Option Action) → ℕ → List Line → Option Action
+after act result [] = reading (result ∷ [])
+after act result (l ∷ ls) = act (l .does) then after act result ls
+
+-- the registers that an instruction empties by itself
+unfoldable pub freed : Touch → List ℕ
+freed (reads rs empties us assigns ds) = us
+freed (enters block assigns ds) = []
