@@ -140,19 +140,19 @@ clear-clash a b h =
 -- c is what a then b does
 pub record Follows (a b c : Action) : Type 0 where
   pub clear : Clear a b
-  pub reads : (r : ℕ) → has (c .R) r ≡ (has (a .R) r || (has (b .R) r && not (has (a .W) r)))
-  pub assigns : (r : ℕ) → has (c .W) r ≡ (has (a .W) r || has (b .W) r)
-  pub empties : (r : ℕ) → has (c .U) r ≡ (has (a .U) r || has (b .U) r)
-  pub captures : (r : ℕ) → has (c .C) r ≡ (has (a .C) r || has (b .C) r)
+  pub is-R : (r : ℕ) → has (c .R) r ≡ (has (a .R) r || (has (b .R) r && not (has (a .W) r)))
+  pub is-W : (r : ℕ) → has (c .W) r ≡ (has (a .W) r || has (b .W) r)
+  pub is-U : (r : ℕ) → has (c .U) r ≡ (has (a .U) r || has (b .U) r)
+  pub is-C : (r : ℕ) → has (c .C) r ≡ (has (a .C) r || has (b .C) r)
 
 joined-follows : (a b : Action) → Clear a b → Follows a b (joined a b)
 unfolding joined
 joined-follows a b h = record {
     clear = h;
-    reads = λ r. has-union (a .R) (b .R ∖ a .W) r ∙ ap (λ (x : Bool). has (a .R) r || x) (has-minus (b .R) (a .W) r);
-    assigns = has-union (a .W) (b .W);
-    empties = has-union (a .U) (b .U);
-    captures = has-union (a .C) (b .C);
+    is-R = λ r. has-union (a .R) (b .R ∖ a .W) r ∙ ap (λ (x : Bool). has (a .R) r || x) (has-minus (b .R) (a .W) r);
+    is-W = has-union (a .W) (b .W);
+    is-U = has-union (a .U) (b .U);
+    is-C = has-union (a .C) (b .C);
   }
 
 pub then-follows : (a b c : Action) → (some a then some b) ≡ some c → Follows a b c
@@ -180,32 +180,32 @@ then-parts (some a) (some b) c h = record { first = a; second = b; is-first = re
 -- what each part does the whole does; what the second reads is read by the whole, or the first assigned it
 module _ {a b c : Action} (f : Follows a b c) (r : ℕ) where
   pub first-reads : has (a .R) r ≡ true → has (c .R) r ≡ true
-  first-reads h = f .reads r ∙ or-left _ h
+  first-reads h = f .is-R r ∙ or-left _ h
 
   pub first-assigns : has (a .W) r ≡ true → has (c .W) r ≡ true
-  first-assigns h = f .assigns r ∙ or-left _ h
+  first-assigns h = f .is-W r ∙ or-left _ h
 
   pub first-empties : has (a .U) r ≡ true → has (c .U) r ≡ true
-  first-empties h = f .empties r ∙ or-left _ h
+  first-empties h = f .is-U r ∙ or-left _ h
 
   pub first-captures : has (a .C) r ≡ true → has (c .C) r ≡ true
-  first-captures h = f .captures r ∙ or-left _ h
+  first-captures h = f .is-C r ∙ or-left _ h
 
   pub second-assigns : has (b .W) r ≡ true → has (c .W) r ≡ true
-  second-assigns h = f .assigns r ∙ or-right (has (a .W) r) h
+  second-assigns h = f .is-W r ∙ or-right (has (a .W) r) h
 
   pub second-empties : has (b .U) r ≡ true → has (c .U) r ≡ true
-  second-empties h = f .empties r ∙ or-right (has (a .U) r) h
+  second-empties h = f .is-U r ∙ or-right (has (a .U) r) h
 
   pub second-captures : has (b .C) r ≡ true → has (c .C) r ≡ true
-  second-captures h = f .captures r ∙ or-right (has (a .C) r) h
+  second-captures h = f .is-C r ∙ or-right (has (a .C) r) h
 
   pub second-reads : has (b .R) r ≡ true → (has (c .R) r ≡ true) ⊎ (has (a .W) r ≡ true)
   second-reads h = go (has (a .W) r) refl
     where
       go : (w : Bool) → has (a .W) r ≡ w → (has (c .R) r ≡ true) ⊎ (has (a .W) r ≡ true)
       go true e = inr e
-      go false e = inl (f .reads r ∙ rw (h, e) (or-right (has (a .R) r) refl))
+      go false e = inl (f .is-R r ∙ rw (h, e) (or-right (has (a .R) r) refl))
 
 -- ---- three in a row
 
@@ -215,18 +215,18 @@ module _ (a b c : Action) (f : Follows a b (joined a b)) (g : Follows b c (joine
       emptied = λ r u.
         let x = f .clear .emptied r u in
         let y = h .emptied r (first-empties f r u) in
-        (g .reads r ∙ or-none (x .0) (minus-none (has (b .W) r) (y .0)), g .assigns r ∙ or-none (x .1) (y .1), g .empties r ∙ or-none (x .2) (y .2), g .captures r ∙ or-none (x .3) (y .3));
-      captured = λ r q. g .empties r ∙ or-none (f .clear .captured r q) (h .captured r (first-captures f r q));
+        (g .is-R r ∙ or-none (x .0) (minus-none (has (b .W) r) (y .0)), g .is-W r ∙ or-none (x .1) (y .1), g .is-U r ∙ or-none (x .2) (y .2), g .is-C r ∙ or-none (x .3) (y .3));
+      captured = λ r q. g .is-U r ∙ or-none (f .clear .captured r q) (h .captured r (first-captures f r q));
     }
 
   clear-left : Clear a (joined b c) → Clear (joined a b) c
   clear-left h = record {
-      emptied = λ r u. by-first r (or-either _ _ (sym (f .empties r) ∙ u));
-      captured = λ r q. by-capture r (or-either _ _ (sym (f .captures r) ∙ q));
+      emptied = λ r u. by-first r (or-either _ _ (sym (f .is-U r) ∙ u));
+      captured = λ r q. by-capture r (or-either _ _ (sym (f .is-C r) ∙ q));
     }
     where
       unread : (r : ℕ) → has (joined b c .R) r ≡ false → has (b .W) r ≡ false → has (c .R) r ≡ false
-      unread r x w = go (or-neither (has (b .R) r) (has (c .R) r && not (has (b .W) r)) (sym (g .reads r) ∙ x) .1)
+      unread r x w = go (or-neither (has (b .R) r) (has (c .R) r && not (has (b .W) r)) (sym (g .is-R r) ∙ x) .1)
         where
           go : (has (c .R) r && not (has (b .W) r)) ≡ false → has (c .R) r ≡ false
           go y = not-true (has (c .R) r) (λ e. absurd (true≢false (sym (rw (e, w) refl) ∙ y)))
@@ -234,12 +234,12 @@ module _ (a b c : Action) (f : Follows a b (joined a b)) (g : Follows b c (joine
       by-first : (r : ℕ) → (has (a .U) r ≡ true) ⊎ (has (b .U) r ≡ true) → (has (c .R) r ≡ false) × (has (c .W) r ≡ false) × (has (c .U) r ≡ false) × (has (c .C) r ≡ false)
       by-first r (inl u) =
           let x = h .emptied r u in
-          let w = or-neither (has (b .W) r) (has (c .W) r) (sym (g .assigns r) ∙ x .1) in
-          (unread r (x .0) (w .0), w .1, or-neither (has (b .U) r) (has (c .U) r) (sym (g .empties r) ∙ x .2) .1, or-neither (has (b .C) r) (has (c .C) r) (sym (g .captures r) ∙ x .3) .1)
+          let w = or-neither (has (b .W) r) (has (c .W) r) (sym (g .is-W r) ∙ x .1) in
+          (unread r (x .0) (w .0), w .1, or-neither (has (b .U) r) (has (c .U) r) (sym (g .is-U r) ∙ x .2) .1, or-neither (has (b .C) r) (has (c .C) r) (sym (g .is-C r) ∙ x .3) .1)
       by-first r (inr u) = g .clear .emptied r u
 
       by-capture : (r : ℕ) → (has (a .C) r ≡ true) ⊎ (has (b .C) r ≡ true) → has (c .U) r ≡ false
-      by-capture r (inl q) = or-neither (has (b .U) r) (has (c .U) r) (sym (g .empties r) ∙ h .captured r q) .1
+      by-capture r (inl q) = or-neither (has (b .U) r) (has (c .U) r) (sym (g .is-U r) ∙ h .captured r q) .1
       by-capture r (inr q) = g .clear .captured r q
 
 -- the last two are clear where all three are, and so are the first two

@@ -2,3 +2,4 @@ pub mod Blocks
 pub mod Follows
 pub mod Listed
 pub mod Suffixes
+pub mod Touches
