@@ -30,7 +30,7 @@ pub or-neither : (a b : Bool) → (a || b) ≡ false → (a ≡ false) × (b ≡
 or-neither true b h = absurd (true≢false h)
 or-neither false b h = (refl, h)
 
-or-none : {a b : Bool} → a ≡ false → b ≡ false → (a || b) ≡ false
+pub or-none : {a b : Bool} → a ≡ false → b ≡ false → (a || b) ≡ false
 or-none p q = rw (p, q)
 
 not-both : (a b : Bool) → (a && b) ≡ false → a ≡ true → b ≡ false

@@ -1,4 +1,5 @@
 pub mod Blocks
+pub mod Calm
 pub mod Follows
 pub mod Listed
 pub mod Suffixes
