@@ -1,0 +1,180 @@
+-- What a block does, as a walk that enters higher blocks meets it.
+use mathlib.Core.Path.{_≡_, refl, sym, ap, _∙_, fun-ext}
+use mathlib.Core.List.{List, [], _∷_}
+use mathlib.Core.Option.{Option, none, some}
+use mathlib.Core.Bool.{Bool, true, false, cond, not, true≢false, false≢true}
+use Prim.Native.Nat.{ℕ, zero, suc, _+_, _-_, _≤_, _<_}
+use native.Mathlib.Nat.{add-zero, zero-add, sub-zero}
+use native.Mathlib.Omega.{arith}
+use lib.ListN.{length, getD, getElem?}
+use lib.Dec.{ltb, eqb}
+use borrow.Author.Tests.{ltb-true, ltb-false, lt-ltb, le-ltb, eqb-true, eqb-false}
+use Rattle.layout.specs.Kinds as kind
+use Rattle.layout.specs.Records.{_!_, sizeAt, kindAt, bodyAt, recAt, records, choose}
+use Rattle.layout.specs.declared.Found.the-variants.{Nothing, At}
+use Rattle.layout.proofs.Walk.{size-in}
+use Rattle.layout.proofs.Rows.{Rows, choose-each}
+use Rattle.sets.specs.Sets.{only, those, setOf}
+use Rattle.sets.proofs.Masks.{set-empty}
+use Rattle.program.specs.Program.{Instr, Line, Block, Version, Program, View, instrOf, lineOf, program}
+use Rattle.program.specs.Places.{viewAt, past, versionAt, blockAt, instrAt, blockPlace}
+use Rattle.program.proofs.Views.{view-end, view-past, Whole, at-version, at-block, at-line}
+use Rattle.program.proofs.Lookups.{block-found, block-missing}
+use Rattle.flow.specs.Actions.{Action, _then_, reading, assigning, promised, touch, actionOf, along, enter, actions}
+use Rattle.flow.specs.Masks.{masked}
+use Rattle.flow.specs.Walks.{blockAction, entered, acts, more}
+use Rattle.flow.proofs.Listed.{only-alone}
+
+-- the block b with the blocks that it enters, where `does` says what each block does
+abbrev walked : Program → ℕ → (ℕ → Option Action) → Block → Option Action
+walked P b does x = along (λ i. actionOf (λ e. cond (ltb b e) (does e) none) (touch P i)) (x .result) (reading []) (x .code)
+
+walked-ext : (P : Program) (b : ℕ) (f g : ℕ → Option Action) (x : Block) → ((e : ℕ) → b < e → f e ≡ g e) → walked P b f x ≡ walked P b g x
+walked-ext P b f g x h = ap (λ (k : ℕ → Option Action). along (λ i. actionOf k (touch P i)) (x .result) (reading []) (x .code)) (fun-ext (λ e. go e (ltb b e) refl))
+  where
+    go : (e : ℕ) (t : Bool) → ltb b e ≡ t → cond t (f e) none ≡ cond t (g e) none
+    go e true p = h e (ltb-true b e p)
+    go e false p = refl
+
+later : (n e : ℕ) (a : Option Action) (l : List (Option Action)) → n < e → getD l (e - (n + 1)) none ≡ getD (a ∷ l) (e - n) none
+later n e a l h = let m : e - n ≡ suc (e - (n + 1)) = omega arith in rw m
+
+walked-from : (P : Program) (n : ℕ) (bs : List Block) (i : ℕ) (x : Block) → getElem? bs i ≡ some x → getD (actions P n bs) i none ≡ walked P (n + i) (λ e. getD (actions P n bs) (e - n) none) x
+unfolding actions enter
+walked-from P n [] i x h = let z : _≡_ {A = ℕ} 0 1 = cc in absurd (omega arith)
+walked-from P n (b ∷ bs) zero x h =
+    let y : x ≡ b = cc in rw (y, add-zero) (walked-ext P n (λ e. getD (actions P (n + 1) bs) (e - (n + 1)) none) (λ e. getD (actions P n (b ∷ bs)) (e - n) none) b (λ e lt. later n e (getD (actions P n (b ∷ bs)) 0 none) (actions P (n + 1) bs) lt))
+walked-from P n (b ∷ bs) (suc i) x h =
+    let m : n + suc i ≡ n + 1 + i = omega arith in
+    walked-from P (n + 1) bs i x h
+    ∙ rw m (walked-ext P (n + 1 + i) (λ e. getD (actions P (n + 1) bs) (e - (n + 1)) none) (λ e. getD (actions P n (b ∷ bs)) (e - n) none) x (λ e lt. later n e (getD (actions P n (b ∷ bs)) 0 none) (actions P (n + 1) bs) (omega arith)))
+
+-- THE LAW of flow: what the block b of a version does, by what the blocks that it enters do
+pub walked-at : (P : Program) (v : Version) (b : ℕ) (x : Block) → getElem? (v .blocks) b ≡ some x → blockAction P v b ≡ along (acts P v b) (x .result) (reading []) (x .code)
+walked-at P v b x h = simp (zero-add, sub-zero) at (walked-from P 0 (v .blocks) b x h)
+
+-- a block that is not there does nothing that is allowed
+missing-from : (P : Program) (n : ℕ) (bs : List Block) (b : ℕ) → getElem? bs b ≡ none → getD (actions P n bs) b none ≡ none
+unfolding actions
+missing-from P n [] b h = refl
+missing-from P n (x ∷ bs) zero h = let z : _≡_ {A = ℕ} 0 1 = cc in absurd (omega arith)
+missing-from P n (x ∷ bs) (suc b) h = missing-from P (n + 1) bs b h
+
+pub walked-missing : (P : Program) (v : Version) (b : ℕ) → getElem? (v .blocks) b ≡ none → blockAction P v b ≡ none
+walked-missing P v b h = missing-from P 0 (v .blocks) b h
+
+-- only PROM enters, and only its block
+pub enters-same : (P : Program) (f g : ℕ → Option Action) (k : ℕ) (b : List ℕ) → (k ≡ kind.PROM → f (b ! 1) ≡ g (b ! 1)) → actionOf f (touch P (instrOf k b)) ≡ actionOf g (touch P (instrOf k b))
+unfolding actionOf touch instrOf Rows
+enters-same P f g k b h = choose-each (λ (i : Instr). actionOf f (touch P i) ≡ actionOf g (touch P i)) k _ _ refl
+    (λ e. refl, (λ e. refl, (λ e. refl, (λ e. refl, (λ e. refl, (λ e. refl, (λ e. refl, (λ e. refl, (λ e. refl, (λ e. refl, (λ e. refl, (λ e. refl, (λ e. ap (λ (o : Option Action). promised o then assigning (b ! 0 ∷ [])) (h e), (λ e. refl, (λ e. refl, (λ e. refl, (λ e. refl, (λ e. refl, tt))))))))))))))))))
+
+-- ---- an instruction at an offset
+
+module _ (s : List ℕ) (p : ℕ) where
+  pub none-past : length s ≤ p → more (viewAt s p .code) ≡ false
+  unfolding more
+  none-past h = rw (view-end s p h)
+
+  pub none-broken : sizeAt s p ≡ 0 → more (viewAt s p .code) ≡ false
+  unfolding more
+  none-broken h = rw (view-past s p h)
+
+  module _ {n k : ℕ} (m : Whole s p n k) where
+    pub none-version : k ≡ kind.VERSION → more (viewAt s p .code) ≡ false
+    unfolding more
+    none-version e = rw (at-version m e)
+
+    pub none-block : (k ≡ kind.VERSION → ⊥) → more (viewAt s p .code) ≡ not (eqb k kind.BLOCK)
+    unfolding more
+    none-block x = go (eqb k kind.BLOCK) refl
+      where
+        go : (b : Bool) → eqb k kind.BLOCK ≡ b → more (viewAt s p .code) ≡ not b
+        go true e = rw (at-block m (eqb-true k kind.BLOCK e))
+        go false e = rw (at-line m x (eqb-false k kind.BLOCK e))
+
+-- a whole record of an instruction stands at p
+pub record Stands (s : List ℕ) (p : ℕ) : Type 0 where
+  pub inside : p < length s
+  pub whole : sizeAt s p ≡ 0 → ⊥
+  pub code : viewAt s p .code ≡ lineOf (recAt s p) ∷ viewAt s (past s p) .code
+
+pub stands : (s : List ℕ) (p : ℕ) → more (viewAt s p .code) ≡ true → Stands s p
+stands s p h = go (ltb p (length s)) (eqb (sizeAt s p) 0) (eqb (kindAt s p) kind.VERSION) (eqb (kindAt s p) kind.BLOCK) refl refl refl refl
+  where
+    never : more (viewAt s p .code) ≡ false → Stands s p
+    never e = absurd (false≢true (sym e ∙ h))
+
+    go : (a b c d : Bool) → ltb p (length s) ≡ a → eqb (sizeAt s p) 0 ≡ b → eqb (kindAt s p) kind.VERSION ≡ c → eqb (kindAt s p) kind.BLOCK ≡ d → Stands s p
+    go false b c d ea eb ec ed = never (none-past s p (ltb-false _ _ ea))
+    go true true c d ea eb ec ed = never (none-broken s p (eqb-true _ _ eb))
+    go true false true d ea eb ec ed = never (none-version s p (record { inside = ltb-true _ _ ea; size = refl; whole = eqb-false _ _ eb; kind = refl }) (eqb-true _ _ ec))
+    go true false false true ea eb ec ed = never (none-block s p (record { inside = ltb-true _ _ ea; size = refl; whole = eqb-false _ _ eb; kind = refl }) (eqb-false _ _ ec) ∙ ap not ed)
+    go true false false false ea eb ec ed = record {
+      inside = ltb-true _ _ ea;
+      whole = eqb-false _ _ eb;
+      code = ap (λ (w : View). w .code) (at-line (record { inside = ltb-true _ _ ea; size = refl; whole = eqb-false _ _ eb; kind = refl }) (eqb-false _ _ ec) (eqb-false _ _ ed));
+    }
+
+none-left : (ls : List Line) → more ls ≡ false → ls ≡ []
+unfolding more
+none-left [] h = refl
+none-left (l ∷ ls) h = absurd (true≢false h)
+
+-- ---- the walk of a block of the version at v
+
+nothing-done : some (masked 0 0 0 0) ≡ reading []
+unfolding those
+nothing-done = simp set-empty
+
+pub reading-one : (m r : ℕ) → setOf 16 m ≡ only 16 r → some (masked m 0 0 0) ≡ reading (r ∷ [])
+unfolding those
+reading-one m r e = simp (e, set-empty, only-alone 16 r)
+
+-- what is left of the block b, whose BLOCK stands at q, at the offset p, where `done` was done before
+abbrev pub onward : List ℕ → ℕ → ℕ → ℕ → ℕ → Option Action → Option Action
+onward s v b q p done = along (acts (program (records s)) (versionAt s v) b) (bodyAt s q ! 1) done (viewAt s p .code)
+
+module _ (s : List ℕ) (v b : ℕ) where
+  pub no-block : blockPlace s v b ≡ Nothing → none ≡ blockAction (program (records s)) (versionAt s v) b
+  no-block e = sym (walked-missing (program (records s)) (versionAt s v) b (block-missing s v b e))
+
+  pub begins : {n : ℕ} (q : ℕ) → blockPlace s v b ≡ At q → n ≡ sizeAt s q → blockAction (program (records s)) (versionAt s v) b ≡ onward s v b q (q + n) (some (masked 0 0 0 0))
+  unfolding blockAt
+  begins q e m = walked-at (program (records s)) (versionAt s v) b (blockAt s q) (block-found s v b q e) ∙ rw (m, nothing-done)
+
+  module _ (q p : ℕ) (done : Option Action) where
+    pub meets : {n : ℕ} {now : Option Action} → Stands s p → now ≡ (done then acts (program (records s)) (versionAt s v) b (instrAt s p)) → n ≡ sizeAt s p → onward s v b q p done ≡ onward s v b q (p + n) now
+    unfolding along instrAt
+    meets h e m = rw (h .code, m, e)
+
+    pub ends : {now : Option Action} → more (viewAt s p .code) ≡ false → now ≡ (done then reading (bodyAt s q ! 1 ∷ [])) → now ≡ onward s v b q p done
+    unfolding along
+    ends h e = rw (none-left (viewAt s p .code) h) e
+
+-- ---- the walk of an instruction
+
+module _ (s : List ℕ) (v b p : ℕ) {k : ℕ} (ek : k ≡ kindAt s p) where
+  entering : (o : Option Action) → (kindAt s p ≡ kind.PROM → o ≡ entered (program (records s)) (versionAt s v) b (bodyAt s p ! 1)) → actionOf (λ e. o) (touch (program (records s)) (instrAt s p)) ≡ acts (program (records s)) (versionAt s v) b (instrAt s p)
+  unfolding instrAt
+  entering o h = enters-same (program (records s)) (λ e. o) (entered (program (records s)) (versionAt s v) b) (kindAt s p) (bodyAt s p) h
+
+  pub enters-none : (k ≡ kind.PROM → ⊥) → actionOf (λ e. none) (touch (program (records s)) (instrAt s p)) ≡ acts (program (records s)) (versionAt s v) b (instrAt s p)
+  enters-none x = entering none (λ e. absurd (x (ek ∙ e)))
+
+  module _ {block : ℕ} (eb : block ≡ bodyAt s p ! 1) where
+    pub enters-below : block ≤ b → actionOf (λ e. none) (touch (program (records s)) (instrAt s p)) ≡ acts (program (records s)) (versionAt s v) b (instrAt s p)
+    enters-below h = entering none (λ e. rw (← eb, le-ltb b block h))
+
+    pub enters-block : (o : Option Action) → b < block → o ≡ blockAction (program (records s)) (versionAt s v) block → actionOf (λ e. o) (touch (program (records s)) (instrAt s p)) ≡ acts (program (records s)) (versionAt s v) b (instrAt s p)
+    enters-block o h g = entering o (λ e. rw (← eb, lt-ltb b block h) g)
+
+-- ---- offsets
+
+-- the end of a record is no further than the number at which the code's numbers end
+pub past-below : {n : ℕ} (s : List ℕ) (p w : ℕ) → n ≡ sizeAt s p → p < w → length s < w → p + n < w
+past-below {n} s p w e h g = go (eqb n 0) refl
+  where
+    go : (b : Bool) → eqb n 0 ≡ b → p + n < w
+    go true z = omega (arith, eqb-true n 0 z)
+    go false z = omega (arith, size-in s p e (eqb-false n 0 z))

@@ -1,0 +1,121 @@
+-- A block, parted at an instruction: what was done before it, what it does, and what is done from there to the end.
+use mathlib.Core.Path.{_≡_, refl, sym, ap, _∙_}
+use mathlib.Core.Logic.{_⊎_, inl, inr, ⊎-elim}
+use mathlib.Core.List.{List, [], _∷_, _++_}
+use mathlib.Core.Option.{Option, none, some}
+use mathlib.Core.Bool.{Bool, true, false, true≢false}
+use Prim.Native.Nat.{ℕ, zero, suc, _+_}
+use native.Mathlib.Numerals.{add-one}
+use native.Mathlib.Omega.{arith}
+use lib.ListN.{take, drop, getElem?, take-append-drop}
+use Rattle.sets.specs.Sets.{has}
+use Rattle.program.specs.Program.{Instr, Line, Block, Version, Program}
+use Rattle.flow.specs.Actions.{Action, _then_, reading, along}
+use Rattle.flow.specs.Walks.{blockAction, acts, before, after}
+use Rattle.flow.proofs.Blocks.{walked-at}
+use Rattle.flow.proofs.Follows.{Follows, Parts, then-parts, then-assoc, first-reads, first-assigns, first-empties, first-captures, second-reads, second-assigns, second-empties, second-captures, not-true}
+
+module _ (act : Instr → Option Action) (result : ℕ) where
+  -- the whole is what was done before, then what is done from here on
+  pub along-after : (a : Option Action) (ls : List Line) → along act result a ls ≡ (a then after act result ls)
+  unfolding along after
+  along-after a [] = refl
+  along-after a (l ∷ ls) = along-after (a then act (l .does)) ls ∙ then-assoc a (act (l .does)) (after act result ls)
+
+  pub along-split : (a : Option Action) (ls ms : List Line) → along act result a (ls ++ ms) ≡ (before act a ls then after act result ms)
+  unfolding along before
+  along-split a [] ms = along-after a ms
+  along-split a (l ∷ ls) ms = along-split (a then act (l .does)) ls ms
+
+get-drop : {A : Type 0} (l : List A) (i : ℕ) (x : A) → getElem? l i ≡ some x → drop i l ≡ x ∷ drop (suc i) l
+get-drop [] i x h = let z : _≡_ {A = ℕ} 0 1 = cc in absurd (omega arith)
+get-drop (y ∷ l) zero x h = let e : y ≡ x = cc in ap (λ z. z ∷ l) e
+get-drop (y ∷ l) (suc i) x h = get-drop l i x h
+
+drop-end : {A : Type 0} (l : List A) (i : ℕ) → getElem? l i ≡ none → drop i l ≡ []
+drop-end [] zero h = refl
+drop-end [] (suc i) h = refl
+drop-end (y ∷ l) zero h = let z : _≡_ {A = ℕ} 0 1 = cc in absurd (omega arith)
+drop-end (y ∷ l) (suc i) h = drop-end l i h
+
+-- ---- the block x, which is the block b of a version, does c
+
+pub record Does (P : Program) (v : Version) (b : ℕ) (x : Block) (c : Action) : Type 0 where
+  pub there : getElem? (v .blocks) b ≡ some x
+  pub does : blockAction P v b ≡ some c
+
+-- before the instruction i it has done `done`, and from there on it does `rest`
+pub record Parted (P : Program) (v : Version) (b : ℕ) (x : Block) (c : Action) (i : ℕ) : Type 0 where
+  pub done : Action
+  pub rest : Action
+  pub is-done : before (acts P v b) (reading []) (take i (x .code)) ≡ some done
+  pub is-rest : after (acts P v b) (x .result) (drop i (x .code)) ≡ some rest
+  pub follows : Follows done rest c
+
+-- a block can be parted anywhere
+pub parted : {P : Program} {v : Version} {b : ℕ} {x : Block} {c : Action} → Does P v b x c → (i : ℕ) → Parted P v b x c i
+parted {P} {v} {b} {x} {c} h i = record { done = p .first; rest = p .second; is-done = p .is-first; is-rest = p .is-second; follows = p .follows }
+  where
+    p : Parts (before (acts P v b) (reading []) (take i (x .code))) (after (acts P v b) (x .result) (drop i (x .code))) c
+    p = then-parts _ _ c
+        (sym (along-split (acts P v b) (x .result) (reading []) (take i (x .code)) (drop i (x .code)))
+        ∙ ap (along (acts P v b) (x .result) (reading [])) (take-append-drop i (x .code))
+        ∙ sym (walked-at P v b x (h .there)) ∙ h .does)
+
+-- the instruction l at the place i does `now`, and `next` is left behind it
+pub record Meets (P : Program) (v : Version) (b : ℕ) (x : Block) (i : ℕ) (l : Line) (rest : Action) : Type 0 where
+  pub now : Action
+  pub next : Action
+  pub is-now : acts P v b (l .does) ≡ some now
+  pub is-next : after (acts P v b) (x .result) (drop (i + 1) (x .code)) ≡ some next
+  pub follows : Follows now next rest
+
+pub met : (P : Program) (v : Version) (b : ℕ) (x : Block) (i : ℕ) (l : Line) (rest : Action) → getElem? (x .code) i ≡ some l → after (acts P v b) (x .result) (drop i (x .code)) ≡ some rest → Meets P v b x i l rest
+unfolding after
+met P v b x i l rest h e = record { now = p .first; next = p .second; is-now = p .is-first; is-next = rw add-one (p .is-second); follows = p .follows }
+  where
+    p : Parts (acts P v b (l .does)) (after (acts P v b) (x .result) (drop (suc i) (x .code))) rest
+    p = then-parts _ _ rest (ap (after (acts P v b) (x .result)) (sym (get-drop (x .code) i l h)) ∙ e)
+
+-- behind the last instruction the result register is read
+pub met-end : (P : Program) (v : Version) (b : ℕ) (x : Block) (i : ℕ) (rest : Action) → getElem? (x .code) i ≡ none → after (acts P v b) (x .result) (drop i (x .code)) ≡ some rest → reading (x .result ∷ []) ≡ some rest
+unfolding after
+met-end P v b x i rest h e = ap (after (acts P v b) (x .result)) (sym (drop-end (x .code) i h)) ∙ e
+
+-- ---- what holds at an instruction
+
+module _ {P : Program} {v : Version} {b : ℕ} {x : Block} {c : Action} {i : ℕ} {l : Line} (p : Parted P v b x c i) (m : Meets P v b x i l (p .rest)) (r : ℕ) where
+  -- what it reads is read by the block before it is assigned, or was assigned before it
+  pub reads-known : has (m .now .R) r ≡ true → (has (c .R) r ≡ true) ⊎ (has (p .done .W) r ≡ true)
+  reads-known h = second-reads (p .follows) r (first-reads (m .follows) r h)
+
+  -- what was emptied before it, it does not touch, nor does what is left behind it
+  pub emptied-before : has (p .done .U) r ≡ true → (has (m .now .R) r ≡ false) × (has (m .now .W) r ≡ false) × (has (m .now .U) r ≡ false) × (has (m .now .C) r ≡ false)
+  emptied-before h =
+      let e = p .follows .clear .emptied r h in
+      (not-true _ (λ y. true≢false (sym (first-reads (m .follows) r y) ∙ e .0)),
+      not-true _ (λ y. true≢false (sym (first-assigns (m .follows) r y) ∙ e .1)),
+      not-true _ (λ y. true≢false (sym (first-empties (m .follows) r y) ∙ e .2)),
+      not-true _ (λ y. true≢false (sym (first-captures (m .follows) r y) ∙ e .3)))
+
+  -- what was captured before it, it does not empty
+  pub captured-before : has (p .done .C) r ≡ true → has (m .now .U) r ≡ false
+  captured-before h = not-true _ (λ y. true≢false (sym (first-empties (m .follows) r y) ∙ p .follows .clear .captured r h))
+
+  -- what it assigns, empties and captures, the block does
+  pub assigned-within : has (m .now .W) r ≡ true → has (c .W) r ≡ true
+  assigned-within h = second-assigns (p .follows) r (first-assigns (m .follows) r h)
+
+  pub emptied-within : has (m .now .U) r ≡ true → has (c .U) r ≡ true
+  emptied-within h = second-empties (p .follows) r (first-empties (m .follows) r h)
+
+  pub captured-within : has (m .now .C) r ≡ true → has (c .C) r ≡ true
+  captured-within h = second-captures (p .follows) r (first-captures (m .follows) r h)
+
+  -- what is read behind it before it is assigned is so read from it on, or it assigns it
+  pub reads-next : has (m .next .R) r ≡ true → (has (p .rest .R) r ≡ true) ⊎ (has (m .now .W) r ≡ true)
+  reads-next h = second-reads (m .follows) r h
+
+  -- what it empties is not read, assigned, emptied or captured behind it
+  pub emptied-now : has (m .now .U) r ≡ true → (has (m .next .R) r ≡ false) × (has (m .next .W) r ≡ false) × (has (m .next .U) r ≡ false) × (has (m .next .C) r ≡ false)
+  emptied-now h = m .follows .clear .emptied r h

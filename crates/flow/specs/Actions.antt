@@ -1,0 +1,110 @@
+-- Flow: actions, what an instruction does to registers, and what a block does.
+use mathlib.Core.List.{List, [], _∷_, map}
+use mathlib.Core.Option.{Option, none, some, Option·elim}
+use mathlib.Core.Bool.{Bool, cond, _||_}
+use Prim.Native.Nat.{ℕ, _+_, _-_}
+use lib.ListN.{getD}
+use lib.Dec.{ltb}
+use Rattle.layout.specs.Bounds.{REGISTERS}
+use Rattle.sets.specs.Sets.{Set, empty, those, _∪_, _∖_, meets}
+use Rattle.program.specs.Program.{Argument, Instr, LIT, MOVE, USE, DUP, VEC, LEN, GET, SET, ARITH, SELECT, CAST, NAMED, STORE, PROM, FORCE, PEEK, POKE, CALL, DISPATCH, Line, Block, Version, Program, findVersion, given}
+use Rattle.typing.specs.Types.{isOwned}
+
+-- four sets: R read before assigned, W assigned, U emptied, C captured
+pub record Action : Type 0 where
+  pub R : Set
+  pub W : Set
+  pub U : Set
+  pub C : Set
+
+-- is A then A′ not allowed?
+unfoldable pub clash : Action → Action → Bool
+clash a b = meets (a .U) (b .R) || meets (a .U) (b .W) || meets (a .U) (b .U) || meets (a .U) (b .C) || meets (a .C) (b .U)
+
+-- the result of A then A′
+unfoldable pub joined : Action → Action → Action
+joined a b = record { R = a .R ∪ (b .R ∖ a .W); W = a .W ∪ b .W; U = a .U ∪ b .U; C = a .C ∪ b .C }
+
+-- A then A′, where all is allowed
+infixl 40 _then_
+unfoldable pub _then_ : Option Action → Option Action → Option Action
+none then b = none
+some a then none = none
+some a then some b = cond (clash a b) none (some (joined a b))
+
+abbrev pub ∅ : Set
+∅ = empty REGISTERS
+
+-- what only reads, empties or assigns registers
+abbrev pub reading : List ℕ → Option Action
+reading rs = some (record { R = those REGISTERS rs; W = ∅; U = ∅; C = ∅ })
+
+abbrev pub emptying : List ℕ → Option Action
+emptying rs = some (record { R = ∅; W = ∅; U = those REGISTERS rs; C = ∅ })
+
+abbrev pub assigning : List ℕ → Option Action
+assigning rs = some (record { R = ∅; W = those REGISTERS rs; U = ∅; C = ∅ })
+
+-- what PROM yields, by its block's action
+unfoldable pub promised : Option Action → Option Action
+promised none = none
+promised (some a) = some (record { R = a .R; W = ∅; U = a .U; C = a .R ∪ a .W ∪ a .U ∪ a .C })
+
+-- an instruction reads its operands, then empties, then assigns; PROM enters a block, then assigns
+infix 20 reads_empties_assigns_
+infix 20 enters_assigns_
+pub data Touch : Type 0 where
+  reads_empties_assigns_ : List ℕ → List ℕ → List ℕ → Touch
+  enters_assigns_ : ℕ → List ℕ → Touch
+
+-- the registers of a call's owned parameters
+unfoldable pub emptied : List Argument → List ℕ
+emptied [] = []
+emptied (a ∷ l) = cond (isOwned (a .type)) (a .register ∷ emptied l) (emptied l)
+
+-- what each instruction touches
+unfoldable pub touch : Program → Instr → Touch
+touch P (LIT d i) = reads [] empties [] assigns d ∷ []
+touch P (MOVE d a) = reads a ∷ [] empties [] assigns d ∷ []
+touch P (USE d a) = reads a ∷ [] empties a ∷ [] assigns d ∷ []
+touch P (DUP d a) = reads a ∷ [] empties [] assigns d ∷ []
+touch P (VEC d rs) = reads rs empties [] assigns d ∷ []
+touch P (LEN d a) = reads a ∷ [] empties [] assigns d ∷ []
+touch P (GET d a i) = reads a ∷ i ∷ [] empties [] assigns d ∷ []
+touch P (SET a i e) = reads a ∷ i ∷ e ∷ [] empties [] assigns a ∷ []
+touch P (ARITH d op a b) = reads a ∷ b ∷ [] empties [] assigns d ∷ []
+touch P (SELECT d c a b) = reads c ∷ a ∷ b ∷ [] empties [] assigns d ∷ []
+touch P (CAST d a) = reads a ∷ [] empties [] assigns d ∷ []
+touch P (NAMED d x) = reads [] empties [] assigns d ∷ []
+touch P (STORE x a) = reads a ∷ [] empties [] assigns []
+touch P (PROM d block) = enters block assigns d ∷ []
+touch P (FORCE d a) = reads a ∷ [] empties [] assigns d ∷ []
+touch P (PEEK d a x) = reads a ∷ [] empties [] assigns d ∷ []
+touch P (POKE a x e) = reads a ∷ e ∷ [] empties [] assigns []
+touch P (CALL d f w rs) = reads rs empties (Option·elim (findVersion P f w) [] (λ c. emptied (given c rs))) assigns d ∷ []
+touch P (DISPATCH d f mark ret pairs) = reads (map (λ (a : Argument). a .register) pairs) empties (emptied pairs) assigns d ∷ []
+
+-- what an instruction does, where `enter` says what a block does
+unfoldable pub actionOf : (ℕ → Option Action) → Touch → Option Action
+actionOf enter (reads rs empties us assigns ds) = reading rs then emptying us then assigning ds
+actionOf enter (enters block assigns ds) = promised (enter block) then assigning ds
+
+-- instructions one after the other behind what was done before them; the result register is read last
+unfoldable pub along : (Instr → Option Action) → ℕ → Option Action → List Line → Option Action
+along act result a [] = a then reading (result ∷ [])
+along act result a (l ∷ ls) = along act result (a then act (l .does)) ls
+
+-- PROM enters a block above its own, n, where `above` says what those do
+unfoldable pub enter : ℕ → List (Option Action) → ℕ → Option Action
+enter n above block = cond (ltb n block) (getD above (block - (n + 1)) none) none
+
+-- what each block does, from the block n on
+unfoldable pub actions : Program → ℕ → List Block → List (Option Action)
+actions P n [] = []
+actions P n (b ∷ bs) =
+    let above = actions P (n + 1) bs in
+    along (λ i. actionOf (enter n above) (touch P i)) (b .result) (reading []) (b .code) ∷ above
+
+-- what the body does
+abbrev pub bodyAction : Program → Version → Option Action
+bodyAction P v = getD (actions P 0 (v .blocks)) 0 none

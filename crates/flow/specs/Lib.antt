@@ -1,0 +1,4 @@
+pub mod Actions
+pub mod Masks
+pub mod Walks
+pub mod Questions

@@ -1,0 +1,108 @@
+//! Actions, one then another.
+ghost use mathlib.Core.Path.{_≡_};
+ghost use mathlib.Core.Option.{some};
+ghost use Rattle.flow.specs.Actions.{_then_, promised};
+ghost use Rattle.flow.specs.Masks.{masked, act, flowed};
+use crate::Action;
+use crate::Flowed;
+
+/// `a` then `b`: what `a` empties `b` may not touch, and what `a` captures `b` may not empty.
+pub fn follow(a: Action, b: Action) -> Flowed
+    ensures { λ r. ⌜ flowed r ≡ (some (act a) then some (act b)) ⌝ }
+{
+    if sets::meets(a.empties, b.reads) {
+        return Flowed::Refused;
+    }
+    if sets::meets(a.empties, b.assigns) {
+        return Flowed::Refused;
+    }
+    if sets::meets(a.empties, b.empties) {
+        return Flowed::Refused;
+    }
+    if sets::meets(a.empties, b.captures) {
+        return Flowed::Refused;
+    }
+    if sets::meets(a.captures, b.empties) {
+        return Flowed::Refused;
+    }
+    Flowed::Allowed(Action {
+        reads: sets::union(a.reads, sets::difference(b.reads, a.assigns)),
+        assigns: sets::union(a.assigns, b.assigns),
+        empties: sets::union(a.empties, b.empties),
+        captures: sets::union(a.captures, b.captures),
+    })
+}
+
+/// `done` then `next`, where both are allowed.
+pub fn chain(done: Flowed, next: Flowed) -> Flowed
+    ensures { λ r. ⌜ flowed r ≡ (flowed done then flowed next) ⌝ }
+{
+    match done {
+        Flowed::Allowed(a) => match next {
+            Flowed::Allowed(b) => follow(a, b),
+            Flowed::Refused => Flowed::Refused,
+        },
+        Flowed::Refused => Flowed::Refused,
+    }
+}
+
+/// What only reads registers.
+pub fn reading(registers: u16) -> Flowed
+    ensures { λ r. ⌜ flowed r ≡ some (masked registers 0 0 0) ⌝ }
+{
+    Flowed::Allowed(Action {
+        reads: registers,
+        assigns: 0,
+        empties: 0,
+        captures: 0,
+    })
+}
+
+/// What only assigns registers.
+pub fn assigning(registers: u16) -> Flowed
+    ensures { λ r. ⌜ flowed r ≡ some (masked 0 registers 0 0) ⌝ }
+{
+    Flowed::Allowed(Action {
+        reads: 0,
+        assigns: registers,
+        empties: 0,
+        captures: 0,
+    })
+}
+
+/// What only empties registers.
+pub fn emptying(registers: u16) -> Flowed
+    ensures { λ r. ⌜ flowed r ≡ some (masked 0 0 registers 0) ⌝ }
+{
+    Flowed::Allowed(Action {
+        reads: 0,
+        assigns: 0,
+        empties: registers,
+        captures: 0,
+    })
+}
+
+/// What reads, then empties, then assigns registers.
+pub fn touching(reads: u16, empties: u16, assigns: u16) -> Flowed
+    ensures { λ r. ⌜ flowed r ≡ (some (masked reads 0 0 0) then some (masked 0 0 empties 0) then some (masked 0 assigns 0 0)) ⌝ }
+{
+    chain(chain(reading(reads), emptying(empties)), assigning(assigns))
+}
+
+/// What PROM yields, by what its block does: it captures all that the block touches.
+pub fn promised(block: Flowed) -> Flowed
+    ensures { λ r. ⌜ flowed r ≡ promised (flowed block) ⌝ }
+{
+    match block {
+        Flowed::Allowed(a) => Flowed::Allowed(Action {
+            reads: a.reads,
+            assigns: 0,
+            empties: a.empties,
+            captures: sets::union(
+                sets::union(sets::union(a.reads, a.assigns), a.empties),
+                a.captures,
+            ),
+        }),
+        Flowed::Refused => Flowed::Refused,
+    }
+}

@@ -1,0 +1,20 @@
+//! Flow: actions of instructions, blocks and versions, and question 10.
+
+pub mod actions;
+pub mod instructions;
+pub mod question10;
+pub mod walk;
+
+/// An action: the registers read before they are assigned, assigned, emptied and captured, a mask for each.
+pub struct Action {
+    pub reads: u16,
+    pub assigns: u16,
+    pub empties: u16,
+    pub captures: u16,
+}
+
+/// What is done one after the other, or that it is not allowed.
+pub enum Flowed {
+    Allowed(Action),
+    Refused,
+}
