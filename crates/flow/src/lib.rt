@@ -1,9 +1,10 @@
 //! Flow: actions of instructions, blocks and versions, and question 10.
 
-pub mod actions;
-pub mod instructions;
+mod actions;
+pub mod body;
+mod instructions;
 pub mod question10;
-pub mod walk;
+mod walk;
 
 /// An action: the registers read before they are assigned, assigned, emptied and captured, a mask for each.
 pub struct Action {

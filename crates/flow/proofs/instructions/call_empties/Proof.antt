@@ -1,3 +1,4 @@
+use Rattle.program.proofs.Tables.{listed-right}
 use Rattle.flow.proofs.Listed.{none-named, call-missing, call-found}
 use mathlib.Core.Path.{sym, _∙_}
 use mathlib.Core.Option.{Option·elim}
@@ -34,7 +35,7 @@ enum-told c = search needs
 returns : tie.Need-returns
 unfolding Option·elim
 returns c =
-    rw (call-missing _ _ ((c .before .before .before .before .field) .ensures .0) ((c .before .before .before .field2) .ensures .0) (sym ((c .before .before .listed) .ensures) ∙ (c .enum-told) .given .1)) none-named
+    rw (call-missing _ _ ((c .before .before .before .before .field) .ensures .0) ((c .before .before .before .field2) .ensures .0) (sym ((c .before .before .listed) .ensures ∙ listed-right _ _ _ _ (c .before .before .before .before .before .before .pre)) ∙ (c .enum-told) .given .1)) none-named
 
 -- src/instructions.rt:124:5
 given-owned-requires : tie.Need-given-owned-requires
@@ -44,7 +45,7 @@ given-owned-requires c κs = search needs
 returns-2 : tie.Need-returns-2
 unfolding Option·elim
 returns-2 c =
-    rw (call-found _ _ ((c .before .before .before .before .before .before .field) .ensures .0) ((c .before .before .before .before .before .field2) .ensures .0) _ (sym ((c .before .before .before .before .listed) .ensures) ∙ (c .before .before .c) .given .1)) ((c .given-owned) .ensures)
+    rw (call-found _ _ ((c .before .before .before .before .before .before .field) .ensures .0) ((c .before .before .before .before .before .field2) .ensures .0) _ (sym ((c .before .before .before .before .listed) .ensures ∙ listed-right _ _ _ _ (c .before .before .before .before .before .before .before .before .pre)) ∙ (c .before .before .c) .given .1)) ((c .given-owned) .ensures)
 
 pub call-empties-spec : {M : Type 1} → statement M
 call-empties-spec =
