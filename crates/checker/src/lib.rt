@@ -1,7 +1,7 @@
 //! The verdict on an image, and the text that `check` prints of it.
 
+pub mod questions;
 pub mod report;
-pub mod verdict;
 
 /// The answer to an image: accepted with its number of versions, or the number of the question that says no and the offset.
 pub enum Verdict {
