@@ -9,10 +9,14 @@ use Rattle.layout.specs.Records.{records}
 use Rattle.sets.specs.Sets.{size}
 use Rattle.program.specs.Program.{Version, Program, program}
 use Rattle.flow.specs.Actions.{bodyAction}
-use Rattle.writer.specs.Text.{text, decimal}
+use mathlib.Core.Path.{_≡_}
+use Rattle.writer.specs.Text.{text, decimal, placed}
 use Rattle.checker.specs.Verdicts.{verdictOf}
 use Rattle.checker.specs.declared.Verdict.{Verdict}
 use Rattle.checker.specs.declared.Verdict.the-variants.{Accepted, Refused}
+use Rattle.checker.specs.declared.Counts.{Counts}
+use Rattle.checker.specs.declared.Counts.the-variants.{Of, Unknown}
+use Rattle.checker.specs.declared.Line.{Line}
 use Rattle.checker.specs.declared.Reported.{Reported}
 use Rattle.checker.specs.declared.Reported.the-variants.{Written, Short}
 
@@ -20,14 +24,28 @@ use Rattle.checker.specs.declared.Reported.the-variants.{Written, Short}
 unfoldable pub counts : Program → Version → List ℕ
 counts P v = Option·elim (bodyAction P v) [] (λ a. size (a .R) ∷ size (a .W) ∷ size (a .U) ∷ size (a .C) ∷ [])
 
+-- f.v and counts, as a line
+unfoldable pub spaced : List ℕ → List ℕ
+spaced ns = flatMap (λ n. text " " ++ decimal n) ns
+
+unfoldable pub lineText : ℕ → ℕ → List ℕ → List ℕ
+lineText f w ns = decimal f ++ text "." ++ decimal w ++ spaced ns ++ text "\n"
+
 -- per version: f.v R W U C
 unfoldable pub versionLine : Program → Version → List ℕ
-versionLine P v = decimal (v .function) ++ text "." ++ decimal (v .version) ++ flatMap (λ n. text " " ++ decimal n) (counts P v) ++ text "\n"
+versionLine P v = lineText (v .function) (v .version) (counts P v)
 
--- then `accepted` and the number of versions; or only `refused n at p`
+abbrev pub versionLines : Program → Program → List ℕ
+versionLines P vs = flatMap (versionLine P) vs
+
+-- only `refused n at p`
+unfoldable pub refusal : ℕ → ℕ → List ℕ
+refusal n p = text "refused " ++ decimal n ++ text " at " ++ decimal p ++ text "\n"
+
+-- `accepted` and the number of versions behind the lines; or the refusal
 unfoldable pub answer : Program → Verdict → List ℕ
-answer P (Accepted n) = flatMap (versionLine P) P ++ text "accepted " ++ decimal n ++ text "\n"
-answer P (Refused n p) = text "refused " ++ decimal n ++ text " at " ++ decimal p ++ text "\n"
+answer P (Accepted n) = versionLines P P ++ text "accepted " ++ decimal n ++ text "\n"
+answer P (Refused n p) = refusal n p
 
 unfoldable pub reportText : List ℕ → List ℕ
 reportText s = answer (program (records s)) (verdictOf s)
@@ -35,3 +53,16 @@ reportText s = answer (program (records s)) (verdictOf s)
 -- what is said of a text for a buffer of so many places
 unfoldable pub reportedOf : List ℕ → ℕ → Reported
 reportedOf t places = cond (leb (length t) places) (Written (length t)) Short
+
+-- what is said of a text t and what becomes of the buffer: t stands in it from place 0 on, all else as it was; one that is too short is left as it was
+pub record Told (r : Reported) (before after t : List ℕ) : Type 0 where
+  pub says : r ≡ reportedOf t (length before)
+  pub writes : after ≡ placed before 0 t
+
+-- a line as the code has it
+unfoldable pub countsOf : Counts → List ℕ
+countsOf (Of r w u c) = r ∷ w ∷ u ∷ c ∷ []
+countsOf Unknown = []
+
+unfoldable pub lineOf : Line → List ℕ
+lineOf l = lineText (l .function) (l .version) (countsOf (l .counts))

@@ -14,3 +14,16 @@ pub enum Reported {
     Written(usize),
     Short,
 }
+
+/// The counts of registers in each set of a body, read, assigned, emptied and captured; none where its flow is not allowed.
+pub enum Counts {
+    Of(u32, u32, u32, u32),
+    Unknown,
+}
+
+/// What a line of the text says of a version.
+pub struct Line {
+    pub function: usize,
+    pub version: usize,
+    pub counts: Counts,
+}

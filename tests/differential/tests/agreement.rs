@@ -1,136 +1,108 @@
-//! The proved library and the reference give the same answers.
+//! The proved library and the reference say the same of every image.
 
-use generator::{accepted_of, any, Theme};
-use reference::bounds::MAX_IMAGE;
-use reference::questions_1_to_7;
+use differential::comparison::{assert_report, assert_verdict, assert_written};
+use differential::edges::{edges, identities, image, EVERY_INSTRUCTION, IDENTITY};
+use generator::any;
+use reference::bounds::VERSIONS;
+use reference::{report, report_of, Program, Verdict};
+use std::fmt;
 
 /// How many generated images are compared.
-const IMAGES: u64 = 120_000;
+const IMAGES: u64 = 220_000;
 
-/// Compares the two answers for an image; the number they agree on, 0 where no question says no.
-#[track_caller]
-fn agreed(image: &[u8], origin: &str) -> u8 {
-    let reference = questions_1_to_7(image);
-    let proved = differential::refusal(image);
-    assert!(
-        proved == reference,
-        "{origin}: the reference says {reference:?}, the proved library {proved:?}\n{}",
-        text::listing(image)
-    );
-    reference.map_or(0, |refusal| refusal.number)
+/// The texts of one in so many refused images are compared, those of accepted ones all.
+const REFUSED_TEXTS: usize = 4;
+
+/// How often each verdict was met.
+#[derive(Default)]
+struct Met {
+    /// The refusals by number; at 0 the accepted images.
+    verdicts: [usize; 11],
+    /// The accepted images with exactly 1 version.
+    with_one: usize,
+    /// The accepted images with exactly 64 versions.
+    with_most: usize,
+    /// The images whose text was compared.
+    texts: usize,
+}
+
+impl Met {
+    /// Compares what the two say of an image.
+    #[track_caller]
+    fn compare(&mut self, image: &[u8], origin: &str) {
+        let reference = Program::accept(image);
+        let verdict = Verdict::of(&reference);
+        assert_verdict(image, verdict, origin);
+        let number = self.count(verdict);
+        if number == 0 || self.verdicts[number] % REFUSED_TEXTS == 1 {
+            assert_report(image, &report_of(&reference), origin);
+            self.texts += 1;
+        }
+    }
+
+    /// Counts a verdict; its number.
+    fn count(&mut self, verdict: Verdict) -> usize {
+        let number = match verdict {
+            Verdict::Accepted(versions) => {
+                self.with_one += usize::from(versions == 1);
+                self.with_most += usize::from(versions == VERSIONS);
+                0
+            }
+            Verdict::Refused(refusal) => refusal.number.into(),
+        };
+        self.verdicts[number] += 1;
+        number
+    }
+
+    /// Was every verdict met, and were the fewest and the most versions?
+    fn all(&self) -> bool {
+        self.verdicts.iter().all(|&count| count > 0) && self.with_one > 0 && self.with_most > 0
+    }
+}
+
+impl fmt::Display for Met {
+    fn fmt(&self, formatter: &mut fmt::Formatter) -> fmt::Result {
+        let [accepted, refused @ ..] = &self.verdicts;
+        writeln!(formatter, "{accepted:>8}  accepted")?;
+        writeln!(formatter, "{:>8}  of them with 1 version", self.with_one)?;
+        let most = self.with_most;
+        writeln!(formatter, "{most:>8}  of them with {VERSIONS} versions")?;
+        for (number, count) in (1..).zip(refused) {
+            writeln!(formatter, "{count:>8}  refused by {number}")?;
+        }
+        writeln!(formatter, "{:>8}  texts compared", self.texts)
+    }
 }
 
 #[test]
-fn questions_1_to_7_agree() {
-    let mut met = [0_usize; 8];
+fn verdicts_agree() {
+    let mut generated = Met::default();
     for seed in 0..IMAGES {
-        met[usize::from(agreed(&any(seed), &format!("seed {seed}")))] += 1;
+        generated.compare(&any(seed), &format!("seed {seed}"));
     }
+    println!("generated images\n{generated}");
+    let mut at_edges = Met::default();
     for (name, image) in edges() {
-        met[usize::from(agreed(&image, &name))] += 1;
+        at_edges.compare(&image, &name);
     }
-    println!("none of questions 1 to 7: {}", met[0]);
-    for (number, count) in met.iter().enumerate().skip(1) {
-        println!("question {number}: {count}");
-    }
-    assert!(met.iter().all(|&count| count > 0), "not all were met");
+    println!("images at the edges\n{at_edges}");
+    assert!(generated.all(), "generated images did not meet all");
+    assert!(at_edges.all(), "images at the edges did not meet all");
 }
 
-/// Images at the edges, by hand, with their names.
-fn edges() -> Vec<(String, Vec<u8>)> {
-    let mut edges = plain_bytes();
-    edges.extend(changed_identities());
-    for count in [63, 64, 65, 66, 128, 129] {
-        edges.push((format!("{count} versions"), versions(count)));
-    }
-    for seed in 0..20 {
-        let mut image = accepted_of(Theme::Large, seed);
-        edges.push((format!("large image {seed}"), image.clone()));
-        image.resize(MAX_IMAGE + 1, 0);
-        edges.push((format!("large image {seed} and more"), image));
-    }
-    let bodies = AFTER.map(|after| format!("{BODY}{after}"));
-    for text in bodies.into_iter().chain(TEXTS.map(String::from)) {
-        let image = text::assemble(&text).expect("an image");
-        edges.push((text, image));
-    }
-    edges
-}
-
-/// Images of one byte over and over, at the bounds of their size.
-fn plain_bytes() -> Vec<(String, Vec<u8>)> {
-    let sizes = [
-        0,
-        1,
-        2,
-        3,
-        4,
-        5,
-        1000,
-        MAX_IMAGE - 1,
-        MAX_IMAGE,
-        MAX_IMAGE + 1,
-        65_536,
-        100_000,
+#[test]
+fn reports_go_into_buffers_of_every_length() {
+    let images = [
+        vec![],
+        IDENTITY.to_vec(),
+        IDENTITY[..17].to_vec(),
+        image(EVERY_INSTRUCTION),
+        identities(VERSIONS),
     ];
-    let image = |size| move |byte| (format!("{size} bytes of {byte}"), vec![byte; size]);
-    sizes
-        .into_iter()
-        .flat_map(|size| [0, 4, 255].map(image(size)))
-        .collect()
-}
-
-/// The identity cut at each place, and with each byte at each place.
-fn changed_identities() -> Vec<(String, Vec<u8>)> {
-    let mut changed = Vec::new();
-    for place in 0..IDENTITY.len() {
-        let cut = IDENTITY[..place].to_vec();
-        changed.push((format!("identity cut to {place} bytes"), cut));
-        for byte in 0..=255 {
-            let mut image = IDENTITY.to_vec();
-            image[place] = byte;
-            changed.push((format!("identity with {byte} at {place}"), image));
+    for image in &images {
+        let text = report(image);
+        for places in 0..text.len() + 20 {
+            assert_written(image, &text, places, "a buffer of every length");
         }
     }
-    changed
 }
-
-/// The image I of the paper.
-const IDENTITY: [u8; 18] = [
-    0x0B, 0x00, 0x01, 0x00, 0x00, 0x00, 0x01, 0x01, 0x02, 0x01, 0x02, 0x07, 0x00, 0x02, 0x00, 0x00,
-    0x00, 0x00,
-];
-
-/// So many identities, four to a function.
-fn versions(count: usize) -> Vec<u8> {
-    let version = |index: usize| {
-        let mut version = IDENTITY.to_vec();
-        version[4] = (index / 4) as u8;
-        version[5] = (index % 4) as u8;
-        version
-    };
-    (0..count).flat_map(version).collect()
-}
-
-/// An identity whose block the texts below go on with.
-const BODY: &str = "version 0.0(r0: int) -> int\nblock 0 quiet -> r0\n";
-
-/// What may follow the identity's block.
-const AFTER: [&str; 7] = [
-    "",
-    "block 1 quiet -> r0",
-    "r0 = prom 0",
-    "r0 = prom 1\nr0 = prom 1\nblock 1 quiet -> r0",
-    "r0 = prom 1\nblock 1 quiet -> r0\nr0 = prom 1",
-    "r0 = call 0.0()\nr0 = call 1.0(r0)",
-    "r0 = dispatch 1(r0: int) -> int quiet",
-];
-
-/// Records that are stray or missing.
-const TEXTS: [&str; 5] = [
-    "block 0 quiet -> r0",
-    "r0 = lit 0",
-    "version 0.0(r0: int) -> int blocks=1",
-    "version 0.0(r0: int) -> int blocks=2\nblock 0 quiet -> r0",
-    "version 0.0(r0: int) -> int\nblock 0 quiet -> r0 count=1",
-];

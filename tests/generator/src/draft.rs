@@ -133,5 +133,9 @@ impl DraftVersion {
 
 /// The bytes of records that follow one another.
 pub fn bytes(records: &[Record]) -> Vec<u8> {
-    records.iter().flat_map(Record::bytes).collect()
+    let mut bytes = Vec::new();
+    for record in records {
+        bytes.extend(record.bytes());
+    }
+    bytes
 }

@@ -97,6 +97,7 @@ pub fn program(random: &mut Random, theme: Theme) -> Draft {
         building.must_call = vec![callable.clone()];
         building.world.push(callable);
         building.functions = 1;
+        building.size = versions.iter().map(DraftVersion::size).sum();
         building.draft.versions = versions;
     }
     let families = theme.families(random);
@@ -118,6 +119,8 @@ struct Building {
     draft: Draft,
     world: Vec<Callable>,
     functions: usize,
+    /// How many bytes the draft takes.
+    size: usize,
     /// What the last function is to call besides any others.
     must_call: Vec<Callable>,
 }
@@ -145,11 +148,12 @@ impl Building {
             grown.push((version.draft, version.callable));
         }
         let (drafts, callables): (Vec<DraftVersion>, Vec<Callable>) = grown.into_iter().unzip();
-        let size: usize = drafts.iter().map(DraftVersion::size).sum();
+        let size = self.size + drafts.iter().map(DraftVersion::size).sum::<usize>();
         let versions = self.draft.versions.len() + drafts.len();
-        if self.draft.bytes().len() + size > MAX_IMAGE || versions > VERSIONS {
+        if size > MAX_IMAGE || versions > VERSIONS {
             return false;
         }
+        self.size = size;
         self.draft.versions.extend(drafts);
         self.world.extend(callables);
         self.functions += 1;

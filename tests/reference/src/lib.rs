@@ -37,7 +37,7 @@ pub use instruction::{Instruction, Name, Register};
 pub use program::Program;
 pub use questions::{questions_1_to_7, verdict, Refusal, Verdict};
 pub use record::Record;
-pub use report::report;
+pub use report::{report, report_of};
 pub use state::{End, State, Status, Value};
 pub use steps::{Answer, Said};
 pub use types::{Kind, Mark, Ownership, Type};

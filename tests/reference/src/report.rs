@@ -2,12 +2,18 @@
 
 use crate::flow::{body_action, Action};
 use crate::program::{Program, Version};
+use crate::questions::Refusal;
 use std::fmt::Write;
 
 /// The lines that `check` prints for an image, each with its newline.
 pub fn report(image: &[u8]) -> String {
-    match Program::accept(image) {
-        Ok(program) => accepted(&program),
+    report_of(&Program::accept(image))
+}
+
+/// The lines that `check` prints for what the ten questions said of an image.
+pub fn report_of(answer: &Result<Program, Refusal>) -> String {
+    match answer {
+        Ok(program) => accepted(program),
         Err(refusal) => format!("refused {} at {}\n", refusal.number, refusal.offset),
     }
 }

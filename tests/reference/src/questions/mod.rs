@@ -33,9 +33,16 @@ pub enum Verdict {
 
 /// What the ten questions say of an image.
 pub fn verdict(image: &[u8]) -> Verdict {
-    match Program::accept(image) {
-        Ok(program) => Verdict::Accepted(program.versions.len()),
-        Err(refusal) => Verdict::Refused(refusal),
+    Verdict::of(&Program::accept(image))
+}
+
+impl Verdict {
+    /// The verdict that goes with the program of an image, or with the first no.
+    pub fn of(answer: &Result<Program, Refusal>) -> Verdict {
+        match answer {
+            Ok(program) => Verdict::Accepted(program.versions.len()),
+            Err(refusal) => Verdict::Refused(*refusal),
+        }
     }
 }
 

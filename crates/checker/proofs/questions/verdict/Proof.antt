@@ -1,33 +1,18 @@
+-- `checker::questions::verdict`: one question after the other.
 use Rattle.checker.proofs.Asks.{ask-yes, ask-no}
-use Rattle.checker.specs.Verdicts.{verdictOf}
-use Rattle.checker.specs.declared.Verdict.the-variants.{Accepted}
-use mathlib.Core.Path.{sym, ap, _∙_}
-use borrow.Author.Needs.{needs}
 use Rattle.checker.proofs.questions.verdict.Statement.{statement}
 use Rattle.checker.proofs.questions.verdict.Tie as tie
-use Rattle.checker.proofs.questions.verdict.Reads as reads
-use Rattle.checker.proofs.questions.verdict.Lts as lts
-use Rattle.checker.proofs.questions.count_versions.Reads as count-versions-reads
-use Rattle.flow.proofs.question10.question_10.Reads as question-10-reads
-use Rattle.layout.proofs.question_1.Reads as question-1-reads
-use Rattle.layout.proofs.question_2.Reads as question-2-reads
-use Rattle.layout.proofs.question_3.Reads as question-3-reads
-use Rattle.layout.proofs.question_4.Reads as question-4-reads
-use Rattle.layout.proofs.question_5.Reads as question-5-reads
-use Rattle.program.proofs.question7.question_7.Reads as question-7-reads
-use Rattle.typing.proofs.question6.question_6.Reads as question-6-reads
-use Rattle.typing.proofs.question8.question_8.Reads as question-8-reads
-use Rattle.typing.proofs.question9.question_9.Reads as question-9-reads
+use Rattle.checker.specs.Verdicts.{verdictOf}
+use Rattle.checker.specs.declared.Verdict.the-variants.{Accepted}
+use borrow.Author.Needs.{needs}
+use mathlib.Core.Path.{sym, ap, _∙_}
 
--- src/questions.rt:41:27
 question-1-requires : tie.Need-question-1-requires
 question-1-requires c κs = search needs
 
--- src/questions.rt:41:22
 enum-known-p : tie.Need-enum-known-p
 enum-known-p c = search needs
 
--- src/questions.rt:42:9
 returns : tie.Need-returns
 unfolding verdictOf
 returns c =
@@ -36,15 +21,12 @@ returns c =
 enum-told : tie.Need-enum-told
 enum-told c = search needs
 
--- src/questions.rt:44:27
 question-2-requires : tie.Need-question-2-requires
 question-2-requires c κs = search needs
 
--- src/questions.rt:44:22
 enum-known-p-2 : tie.Need-enum-known-p-2
 enum-known-p-2 c = search needs
 
--- src/questions.rt:45:9
 returns-2 : tie.Need-returns-2
 unfolding verdictOf
 returns-2 c =
@@ -53,15 +35,12 @@ returns-2 c =
 enum-told-2 : tie.Need-enum-told-2
 enum-told-2 c = search needs
 
--- src/questions.rt:47:27
 question-3-requires : tie.Need-question-3-requires
 question-3-requires c κs = search needs
 
--- src/questions.rt:47:22
 enum-known-p-3 : tie.Need-enum-known-p-3
 enum-known-p-3 c = search needs
 
--- src/questions.rt:48:9
 returns-3 : tie.Need-returns-3
 unfolding verdictOf
 returns-3 c =
@@ -70,15 +49,12 @@ returns-3 c =
 enum-told-3 : tie.Need-enum-told-3
 enum-told-3 c = search needs
 
--- src/questions.rt:50:27
 question-4-requires : tie.Need-question-4-requires
 question-4-requires c κs = search needs
 
--- src/questions.rt:50:22
 enum-known-p-4 : tie.Need-enum-known-p-4
 enum-known-p-4 c = search needs
 
--- src/questions.rt:51:9
 returns-4 : tie.Need-returns-4
 unfolding verdictOf
 returns-4 c =
@@ -87,15 +63,12 @@ returns-4 c =
 enum-told-4 : tie.Need-enum-told-4
 enum-told-4 c = search needs
 
--- src/questions.rt:53:27
 question-5-requires : tie.Need-question-5-requires
 question-5-requires c κs = search needs
 
--- src/questions.rt:53:22
 enum-known-p-5 : tie.Need-enum-known-p-5
 enum-known-p-5 c = search needs
 
--- src/questions.rt:54:9
 returns-5 : tie.Need-returns-5
 unfolding verdictOf
 returns-5 c =
@@ -104,15 +77,12 @@ returns-5 c =
 enum-told-5 : tie.Need-enum-told-5
 enum-told-5 c = search needs
 
--- src/questions.rt:56:27
 question-6-requires : tie.Need-question-6-requires
 question-6-requires c κs = search needs
 
--- src/questions.rt:56:22
 enum-known-p-6 : tie.Need-enum-known-p-6
 enum-known-p-6 c = search needs
 
--- src/questions.rt:57:9
 returns-6 : tie.Need-returns-6
 unfolding verdictOf
 returns-6 c =
@@ -121,15 +91,12 @@ returns-6 c =
 enum-told-6 : tie.Need-enum-told-6
 enum-told-6 c = search needs
 
--- src/questions.rt:59:27
 question-7-requires : tie.Need-question-7-requires
 question-7-requires c κs = search needs
 
--- src/questions.rt:59:22
 enum-known-p-7 : tie.Need-enum-known-p-7
 enum-known-p-7 c = search needs
 
--- src/questions.rt:60:9
 returns-7 : tie.Need-returns-7
 unfolding verdictOf
 returns-7 c =
@@ -138,15 +105,12 @@ returns-7 c =
 enum-told-7 : tie.Need-enum-told-7
 enum-told-7 c = search needs
 
--- src/questions.rt:62:27
 question-8-requires : tie.Need-question-8-requires
 question-8-requires c κs = search needs
 
--- src/questions.rt:62:22
 enum-known-p-8 : tie.Need-enum-known-p-8
 enum-known-p-8 c = search needs
 
--- src/questions.rt:63:9
 returns-8 : tie.Need-returns-8
 unfolding verdictOf
 returns-8 c =
@@ -155,15 +119,12 @@ returns-8 c =
 enum-told-8 : tie.Need-enum-told-8
 enum-told-8 c = search needs
 
--- src/questions.rt:65:27
 question-9-requires : tie.Need-question-9-requires
 question-9-requires c κs = search needs
 
--- src/questions.rt:65:22
 enum-known-p-9 : tie.Need-enum-known-p-9
 enum-known-p-9 c = search needs
 
--- src/questions.rt:66:9
 returns-9 : tie.Need-returns-9
 unfolding verdictOf
 returns-9 c =
@@ -172,15 +133,12 @@ returns-9 c =
 enum-told-9 : tie.Need-enum-told-9
 enum-told-9 c = search needs
 
--- src/questions.rt:68:27
 question-10-requires : tie.Need-question-10-requires
 question-10-requires c κs = search needs
 
--- src/questions.rt:68:22
 enum-known-p-10 : tie.Need-enum-known-p-10
 enum-known-p-10 c = search needs
 
--- src/questions.rt:69:9
 returns-10 : tie.Need-returns-10
 unfolding verdictOf
 returns-10 c =
@@ -189,11 +147,9 @@ returns-10 c =
 enum-told-10 : tie.Need-enum-told-10
 enum-told-10 c = search needs
 
--- src/questions.rt:71:23
 count-versions-requires : tie.Need-count-versions-requires
 count-versions-requires c κs = search needs
 
--- src/questions.rt:38:1
 returns-11 : tie.Need-returns-11
 unfolding verdictOf
 returns-11 c =

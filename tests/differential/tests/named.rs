@@ -1,0 +1,267 @@
+//! The cases that the paper names, with verdicts and texts worked out by hand.
+
+use differential::comparison::{assert_report, assert_verdict};
+use differential::edges::{identities, image, EVERY_INSTRUCTION, IDENTITY};
+use reference::{report, verdict, Refusal, Verdict};
+
+/// Asserts that both checkers refuse an image so, and print so.
+#[track_caller]
+fn refuses(image: &[u8], number: u8, offset: usize) {
+    let expected = Verdict::Refused(Refusal { number, offset });
+    says(image, expected, &format!("refused {number} at {offset}\n"));
+}
+
+/// Asserts that both checkers accept an image, and print these lines and how many they are.
+#[track_caller]
+fn accepts(image: &[u8], lines: &[&str]) {
+    let versions = lines.len();
+    let text = format!("{}\naccepted {versions}\n", lines.join("\n"));
+    says(image, Verdict::Accepted(versions), &text);
+}
+
+/// Asserts what both checkers say of an image, and print.
+#[track_caller]
+fn says(image: &[u8], expected: Verdict, text: &str) {
+    assert_eq!(verdict(image), expected, "by the reference");
+    assert_eq!(report(image), text, "by the reference");
+    assert_verdict(image, expected, "the case");
+    assert_report(image, text, "the case");
+}
+
+/// The identity with another byte at a place.
+fn identity_with(byte: u8, place: usize) -> [u8; 18] {
+    let mut image = IDENTITY;
+    image[place] = byte;
+    image
+}
+
+#[test]
+fn image_i_is_accepted() {
+    accepts(&IDENTITY, &["0.0 1 0 0 0"]);
+}
+
+#[test]
+fn p1_empty_image_is_1_at_0() {
+    refuses(&[], 1, 0);
+}
+
+#[test]
+fn p4_identity_without_its_last_byte_is_2_at_11() {
+    refuses(&IDENTITY[..17], 2, 11);
+}
+
+#[test]
+fn p5_identity_with_type_owned_integer_is_6_at_0() {
+    refuses(&identity_with(0x12, 10), 6, 0);
+    refuses(&identity_with(0x12, 8), 6, 0);
+}
+
+#[test]
+fn p6_result_register_that_nothing_assigned_is_10_at_0() {
+    let with_result = |result: &str| {
+        image(&format!(
+            "version 0.0(r0: int) -> int
+               registers r1: int
+               block 0 quiet -> {result}"
+        ))
+    };
+    refuses(&with_result("r1"), 10, 0);
+    accepts(&with_result("r0"), &["0.0 1 0 0 0"]);
+}
+
+#[test]
+fn p7_dup_set_and_owned_return_is_accepted() {
+    // Reads r0; assigns r1, r2, r3.
+    let image = image(
+        "version 0.0(r0: vector) -> own vector
+           registers r1: own vector, r2: int, r3: int
+           block 0 quiet -> r1
+             r1 = dup r0
+             r2 = lit 0
+             r3 = lit 42
+             set r1[r2] = r3",
+    );
+    accepts(&image, &["0.0 1 3 0 0"]);
+}
+
+#[test]
+fn p9_set_on_the_shared_vector_is_8_at_the_set() {
+    let image = image(
+        "version 0.0(r0: vector) -> vector
+           registers r1: own vector, r2: int, r3: int
+           block 0 quiet -> r0
+             r1 = dup r0
+             r2 = lit 0
+             r3 = lit 42
+             set r0[r2] = r3",
+    );
+    refuses(&image, 8, 14 + 7 + 6 + 9 + 9);
+}
+
+#[test]
+fn p10_division_is_accepted() {
+    let image = image(
+        "version 0.0(r0: int, r1: int) -> int
+           block 0 quiet -> r0
+             r0 = div r0, r1",
+    );
+    accepts(&image, &["0.0 2 1 0 0"]);
+}
+
+#[test]
+fn p11_a_body_that_calls_itself_is_accepted() {
+    let image = image(
+        "version 0.0(r0: int) -> int
+           block 0 quiet -> r0
+             r0 = call 0.0(r0)",
+    );
+    accepts(&image, &["0.0 1 1 0 0"]);
+}
+
+#[test]
+fn mistake_one_owned_register_given_as_owned_and_borrowed_in_one_call_is_8() {
+    let with_arguments = |arguments: &str| {
+        image(&format!(
+            "version 0.0(r0: own vector, r1: own vector, r2: int) -> int
+               block 0 quiet -> r2
+                 r2 = call 1.0({arguments})
+             version 1.0(r0: borrow vector, r1: own vector) -> int
+               registers r2: int
+               block 0 quiet -> r2
+                 r2 = len r0"
+        ))
+    };
+    refuses(&with_arguments("r0, r0"), 8, 13 + 7);
+    // 0.0 reads r0, r1, empties r1, assigns r2; 1.0 reads r0, assigns r2.
+    accepts(
+        &with_arguments("r0, r1"),
+        &["0.0 2 1 1 0", "1.0 1 1 0 0"],
+    );
+}
+
+#[test]
+fn mistake_one_owned_register_given_as_owned_and_borrowed_in_one_dispatch_is_8() {
+    let with_arguments = |arguments: &str| {
+        image(&format!(
+            "version 0.0(r0: own vector, r1: own vector, r2: int) -> int
+               block 0 quiet -> r2
+                 r2 = dispatch 0({arguments}) -> int quiet"
+        ))
+    };
+    for arguments in [
+        "r0: own vector, r0: borrow vector",
+        "r0: borrow vector, r0: own vector",
+        "r0: own vector, r0: own vector",
+    ] {
+        refuses(&with_arguments(arguments), 8, 13 + 7);
+    }
+    accepts(
+        &with_arguments("r0: own vector, r1: borrow vector"),
+        &["0.0 2 1 1 0"],
+    );
+    accepts(
+        &with_arguments("r0: borrow vector, r0: borrow vector"),
+        &["0.0 1 1 0 0"],
+    );
+}
+
+/// An identity before a version whose block 1 alone assigns r1, or not alone.
+fn read_after_force(first: &str) -> Vec<u8> {
+    image(&format!(
+        "version 0.0(r0: int) -> int
+           block 0 quiet -> r0
+         version 0.1(r0: int) -> int
+           registers r1: int, r2: quiet promise
+           block 0 quiet -> r1
+             {first}
+             r2 = prom 1
+             r0 = force r2
+           block 1 quiet -> r1
+             r1 = lit 5"
+    ))
+}
+
+#[test]
+fn mistake_reading_a_register_that_only_a_forced_block_assigned_is_10() {
+    refuses(&read_after_force(""), 10, 18);
+    // Reads nothing; assigns r1, r2, r0; the promise captures r1.
+    accepts(
+        &read_after_force("r1 = lit 4"),
+        &["0.0 1 0 0 0", "0.1 0 3 0 1"],
+    );
+}
+
+/// A body that makes a promise which captures a register, and then empties r0.
+fn emptying_after(captured: &str, emptying: &str) -> Vec<u8> {
+    image(&format!(
+        "version 0.0(r0: own vector, r1: own vector) -> own vector
+           registers r2: own vector, r3: quiet promise, r4: int
+           block 0 quiet -> r2
+             r3 = prom 1
+             r2 = {emptying}
+           block 1 quiet -> r4
+             r4 = len {captured}"
+    ))
+}
+
+#[test]
+fn mistake_emptying_a_register_after_a_promise_captured_it_is_10() {
+    for emptying in [
+        "use r0",
+        "call 0.0(r0, r1)",
+        "dispatch 0(r0: own vector) -> own vector quiet",
+    ] {
+        refuses(&emptying_after("r0", emptying), 10, 0);
+    }
+    // Reads r0, r1; assigns r2, r3; empties r0; the promise captures r1, r4.
+    let image = emptying_after("r1", "use r0");
+    accepts(&image, &["0.0 2 2 1 2"]);
+}
+
+#[test]
+fn mistake_returning_kind_0_is_6() {
+    let returning = |kind: &str| {
+        image(&format!(
+            "version 0.0(r0: {kind}) -> {kind}
+               block 0 quiet -> r0"
+        ))
+    };
+    refuses(&returning("any"), 6, 0);
+    refuses(&returning("quiet promise"), 6, 0);
+    refuses(&returning("reflective promise"), 6, 0);
+    accepts(&returning("value"), &["0.0 1 0 0 0"]);
+}
+
+#[test]
+fn mistake_returning_kind_0_from_a_dispatch_is_6() {
+    let returning = |kind: &str| {
+        image(&format!(
+            "version 0.0(r0: any) -> int
+               registers r1: int
+               block 0 quiet -> r1
+                 r1 = lit 0
+                 r0 = dispatch 0(r0: any) -> {kind} quiet"
+        ))
+    };
+    refuses(&returning("any"), 6, 12 + 7 + 9);
+    accepts(&returning("value"), &["0.0 1 2 0 0"]);
+}
+
+#[test]
+fn every_instruction_is_accepted_with_its_sets_counted() {
+    // 0.0 reads r0, r1, r2; assigns r2 to r9; empties r0, r3; block 1 captures
+    // r1, r5; block 2 captures r1, r2, r6 of its own and r1, r5 through block 3.
+    accepts(
+        &image(EVERY_INSTRUCTION),
+        &["0.0 3 8 2 4", "0.1 2 1 0 0", "1.0 1 0 0 0"],
+    );
+}
+
+#[test]
+fn the_65th_version_is_4_at_its_place() {
+    let lines = |index| format!("{}.{} 1 0 0 0", index / 4, index % 4);
+    let lines: Vec<String> = (0..64).map(lines).collect();
+    let lines: Vec<&str> = lines.iter().map(String::as_str).collect();
+    accepts(&identities(64), &lines);
+    refuses(&identities(65), 4, 64 * 18);
+}
