@@ -92,11 +92,12 @@ module _ {P : Program} {v : Version} {b : ℕ} {x : Block} {c : Action} {i : ℕ
   -- what was emptied before it, it does not touch, nor does what is left behind it
   pub emptied-before : has (p .done .U) r ≡ true → (has (m .now .R) r ≡ false) × (has (m .now .W) r ≡ false) × (has (m .now .U) r ≡ false) × (has (m .now .C) r ≡ false)
   emptied-before h =
-      let e = p .follows .clear .emptied r h in
-      (not-true _ (λ y. true≢false (sym (first-reads (m .follows) r y) ∙ e .0)),
-      not-true _ (λ y. true≢false (sym (first-assigns (m .follows) r y) ∙ e .1)),
-      not-true _ (λ y. true≢false (sym (first-empties (m .follows) r y) ∙ e .2)),
-      not-true _ (λ y. true≢false (sym (first-captures (m .follows) r y) ∙ e .3)))
+      let e = p .follows .clear .emptied r h in (
+        not-true _ (λ y. true≢false (sym (first-reads (m .follows) r y) ∙ e .0)),
+        not-true _ (λ y. true≢false (sym (first-assigns (m .follows) r y) ∙ e .1)),
+        not-true _ (λ y. true≢false (sym (first-empties (m .follows) r y) ∙ e .2)),
+        not-true _ (λ y. true≢false (sym (first-captures (m .follows) r y) ∙ e .3)),
+      )
 
   -- what was captured before it, it does not empty
   pub captured-before : has (p .done .C) r ≡ true → has (m .now .U) r ≡ false

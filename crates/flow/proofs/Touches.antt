@@ -69,12 +69,12 @@ no-more x r = rw (has-empty 16 r) (or-false x)
 pub touched-by : (enter : ℕ → Option Action) (rs us ds : List ℕ) (a : Action) → actionOf enter (reads rs empties us assigns ds) ≡ some a → Touched rs us ds a
 unfolding actionOf
 touched-by enter rs us ds a h = record {
-    is-R = λ r. g .is-R r ∙ reads-no-more (has (outer .first .R) r) (outer .first .W) r ∙ f .is-R r ∙ reads-no-more (has (those 16 rs) r) ∅ r;
-    is-W = λ r. g .is-W r ∙ rw (f .is-W r, has-empty);
-    is-U = λ r. g .is-U r ∙ no-more (has (outer .first .U) r) r ∙ f .is-U r ∙ rw (has-empty 16 r);
-    is-C = λ r. g .is-C r ∙ rw (f .is-C r, has-empty);
-    apart = λ r u. g .clear .emptied r (f .is-U r ∙ or-right (has _ r) u) .1;
-  }
+  is-R = λ r. g .is-R r ∙ reads-no-more (has (outer .first .R) r) (outer .first .W) r ∙ f .is-R r ∙ reads-no-more (has (those 16 rs) r) ∅ r;
+  is-W = λ r. g .is-W r ∙ rw (f .is-W r, has-empty);
+  is-U = λ r. g .is-U r ∙ no-more (has (outer .first .U) r) r ∙ f .is-U r ∙ rw (has-empty 16 r);
+  is-C = λ r. g .is-C r ∙ rw (f .is-C r, has-empty);
+  apart = λ r u. g .clear .emptied r (f .is-U r ∙ or-right (has _ r) u) .1;
+}
   where
     outer : Parts (reading rs then emptying us) (assigning ds) a
     outer = then-parts (reading rs then emptying us) (assigning ds) a h
@@ -106,13 +106,13 @@ promised-some (some a) p h = (a, refl, cc)
 pub promises-by : (enter : ℕ → Option Action) (block : ℕ) (ds : List ℕ) (a : Action) → actionOf enter (enters block assigns ds) ≡ some a → Promises enter block ds a
 unfolding actionOf
 promises-by enter block ds a h = record {
-    inner = i;
-    is-inner = p .1;
-    is-R = λ r. g .is-R r ∙ reads-no-more (has (i .R) r) ∅ r;
-    is-W = λ r. g .is-W r ∙ rw has-empty;
-    is-U = λ r. g .is-U r ∙ no-more (has (i .U) r) r;
-    is-C = λ r. g .is-C r ∙ no-more (has (i .R ∪ i .W ∪ i .U ∪ i .C) r) r ∙ simp has-union;
-  }
+  inner = i;
+  is-inner = p .1;
+  is-R = λ r. g .is-R r ∙ reads-no-more (has (i .R) r) ∅ r;
+  is-W = λ r. g .is-W r ∙ rw has-empty;
+  is-U = λ r. g .is-U r ∙ no-more (has (i .U) r) r;
+  is-C = λ r. g .is-C r ∙ no-more (has (i .R ∪ i .W ∪ i .U ∪ i .C) r) r ∙ simp has-union;
+}
   where
     outer : Parts (promised (enter block)) (assigning ds) a
     outer = then-parts (promised (enter block)) (assigning ds) a h

@@ -10,7 +10,7 @@ use Rattle.flow.proofs.instructions.promising.Reads as reads
 use Rattle.flow.proofs.instructions.promising.Lts as lts
 use Rattle.flow.proofs.actions.assigning.Reads as assigning-reads
 use Rattle.flow.proofs.actions.chain.Reads as chain-reads
-use Rattle.flow.proofs.actions.promised.Reads as promised-reads
+use Rattle.flow.proofs.instructions.promised.Reads as promised-reads
 use Rattle.flow.proofs.instructions.named.Reads as named-reads
 
 -- src/instructions.rt:111:20

@@ -3,10 +3,10 @@ use Rattle.flow.specs.Actions.{promised}
 use Rattle.sets.proofs.Masks.{set-empty}
 use mathlib.Core.Path.{_∙_}
 use borrow.Author.Needs.{needs}
-use Rattle.flow.proofs.actions.promised.Statement.{statement}
-use Rattle.flow.proofs.actions.promised.Tie as tie
-use Rattle.flow.proofs.actions.promised.Reads as reads
-use Rattle.flow.proofs.actions.promised.Lts as lts
+use Rattle.flow.proofs.instructions.promised.Statement.{statement}
+use Rattle.flow.proofs.instructions.promised.Tie as tie
+use Rattle.flow.proofs.instructions.promised.Reads as reads
+use Rattle.flow.proofs.instructions.promised.Lts as lts
 use Rattle.sets.proofs.union.Reads as union-reads
 
 -- src/actions.rt:97:25
