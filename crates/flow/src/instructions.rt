@@ -167,7 +167,7 @@ fn dispatching(image: &[u8], p: usize) -> Flowed
     actions::touching(reads, paired_owned(image, p), named(image, p, 0, 1, 1))
 }
 
-/// What the instruction at `p` does, where `entered` is what the block does that a PROM names.
+/// What the instruction at `p` does, where `entered` is what the block does that a PROM names. The table is the image's.
 pub fn instruction(image: &[u8], table: &[usize; 128], p: usize, entered: Flowed) -> Flowed
     requires { ⌜ now table ≡ tableOf (now image) ⌝ }
     ensures { λ r. ⌜ flowed r ≡ actionOf (λ block. flowed entered) (touch (program (records (now (image .entry)))) (instrAt (now (image .entry)) p)) ⌝ }
