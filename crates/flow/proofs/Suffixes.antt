@@ -74,13 +74,13 @@ pub record Begun (P : Program) (v : Version) (b : ℕ) (x : Block) (c : Action) 
 pub begun : {P : Program} {v : Version} {b : ℕ} {x : Block} {c : Action} → Does P v b x c → Begun P v b x c
 unfolding before those
 begun {P} {v} {b} {x} {c} h = record {
-    rest = p .rest;
-    is-rest = p .is-rest;
-    is-R = λ r. sym (f .is-R r ∙ rw (has-empty 16 r) (and-true (has (p .rest .R) r)));
-    is-W = λ r. sym (f .is-W r ∙ rw (has-empty 16 r));
-    is-U = λ r. sym (f .is-U r ∙ rw (has-empty 16 r));
-    is-C = λ r. sym (f .is-C r ∙ rw (has-empty 16 r));
-  }
+  rest = p .rest;
+  is-rest = p .is-rest;
+  is-R = λ r. sym (f .is-R r ∙ rw (has-empty 16 r) (and-true (has (p .rest .R) r)));
+  is-W = λ r. sym (f .is-W r ∙ rw (has-empty 16 r));
+  is-U = λ r. sym (f .is-U r ∙ rw (has-empty 16 r));
+  is-C = λ r. sym (f .is-C r ∙ rw (has-empty 16 r));
+}
   where
     p : Parted P v b x c 0
     p = parted h 0

@@ -3,7 +3,7 @@ use mathlib.Core.Path.{_≡_, refl, sym, ap, _∙_}
 use mathlib.Core.List.{List, [], _∷_}
 use mathlib.Core.Logic.{_⊎_, inl, inr}
 use mathlib.Core.Option.{Option, none, some}
-use mathlib.Core.Bool.{Bool, true, false, not, _&&_, _||_, or-false, true≢false, false≢true}
+use mathlib.Core.Bool.{Bool, true, false, cond, not, _&&_, _||_, or-false, true≢false, false≢true}
 use Prim.Native.Nat.{ℕ, zero, suc, _+_, _-_, _<_}
 use native.Mathlib.Omega.{arith}
 use lib.ListN.{drop, getD, getElem?}
@@ -15,11 +15,12 @@ use Rattle.sets.specs.Sets.{Set, has, only, those, inhabited, below, _∪_}
 use Rattle.sets.proofs.Members.{has-none}
 use Rattle.layout.specs.declared.Found.{Found}
 use Rattle.layout.specs.declared.Found.the-variants.{Nothing}
-use Rattle.program.specs.Program.{Line, Block, Version, Program}
+use Rattle.program.specs.Program.{Argument, Line, Block, Version, Program}
 use Rattle.program.specs.Search.{firstLine, firstBlock, first}
 use Rattle.program.proofs.Laid.{passed}
 use Rattle.program.proofs.Lookups.{Each}
-use Rattle.flow.specs.Actions.{Action, _then_, ∅, reading, emptying, assigning, promised, reads_empties_assigns_, enters_assigns_, actionOf, bodyAction}
+use Rattle.typing.specs.Types.{isOwned}
+use Rattle.flow.specs.Actions.{Action, _then_, ∅, reading, emptying, assigning, promised, emptied, reads_empties_assigns_, enters_assigns_, actionOf, bodyAction}
 use Rattle.flow.specs.Questions.{flows, question10}
 use Rattle.flow.proofs.Follows.{Follows, Parts, then-parts, then-follows, or-left, or-right, or-either, has-empty, has-union}
 
@@ -55,6 +56,31 @@ those-has k (x ∷ rs) r h = go (or-either (has (only k x) r) (has (those k rs) 
     go : (has (only k x) r ≡ true) ⊎ (has (those k rs) r ≡ true) → (has (those k rs) r ≡ true → (i : ℕ) × (getElem? rs i ≡ some r)) → (i : ℕ) × (getElem? (x ∷ rs) i ≡ some r)
     go (inl e) ih = (0, ap some (sym (only-has k x r e)))
     go (inr e) ih = let t = ih e in (suc (t .0), t .1)
+
+-- ---- registers that a call empties
+
+-- none, where no argument is owned
+pub none-emptied : (l : List Argument) → ((i : ℕ) (a : Argument) → getElem? l i ≡ some a → isOwned (a .type) ≡ false) → emptied l ≡ []
+unfolding emptied
+none-emptied [] h = refl
+none-emptied (a ∷ l) h = rw (h 0 a refl) (none-emptied l (λ i b e. h (suc i) b e))
+
+-- an owned argument's
+pub emptied-owned : (l : List Argument) (j r : ℕ) → getElem? (emptied l) j ≡ some r → (i : ℕ) × (a : Argument) × (getElem? l i ≡ some a) × (isOwned (a .type) ≡ true) × (a .register ≡ r)
+unfolding emptied
+emptied-owned [] j r e = let z : _≡_ {A = ℕ} 0 1 = cc in absurd (omega arith)
+emptied-owned (a ∷ l) j r e = go (isOwned (a .type)) refl j e (λ k f. emptied-owned l k r f)
+  where
+    Owned : List Argument → Type 0
+    Owned m = (i : ℕ) × (b : Argument) × (getElem? m i ≡ some b) × (isOwned (b .type) ≡ true) × (b .register ≡ r)
+
+    later : Owned l → Owned (a ∷ l)
+    later t = (suc (t .0), t .1, t .2, t .3, t .4)
+
+    go : (o : Bool) → isOwned (a .type) ≡ o → (k : ℕ) → getElem? (cond o (a .register ∷ emptied l) (emptied l)) k ≡ some r → ((k : ℕ) → getElem? (emptied l) k ≡ some r → Owned l) → Owned (a ∷ l)
+    go true o zero f ih = (0, a, refl, o, cc)
+    go true o (suc k) f ih = later (ih k f)
+    go false o k f ih = later (ih k f)
 
 -- ---- an instruction that enters no block
 
