@@ -1,44 +1,44 @@
-//! The questions for programs in other languages: functions on numbers and byte slices.
+//! The checker for programs in other languages: functions on numbers and byte slices.
 ghost use mathlib.Core.Path.{_≡_};
-ghost use Rattle.exports.specs.Answers.{question, fails, offset};
-use layout::Found;
-use program::question7;
-use typing::question6;
+ghost use Rattle.checker.specs.Verdicts.{verdictOf};
+ghost use Rattle.checker.specs.Reports.{reportText};
+ghost use Rattle.writer.specs.Text.{placed};
+ghost use lib.ListN.{length};
+ghost use Rattle.exports.specs.Answers.{numberOf, detailOf, writtenOf};
+use checker::Reported;
+use checker::Verdict;
+use checker::questions;
+use checker::report;
 
-/// The answer to the question `number`; one that is not among 1 to 7 finds nothing.
-fn ask(number: u8, image: &[u8]) -> Found
-    ensures { λ r. ⌜ r ≡ question number (now (image .entry)) ⌝ }
+/// The number of the question that refuses the image; 0 where it is accepted.
+#[no_mangle]
+pub extern "C" fn fir_verdict_number(image: &[u8]) -> u8
+    ensures { λ r. ⌜ r ≡ numberOf (verdictOf (now (image .entry))) ⌝ }
 {
-    match number {
-        1 => layout::question_1(image),
-        2 => layout::question_2(image),
-        3 => layout::question_3(image),
-        4 => layout::question_4(image),
-        5 => layout::question_5(image),
-        6 => question6::question_6(image),
-        7 => question7::question_7(image),
-        _ => Found::Nothing,
+    match questions::verdict(image) {
+        Verdict::Accepted(_) => 0,
+        Verdict::Refused(n, _) => n,
     }
 }
 
-/// Is the answer to the question `number`, 1 to 7, a no?
+/// The offset of the refusal; where the image is accepted, its number of versions.
 #[no_mangle]
-pub extern "C" fn fir_question_fails(number: u8, image: &[u8]) -> bool
-    ensures { λ r. ⌜ r ≡ fails (question number (now (image .entry))) ⌝ }
+pub extern "C" fn fir_verdict_detail(image: &[u8]) -> usize
+    ensures { λ r. ⌜ r ≡ detailOf (verdictOf (now (image .entry))) ⌝ }
 {
-    match ask(number, image) {
-        Found::Nothing => false,
-        Found::At(_) => true,
+    match questions::verdict(image) {
+        Verdict::Accepted(n) => n,
+        Verdict::Refused(_, p) => p,
     }
 }
 
-/// The offset of a no to the question `number`, 1 to 7; 0 where it is a yes.
+/// Writes the text that `check` prints from place 0 on, and gives its length; a buffer that is too short is left as it was, and the answer is 0.
 #[no_mangle]
-pub extern "C" fn fir_question_offset(number: u8, image: &[u8]) -> usize
-    ensures { λ r. ⌜ r ≡ offset (question number (now (image .entry))) ⌝ }
+pub extern "C" fn fir_report(image: &[u8], out: &mut [u8]) -> usize
+    ensures { λ r. ⌜ (r ≡ writtenOf (reportText (now (image .entry))) (length (now (out .entry)))) × (now (out .exit) ≡ placed (now (out .entry)) 0 (reportText (now (image .entry)))) ⌝ }
 {
-    match ask(number, image) {
-        Found::Nothing => 0,
-        Found::At(p) => p,
+    match report::report(image, out) {
+        Reported::Written(n) => n,
+        Reported::Short => 0,
     }
 }

@@ -10,7 +10,7 @@ use lib.ListN.{length, getD, getElem?}
 use lib.Dec.{ltb, eqb}
 use borrow.Author.Tests.{ltb-true, ltb-false, lt-ltb, le-ltb, eqb-true, eqb-false}
 use Rattle.layout.specs.Kinds as kind
-use Rattle.layout.specs.Records.{_!_, sizeAt, kindAt, bodyAt, recAt, records, choose}
+use Rattle.layout.specs.Records.{_!_, sizeAt, kindAt, bodyAt, recAt, records}
 use Rattle.layout.specs.declared.Found.the-variants.{Nothing, At}
 use Rattle.layout.proofs.Walk.{size-in}
 use Rattle.layout.proofs.Rows.{Rows, choose-each}

@@ -1,9 +1,9 @@
 -- One action then another, register by register, and three in a row.
 use mathlib.Core.Path.{_≡_, refl, sym, ap, _∙_, subst}
 use mathlib.Core.Logic.{_⊎_, inl, inr}
-use mathlib.Core.List.{List, [], _∷_, map}
+use mathlib.Core.List.{[], _∷_, map}
 use mathlib.Core.Option.{Option, none, some}
-use mathlib.Core.Bool.{Bool, true, false, cond, not, _&&_, _||_, true≢false, false≢true}
+use mathlib.Core.Bool.{Bool, true, false, cond, not, _&&_, _||_, true≢false}
 use Prim.Native.Nat.{ℕ, zero, suc, _+_, _-_, _≤_}
 use native.Mathlib.Omega.{arith}
 use lib.ListN.{length}
@@ -148,12 +148,12 @@ pub record Follows (a b c : Action) : Type 0 where
 joined-follows : (a b : Action) → Clear a b → Follows a b (joined a b)
 unfolding joined
 joined-follows a b h = record {
-    clear = h;
-    is-R = λ r. has-union (a .R) (b .R ∖ a .W) r ∙ ap (λ (x : Bool). has (a .R) r || x) (has-minus (b .R) (a .W) r);
-    is-W = has-union (a .W) (b .W);
-    is-U = has-union (a .U) (b .U);
-    is-C = has-union (a .C) (b .C);
-  }
+  clear = h;
+  is-R = λ r. has-union (a .R) (b .R ∖ a .W) r ∙ ap (λ (x : Bool). has (a .R) r || x) (has-minus (b .R) (a .W) r);
+  is-W = has-union (a .W) (b .W);
+  is-U = has-union (a .U) (b .U);
+  is-C = has-union (a .C) (b .C);
+}
 
 pub then-follows : (a b c : Action) → (some a then some b) ≡ some c → Follows a b c
 unfolding _then_
@@ -212,18 +212,18 @@ module _ {a b c : Action} (f : Follows a b c) (r : ℕ) where
 module _ (a b c : Action) (f : Follows a b (joined a b)) (g : Follows b c (joined b c)) where
   clear-right : Clear (joined a b) c → Clear a (joined b c)
   clear-right h = record {
-      emptied = λ r u.
+    emptied = λ r u.
         let x = f .clear .emptied r u in
         let y = h .emptied r (first-empties f r u) in
         (g .is-R r ∙ or-none (x .0) (minus-none (has (b .W) r) (y .0)), g .is-W r ∙ or-none (x .1) (y .1), g .is-U r ∙ or-none (x .2) (y .2), g .is-C r ∙ or-none (x .3) (y .3));
-      captured = λ r q. g .is-U r ∙ or-none (f .clear .captured r q) (h .captured r (first-captures f r q));
-    }
+    captured = λ r q. g .is-U r ∙ or-none (f .clear .captured r q) (h .captured r (first-captures f r q));
+  }
 
   clear-left : Clear a (joined b c) → Clear (joined a b) c
   clear-left h = record {
-      emptied = λ r u. by-first r (or-either _ _ (sym (f .is-U r) ∙ u));
-      captured = λ r q. by-capture r (or-either _ _ (sym (f .is-C r) ∙ q));
-    }
+    emptied = λ r u. by-first r (or-either _ _ (sym (f .is-U r) ∙ u));
+    captured = λ r q. by-capture r (or-either _ _ (sym (f .is-C r) ∙ q));
+  }
     where
       unread : (r : ℕ) → has (joined b c .R) r ≡ false → has (b .W) r ≡ false → has (c .R) r ≡ false
       unread r x w = go (or-neither (has (b .R) r) (has (c .R) r && not (has (b .W) r)) (sym (g .is-R r) ∙ x) .1)
@@ -246,18 +246,18 @@ module _ (a b c : Action) (f : Follows a b (joined a b)) (g : Follows b c (joine
 clear-last : (a b c : Action) → Clear (joined a b) c → Clear b c
 unfolding joined
 clear-last a b c h = record {
-    emptied = λ r u. h .emptied r (has-union (a .U) (b .U) r ∙ or-right (has (a .U) r) u);
-    captured = λ r q. h .captured r (has-union (a .C) (b .C) r ∙ or-right (has (a .C) r) q);
-  }
+  emptied = λ r u. h .emptied r (has-union (a .U) (b .U) r ∙ or-right (has (a .U) r) u);
+  captured = λ r q. h .captured r (has-union (a .C) (b .C) r ∙ or-right (has (a .C) r) q);
+}
 
 clear-first : (a b c : Action) → Clear a (joined b c) → Clear a b
 unfolding joined
 clear-first a b c h = record {
-    emptied = λ r u.
+  emptied = λ r u.
       let x = h .emptied r u in
       (or-neither _ _ (sym (has-union (b .R) (c .R ∖ b .W) r) ∙ x .0) .0, or-neither _ _ (sym (has-union (b .W) (c .W) r) ∙ x .1) .0, or-neither _ _ (sym (has-union (b .U) (c .U) r) ∙ x .2) .0, or-neither _ _ (sym (has-union (b .C) (c .C) r) ∙ x .3) .0);
-    captured = λ r q. or-neither _ _ (sym (has-union (b .U) (c .U) r) ∙ h .captured r q) .0;
-  }
+  captured = λ r q. or-neither _ _ (sym (has-union (b .U) (c .U) r) ∙ h .captured r q) .0;
+}
 
 longest : (w r w′ r′ : ℕ) → longer (longer r w) (longer r′ (longer w w′)) ≡ longer (longer r (longer r′ w′)) w
 longest w r w′ r′ =
@@ -309,7 +309,6 @@ then-assoc (some a) (some b) (some c) = go (clash a b) (clash b c) refl refl
     follows : (d e : Action) → clash d e ≡ false → Follows d e (joined d e)
     follows d e h = joined-follows d e (clash-clear d e h)
 
-
     go : (p q : Bool) → clash a b ≡ p → clash b c ≡ q → (cond p none (some (joined a b)) then some c) ≡ (some a then cond q none (some (joined b c)))
     go true true ep eq = refl
     go true false ep eq =
@@ -320,6 +319,6 @@ then-assoc (some a) (some b) (some c) = go (clash a b) (clash b c) refl refl
         rw e
     go false false ep eq =
         let e : clash (joined a b) c ≡ clash a (joined b c) = same-test _ _
-              (λ h. clear-clash a (joined b c) (clear-right a b c (follows a b ep) (follows b c eq) (clash-clear (joined a b) c h)))
-              (λ h. clear-clash (joined a b) c (clear-left a b c (follows a b ep) (follows b c eq) (clash-clear a (joined b c) h))) in
+        (λ h. clear-clash a (joined b c) (clear-right a b c (follows a b ep) (follows b c eq) (clash-clear (joined a b) c h)))
+        (λ h. clear-clash (joined a b) c (clear-left a b c (follows a b ep) (follows b c eq) (clash-clear a (joined b c) h))) in
         rw (e, joined-assoc)

@@ -1,11 +1,11 @@
 -- Lists of registers as a loop gathers them: those it passed, and those that are left.
 use mathlib.Core.Path.{_≡_, refl, sym, ap, ap₂, _∙_}
 use mathlib.Core.List.{List, [], _∷_, map}
-use mathlib.Core.Bool.{Bool, true, false, cond, _||_, or-false, or-assoc}
+use mathlib.Core.Bool.{true, false, _||_, or-false, or-assoc}
 use Prim.Native.Nat.{ℕ, zero, suc, _+_, _-_, _*_, _/_, _≤_, _<_}
 use native.Mathlib.Numerals.{add-one}
 use native.Mathlib.Omega.{arith}
-use lib.ListN.{length, take, drop, length-take}
+use lib.ListN.{length, drop, length-take}
 use borrow.Author.Tests.{eq-eqb, ne-eqb}
 use lib.Seq.{drop-cons, getD-take}
 use Rattle.layout.specs.Records.{_!_, records, bodyAt, every, fields}
@@ -13,7 +13,7 @@ use Rattle.layout.proofs.Fields.{length-every, every-at, fields-at}
 use Rattle.layout.specs.declared.Found.the-variants.{Nothing, At}
 use Rattle.program.specs.Places.{versionAt, versionPlace}
 use Rattle.program.proofs.Lookups.{version-found, version-missing}
-use mathlib.Core.Option.{Option, none, some}
+use mathlib.Core.Option.{none, some}
 use Rattle.sets.specs.Sets.{Set, empty, only, those, both, _∪_, setOf}
 use Rattle.sets.proofs.Masks.{set-empty}
 use Rattle.program.specs.Program.{Argument, Version, arguments, parameterTypes, beside, program, findVersion}

@@ -1,19 +1,19 @@
 -- A block, parted at an instruction: what was done before it, what it does, and what is done from there to the end.
 use mathlib.Core.Path.{_≡_, refl, sym, ap, _∙_}
-use mathlib.Core.Logic.{_⊎_, inl, inr, ⊎-elim}
+use mathlib.Core.Logic.{_⊎_}
 use mathlib.Core.List.{List, [], _∷_, _++_}
 use mathlib.Core.Option.{Option, none, some}
-use mathlib.Core.Bool.{Bool, true, false, true≢false}
+use mathlib.Core.Bool.{true, false, and-true, true≢false}
 use Prim.Native.Nat.{ℕ, zero, suc, _+_}
 use native.Mathlib.Numerals.{add-one}
 use native.Mathlib.Omega.{arith}
 use lib.ListN.{take, drop, getElem?, take-append-drop}
-use Rattle.sets.specs.Sets.{has}
+use Rattle.sets.specs.Sets.{has, those}
 use Rattle.program.specs.Program.{Instr, Line, Block, Version, Program}
-use Rattle.flow.specs.Actions.{Action, _then_, reading, along}
+use Rattle.flow.specs.Actions.{Action, _then_, ∅, reading, along}
 use Rattle.flow.specs.Walks.{blockAction, acts, before, after}
 use Rattle.flow.proofs.Blocks.{walked-at}
-use Rattle.flow.proofs.Follows.{Follows, Parts, then-parts, then-assoc, first-reads, first-assigns, first-empties, first-captures, second-reads, second-assigns, second-empties, second-captures, not-true}
+use Rattle.flow.proofs.Follows.{Follows, Parts, then-parts, then-assoc, first-reads, first-assigns, first-empties, first-captures, second-reads, second-assigns, second-empties, second-captures, not-true, has-empty}
 
 module _ (act : Instr → Option Action) (result : ℕ) where
   -- the whole is what was done before, then what is done from here on
@@ -62,6 +62,35 @@ parted {P} {v} {b} {x} {c} h i = record { done = p .first; rest = p .second; is-
         ∙ ap (along (acts P v b) (x .result) (reading [])) (take-append-drop i (x .code))
         ∙ sym (walked-at P v b x (h .there)) ∙ h .does)
 
+-- from its first instruction on it does what it does in all
+pub record Begun (P : Program) (v : Version) (b : ℕ) (x : Block) (c : Action) : Type 0 where
+  pub rest : Action
+  pub is-rest : after (acts P v b) (x .result) (x .code) ≡ some rest
+  pub is-R : (r : ℕ) → has (rest .R) r ≡ has (c .R) r
+  pub is-W : (r : ℕ) → has (rest .W) r ≡ has (c .W) r
+  pub is-U : (r : ℕ) → has (rest .U) r ≡ has (c .U) r
+  pub is-C : (r : ℕ) → has (rest .C) r ≡ has (c .C) r
+
+pub begun : {P : Program} {v : Version} {b : ℕ} {x : Block} {c : Action} → Does P v b x c → Begun P v b x c
+unfolding before those
+begun {P} {v} {b} {x} {c} h = record {
+  rest = p .rest;
+  is-rest = p .is-rest;
+  is-R = λ r. sym (f .is-R r ∙ rw (has-empty 16 r) (and-true (has (p .rest .R) r)));
+  is-W = λ r. sym (f .is-W r ∙ rw (has-empty 16 r));
+  is-U = λ r. sym (f .is-U r ∙ rw (has-empty 16 r));
+  is-C = λ r. sym (f .is-C r ∙ rw (has-empty 16 r));
+}
+  where
+    p : Parted P v b x c 0
+    p = parted h 0
+
+    same : p .done ≡ record { R = ∅; W = ∅; U = ∅; C = ∅ }
+    same = cc (p .is-done)
+
+    f : Follows (record { R = ∅; W = ∅; U = ∅; C = ∅ }) (p .rest) c
+    f = rw same at (p .follows)
+
 -- the instruction l at the place i does `now`, and `next` is left behind it
 pub record Meets (P : Program) (v : Version) (b : ℕ) (x : Block) (i : ℕ) (l : Line) (rest : Action) : Type 0 where
   pub now : Action
@@ -92,11 +121,12 @@ module _ {P : Program} {v : Version} {b : ℕ} {x : Block} {c : Action} {i : ℕ
   -- what was emptied before it, it does not touch, nor does what is left behind it
   pub emptied-before : has (p .done .U) r ≡ true → (has (m .now .R) r ≡ false) × (has (m .now .W) r ≡ false) × (has (m .now .U) r ≡ false) × (has (m .now .C) r ≡ false)
   emptied-before h =
-      let e = p .follows .clear .emptied r h in
-      (not-true _ (λ y. true≢false (sym (first-reads (m .follows) r y) ∙ e .0)),
-      not-true _ (λ y. true≢false (sym (first-assigns (m .follows) r y) ∙ e .1)),
-      not-true _ (λ y. true≢false (sym (first-empties (m .follows) r y) ∙ e .2)),
-      not-true _ (λ y. true≢false (sym (first-captures (m .follows) r y) ∙ e .3)))
+      let e = p .follows .clear .emptied r h in (
+        not-true _ (λ y. true≢false (sym (first-reads (m .follows) r y) ∙ e .0)),
+        not-true _ (λ y. true≢false (sym (first-assigns (m .follows) r y) ∙ e .1)),
+        not-true _ (λ y. true≢false (sym (first-empties (m .follows) r y) ∙ e .2)),
+        not-true _ (λ y. true≢false (sym (first-captures (m .follows) r y) ∙ e .3)),
+      )
 
   -- what was captured before it, it does not empty
   pub captured-before : has (p .done .C) r ≡ true → has (m .now .U) r ≡ false

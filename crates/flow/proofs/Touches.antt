@@ -4,7 +4,7 @@ use mathlib.Core.List.{List, [], _∷_}
 use mathlib.Core.Logic.{_⊎_, inl, inr}
 use mathlib.Core.Option.{Option, none, some}
 use mathlib.Core.Bool.{Bool, true, false, cond, not, _&&_, _||_, or-false, true≢false, false≢true}
-use Prim.Native.Nat.{ℕ, zero, suc, _+_, _-_, _≤_, _<_}
+use Prim.Native.Nat.{ℕ, zero, suc, _+_, _-_, _<_}
 use native.Mathlib.Omega.{arith}
 use lib.ListN.{drop, getD, getElem?}
 use lib.Seq.{getD-drop}
@@ -13,9 +13,15 @@ use borrow.Author.Tests.{ltb-true, ltb-false}
 use Rattle.layout.specs.Tests.{found}
 use Rattle.sets.specs.Sets.{Set, has, only, those, inhabited, below, _∪_}
 use Rattle.sets.proofs.Members.{has-none}
-use Rattle.program.specs.Program.{Version, Program}
-use Rattle.flow.specs.Actions.{Action, _then_, ∅, reading, emptying, assigning, promised, reads_empties_assigns_, enters_assigns_, actionOf, bodyAction}
-use Rattle.flow.specs.Questions.{flows}
+use Rattle.layout.specs.declared.Found.{Found}
+use Rattle.layout.specs.declared.Found.the-variants.{Nothing}
+use Rattle.program.specs.Program.{Argument, Line, Block, Version, Program}
+use Rattle.program.specs.Search.{firstLine, firstBlock, first}
+use Rattle.program.proofs.Laid.{passed}
+use Rattle.program.proofs.Lookups.{Each}
+use Rattle.typing.specs.Types.{isOwned}
+use Rattle.flow.specs.Actions.{Action, _then_, ∅, reading, emptying, assigning, promised, emptied, reads_empties_assigns_, enters_assigns_, actionOf, bodyAction}
+use Rattle.flow.specs.Questions.{flows, question10}
 use Rattle.flow.proofs.Follows.{Follows, Parts, then-parts, then-follows, or-left, or-right, or-either, has-empty, has-union}
 
 -- ---- registers of a list
@@ -51,6 +57,31 @@ those-has k (x ∷ rs) r h = go (or-either (has (only k x) r) (has (those k rs) 
     go (inl e) ih = (0, ap some (sym (only-has k x r e)))
     go (inr e) ih = let t = ih e in (suc (t .0), t .1)
 
+-- ---- registers that a call empties
+
+-- none, where no argument is owned
+pub none-emptied : (l : List Argument) → ((i : ℕ) (a : Argument) → getElem? l i ≡ some a → isOwned (a .type) ≡ false) → emptied l ≡ []
+unfolding emptied
+none-emptied [] h = refl
+none-emptied (a ∷ l) h = rw (h 0 a refl) (none-emptied l (λ i b e. h (suc i) b e))
+
+-- an owned argument's
+pub emptied-owned : (l : List Argument) (j r : ℕ) → getElem? (emptied l) j ≡ some r → (i : ℕ) × (a : Argument) × (getElem? l i ≡ some a) × (isOwned (a .type) ≡ true) × (a .register ≡ r)
+unfolding emptied
+emptied-owned [] j r e = let z : _≡_ {A = ℕ} 0 1 = cc in absurd (omega arith)
+emptied-owned (a ∷ l) j r e = go (isOwned (a .type)) refl j e (λ k f. emptied-owned l k r f)
+  where
+    Owned : List Argument → Type 0
+    Owned m = (i : ℕ) × (b : Argument) × (getElem? m i ≡ some b) × (isOwned (b .type) ≡ true) × (b .register ≡ r)
+
+    later : Owned l → Owned (a ∷ l)
+    later t = (suc (t .0), t .1, t .2, t .3, t .4)
+
+    go : (o : Bool) → isOwned (a .type) ≡ o → (k : ℕ) → getElem? (cond o (a .register ∷ emptied l) (emptied l)) k ≡ some r → ((k : ℕ) → getElem? (emptied l) k ≡ some r → Owned l) → Owned (a ∷ l)
+    go true o zero f ih = (0, a, refl, o, cc)
+    go true o (suc k) f ih = later (ih k f)
+    go false o k f ih = later (ih k f)
+
 -- ---- an instruction that enters no block
 
 pub record Touched (rs us ds : List ℕ) (a : Action) : Type 0 where
@@ -69,12 +100,12 @@ no-more x r = rw (has-empty 16 r) (or-false x)
 pub touched-by : (enter : ℕ → Option Action) (rs us ds : List ℕ) (a : Action) → actionOf enter (reads rs empties us assigns ds) ≡ some a → Touched rs us ds a
 unfolding actionOf
 touched-by enter rs us ds a h = record {
-    is-R = λ r. g .is-R r ∙ reads-no-more (has (outer .first .R) r) (outer .first .W) r ∙ f .is-R r ∙ reads-no-more (has (those 16 rs) r) ∅ r;
-    is-W = λ r. g .is-W r ∙ rw (f .is-W r, has-empty);
-    is-U = λ r. g .is-U r ∙ no-more (has (outer .first .U) r) r ∙ f .is-U r ∙ rw (has-empty 16 r);
-    is-C = λ r. g .is-C r ∙ rw (f .is-C r, has-empty);
-    apart = λ r u. g .clear .emptied r (f .is-U r ∙ or-right (has _ r) u) .1;
-  }
+  is-R = λ r. g .is-R r ∙ reads-no-more (has (outer .first .R) r) (outer .first .W) r ∙ f .is-R r ∙ reads-no-more (has (those 16 rs) r) ∅ r;
+  is-W = λ r. g .is-W r ∙ rw (f .is-W r, has-empty);
+  is-U = λ r. g .is-U r ∙ no-more (has (outer .first .U) r) r ∙ f .is-U r ∙ rw (has-empty 16 r);
+  is-C = λ r. g .is-C r ∙ rw (f .is-C r, has-empty);
+  apart = λ r u. g .clear .emptied r (f .is-U r ∙ or-right (has _ r) u) .1;
+}
   where
     outer : Parts (reading rs then emptying us) (assigning ds) a
     outer = then-parts (reading rs then emptying us) (assigning ds) a h
@@ -106,13 +137,13 @@ promised-some (some a) p h = (a, refl, cc)
 pub promises-by : (enter : ℕ → Option Action) (block : ℕ) (ds : List ℕ) (a : Action) → actionOf enter (enters block assigns ds) ≡ some a → Promises enter block ds a
 unfolding actionOf
 promises-by enter block ds a h = record {
-    inner = i;
-    is-inner = p .1;
-    is-R = λ r. g .is-R r ∙ reads-no-more (has (i .R) r) ∅ r;
-    is-W = λ r. g .is-W r ∙ rw has-empty;
-    is-U = λ r. g .is-U r ∙ no-more (has (i .U) r) r;
-    is-C = λ r. g .is-C r ∙ no-more (has (i .R ∪ i .W ∪ i .U ∪ i .C) r) r ∙ simp has-union;
-  }
+  inner = i;
+  is-inner = p .1;
+  is-R = λ r. g .is-R r ∙ reads-no-more (has (i .R) r) ∅ r;
+  is-W = λ r. g .is-W r ∙ rw has-empty;
+  is-U = λ r. g .is-U r ∙ no-more (has (i .U) r) r;
+  is-C = λ r. g .is-C r ∙ no-more (has (i .R ∪ i .W ∪ i .U ∪ i .C) r) r ∙ simp has-union;
+}
   where
     outer : Parts (promised (enter block)) (assigning ds) a
     outer = then-parts (promised (enter block)) (assigning ds) a h
@@ -157,3 +188,25 @@ flows-body P v h = go (bodyAction P v) refl h
     go : (o : Option Action) → bodyAction P v ≡ o → found o (λ (a : Action). below (v .parameters) (a .R)) ≡ true → Flowing P v
     go none e f = absurd (false≢true f)
     go (some a) e f = record { body = a; is-body = e; within = below-has (v .parameters) (a .R) f }
+
+-- question 10 asks versions alone
+free-lines : (P : Program) (v : Version) (n : ℕ) (ls : List Line) (more : Found) → firstLine (question10 P) v n ls more ≡ more
+unfolding firstLine
+free-lines P v n [] more = refl
+free-lines P v n (l ∷ ls) more = free-lines P v n ls more
+
+free-blocks : (P : Program) (v : Version) (n : ℕ) (bs : List Block) (more : Found) → firstBlock (question10 P) v n bs more ≡ more
+unfolding firstBlock
+free-blocks P v n [] more = refl
+free-blocks P v n (b ∷ bs) more = free-lines P v n (b .code) _ ∙ free-blocks P v (n + 1) bs more
+
+versions-flow : (P vs : Program) → first (question10 P) vs ≡ Nothing → Each (Flowing P) vs
+unfolding first Each
+versions-flow P [] h = tt
+versions-flow P (v ∷ vs) h =
+    let t = passed (flows P v) (firstBlock (question10 P) v 0 (v .blocks) (first (question10 P) vs)) (v .at) h in
+    (flows-body P v (t .0), versions-flow P vs (sym (free-blocks P v 0 (v .blocks) (first (question10 P) vs)) ∙ t .1))
+
+-- in a program that passes question 10 flow holds in each version
+pub all-flow : (P : Program) → first (question10 P) P ≡ Nothing → Each (Flowing P) P
+all-flow P h = versions-flow P P h

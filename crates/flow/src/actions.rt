@@ -1,7 +1,7 @@
 //! Actions, one then another.
 ghost use mathlib.Core.Path.{_≡_};
 ghost use mathlib.Core.Option.{some};
-ghost use Rattle.flow.specs.Actions.{_then_, promised};
+ghost use Rattle.flow.specs.Actions.{_then_};
 ghost use Rattle.flow.specs.Masks.{masked, act, flowed};
 use crate::Action;
 use crate::Flowed;
@@ -87,22 +87,4 @@ pub fn touching(reads: u16, empties: u16, assigns: u16) -> Flowed
     ensures { λ r. ⌜ flowed r ≡ (some (masked reads 0 0 0) then some (masked 0 0 empties 0) then some (masked 0 assigns 0 0)) ⌝ }
 {
     chain(chain(reading(reads), emptying(empties)), assigning(assigns))
-}
-
-/// What PROM yields, by what its block does: it captures all that the block touches.
-pub fn promised(block: Flowed) -> Flowed
-    ensures { λ r. ⌜ flowed r ≡ promised (flowed block) ⌝ }
-{
-    match block {
-        Flowed::Allowed(a) => Flowed::Allowed(Action {
-            reads: a.reads,
-            assigns: 0,
-            empties: a.empties,
-            captures: sets::union(
-                sets::union(sets::union(a.reads, a.assigns), a.empties),
-                a.captures,
-            ),
-        }),
-        Flowed::Refused => Flowed::Refused,
-    }
 }

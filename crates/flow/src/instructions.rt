@@ -9,8 +9,9 @@ ghost use Rattle.layout.specs.Kinds as kind;
 ghost use Rattle.sets.specs.Sets.{setOf, those};
 ghost use Rattle.program.specs.Program.{program, instrOf, arguments, given, findVersion};
 ghost use Rattle.program.specs.Places.{versionAt, instrAt, tableOf};
-ghost use Rattle.flow.specs.Actions.{_then_, reading, emptying, assigning, emptied, touch, actionOf};
+ghost use Rattle.flow.specs.Actions.{_then_, reading, emptying, assigning, emptied, promised, touch, actionOf};
 ghost use Rattle.flow.specs.Masks.{flowed, alone};
+use crate::Action;
 use crate::Flowed;
 use crate::actions;
 use layout::Found;
@@ -104,12 +105,30 @@ fn used(image: &[u8], p: usize) -> Flowed
     actions::touching(a, a, named(image, p, 0, 1, 1))
 }
 
+/// What PROM yields, by what its block does: it captures all that the block touches.
+fn promised(block: Flowed) -> Flowed
+    ensures { λ r. ⌜ flowed r ≡ promised (flowed block) ⌝ }
+{
+    match block {
+        Flowed::Allowed(a) => Flowed::Allowed(Action {
+            reads: a.reads,
+            assigns: 0,
+            empties: a.empties,
+            captures: sets::union(
+                sets::union(sets::union(a.reads, a.assigns), a.empties),
+                a.captures,
+            ),
+        }),
+        Flowed::Refused => Flowed::Refused,
+    }
+}
+
 /// PROM: what its block does, promised, and then the register is assigned.
 fn promising(image: &[u8], p: usize, entered: Flowed) -> Flowed
     ensures { λ r. ⌜ flowed r ≡ actionOf (λ block. flowed entered) (touch (program (records (now (image .entry)))) (instrOf kind.PROM (bodyAt (now (image .entry)) p))) ⌝ }
 {
     actions::chain(
-        actions::promised(entered),
+        promised(entered),
         actions::assigning(named(image, p, 0, 1, 1)),
     )
 }
@@ -148,7 +167,7 @@ fn dispatching(image: &[u8], p: usize) -> Flowed
     actions::touching(reads, paired_owned(image, p), named(image, p, 0, 1, 1))
 }
 
-/// What the instruction at `p` does, where `entered` is what the block does that a PROM names.
+/// What the instruction at `p` does, where `entered` is what the block does that a PROM names. The table is the image's.
 pub fn instruction(image: &[u8], table: &[usize; 128], p: usize, entered: Flowed) -> Flowed
     requires { ⌜ now table ≡ tableOf (now image) ⌝ }
     ensures { λ r. ⌜ flowed r ≡ actionOf (λ block. flowed entered) (touch (program (records (now (image .entry)))) (instrAt (now (image .entry)) p)) ⌝ }

@@ -1,11 +1,9 @@
-use Rattle.flow.specs.Masks.{flowed}
-use mathlib.Core.Path.{refl}
+-- `flow::actions::assigning`: three of the four sets are empty.
 use Rattle.flow.proofs.actions.assigning.Statement.{statement}
 use Rattle.flow.proofs.actions.assigning.Tie as tie
-use Rattle.flow.proofs.actions.assigning.Reads as reads
-use Rattle.flow.proofs.actions.assigning.Lts as lts
+use Rattle.flow.specs.Masks.{flowed}
+use mathlib.Core.Path.{refl}
 
--- src/actions.rt:62:1
 returns : tie.Need-returns
 unfolding flowed
 returns c =

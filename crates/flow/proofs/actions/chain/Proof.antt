@@ -1,45 +1,35 @@
-use Rattle.flow.specs.Masks.{flowed}
-use Rattle.flow.specs.Actions.{_then_}
-use borrow.Author.Needs.{needs}
+-- `flow::actions::chain`: what is refused stays refused.
 use Rattle.flow.proofs.actions.chain.Statement.{statement}
 use Rattle.flow.proofs.actions.chain.Tie as tie
-use Rattle.flow.proofs.actions.chain.Reads as reads
-use Rattle.flow.proofs.actions.chain.Lts as lts
-use Rattle.flow.proofs.actions.follow.Reads as follow-reads
+use Rattle.flow.specs.Actions.{_then_}
+use Rattle.flow.specs.Masks.{flowed}
+use borrow.Author.Needs.{needs}
 
--- src/actions.rt:41:25
 enum-known-done : tie.Need-enum-known-done
 enum-known-done c = search needs
 
--- src/actions.rt:42:29
 enum-known-next : tie.Need-enum-known-next
 enum-known-next c = search needs
 
--- src/actions.rt:42:35
 follow-requires : tie.Need-follow-requires
 follow-requires c κs = search needs
 
--- src/actions.rt:43:32
 enum-told : tie.Need-enum-told
 enum-told c = search needs
 
--- src/actions.rt:45:28
 enum-told-2 : tie.Need-enum-told-2
 enum-told-2 c = search needs
 
--- src/actions.rt:37:1
 returns : tie.Need-returns
 unfolding flowed
 returns c =
     simp ((c .before .before .before .before .before .done) .given .1, (c .before .before .next) .given .1) ((c .follow) .ensures)
 
--- src/actions.rt:37:1
 returns-2 : tie.Need-returns-2
 unfolding flowed _then_
 returns-2 c =
     simp ((c .before .before .before .done) .given .1, (c .enum-told) .given .1)
 
--- src/actions.rt:37:1
 returns-3 : tie.Need-returns-3
 unfolding flowed _then_
 returns-3 c =

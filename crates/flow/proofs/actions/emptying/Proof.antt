@@ -1,11 +1,9 @@
-use Rattle.flow.specs.Masks.{flowed}
-use mathlib.Core.Path.{refl}
+-- `flow::actions::emptying`: three of the four sets are empty.
 use Rattle.flow.proofs.actions.emptying.Statement.{statement}
 use Rattle.flow.proofs.actions.emptying.Tie as tie
-use Rattle.flow.proofs.actions.emptying.Reads as reads
-use Rattle.flow.proofs.actions.emptying.Lts as lts
+use Rattle.flow.specs.Masks.{flowed}
+use mathlib.Core.Path.{refl}
 
--- src/actions.rt:74:1
 returns : tie.Need-returns
 unfolding flowed
 returns c =

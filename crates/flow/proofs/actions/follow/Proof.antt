@@ -1,86 +1,66 @@
-use Rattle.flow.specs.Masks.{flowed}
-use Rattle.flow.specs.Actions.{_then_, clash, joined}
-use mathlib.Core.Path.{sym, _∙_}
-use borrow.Author.Needs.{needs}
+-- `flow::actions::follow`: each condition of "then" is one test, and the result goes set by set.
 use Rattle.flow.proofs.actions.follow.Statement.{statement}
 use Rattle.flow.proofs.actions.follow.Tie as tie
-use Rattle.flow.proofs.actions.follow.Reads as reads
-use Rattle.flow.proofs.actions.follow.Lts as lts
-use Rattle.sets.proofs.difference.Reads as difference-reads
-use Rattle.sets.proofs.meets.Reads as meets-reads
-use Rattle.sets.proofs.union.Reads as union-reads
+use Rattle.flow.specs.Actions.{_then_, clash, joined}
+use Rattle.flow.specs.Masks.{flowed}
+use borrow.Author.Needs.{needs}
+use mathlib.Core.Path.{sym, _∙_}
 
--- src/actions.rt:13:8
 meets-requires : tie.Need-meets-requires
 meets-requires c κs = search needs
 
--- src/actions.rt:14:9
 returns : tie.Need-returns
 unfolding flowed _then_ clash
 returns c =
     simp (sym ((c .before .meets) .ensures) ∙ (c .if1) .taken)
 
--- src/actions.rt:16:8
 meets-requires-2 : tie.Need-meets-requires-2
 meets-requires-2 c κs = search needs
 
--- src/actions.rt:17:9
 returns-2 : tie.Need-returns-2
 unfolding flowed _then_ clash
 returns-2 c =
     simp (sym ((c .before .before .before .meets) .ensures) ∙ (c .before .before .if1) .left, sym ((c .before .meets2) .ensures) ∙ (c .if2) .taken)
 
--- src/actions.rt:19:8
 meets-requires-3 : tie.Need-meets-requires-3
 meets-requires-3 c κs = search needs
 
--- src/actions.rt:20:9
 returns-3 : tie.Need-returns-3
 unfolding flowed _then_ clash
 returns-3 c =
     simp (sym ((c .before .before .before .before .before .meets) .ensures) ∙ (c .before .before .before .before .if1) .left, sym ((c .before .before .before .meets2) .ensures) ∙ (c .before .before .if2) .left, sym ((c .before .meets3) .ensures) ∙ (c .if3) .taken)
 
--- src/actions.rt:22:8
 meets-requires-4 : tie.Need-meets-requires-4
 meets-requires-4 c κs = search needs
 
--- src/actions.rt:23:9
 returns-4 : tie.Need-returns-4
 unfolding flowed _then_ clash
 returns-4 c =
     simp (sym ((c .before .before .before .before .before .before .before .meets) .ensures) ∙ (c .before .before .before .before .before .before .if1) .left, sym ((c .before .before .before .before .before .meets2) .ensures) ∙ (c .before .before .before .before .if2) .left, sym ((c .before .before .before .meets3) .ensures) ∙ (c .before .before .if3) .left, sym ((c .before .meets4) .ensures) ∙ (c .if4) .taken)
 
--- src/actions.rt:25:8
 meets-requires-5 : tie.Need-meets-requires-5
 meets-requires-5 c κs = search needs
 
--- src/actions.rt:26:9
 returns-5 : tie.Need-returns-5
 unfolding flowed _then_ clash
 returns-5 c =
     simp (sym ((c .before .before .before .before .before .before .before .before .before .meets) .ensures) ∙ (c .before .before .before .before .before .before .before .before .if1) .left, sym ((c .before .before .before .before .before .before .before .meets2) .ensures) ∙ (c .before .before .before .before .before .before .if2) .left, sym ((c .before .before .before .before .before .meets3) .ensures) ∙ (c .before .before .before .before .if3) .left, sym ((c .before .before .before .meets4) .ensures) ∙ (c .before .before .if4) .left, sym ((c .before .meets5) .ensures) ∙ (c .if5) .taken)
 
--- src/actions.rt:29:37
 difference-requires : tie.Need-difference-requires
 difference-requires c κs = search needs
 
--- src/actions.rt:29:16
 union-requires : tie.Need-union-requires
 union-requires c κs = search needs
 
--- src/actions.rt:30:18
 union-requires-2 : tie.Need-union-requires-2
 union-requires-2 c κs = search needs
 
--- src/actions.rt:31:18
 union-requires-3 : tie.Need-union-requires-3
 union-requires-3 c κs = search needs
 
--- src/actions.rt:32:19
 union-requires-4 : tie.Need-union-requires-4
 union-requires-4 c κs = search needs
 
--- src/actions.rt:10:1
 returns-6 : tie.Need-returns-6
 unfolding flowed _then_ clash joined
 returns-6 c =

@@ -1,11 +1,9 @@
-use Rattle.flow.specs.Masks.{flowed}
-use mathlib.Core.Path.{refl}
+-- `flow::actions::reading`: three of the four sets are empty.
 use Rattle.flow.proofs.actions.reading.Statement.{statement}
 use Rattle.flow.proofs.actions.reading.Tie as tie
-use Rattle.flow.proofs.actions.reading.Reads as reads
-use Rattle.flow.proofs.actions.reading.Lts as lts
+use Rattle.flow.specs.Masks.{flowed}
+use mathlib.Core.Path.{refl}
 
--- src/actions.rt:50:1
 returns : tie.Need-returns
 unfolding flowed
 returns c =

@@ -1,47 +1,35 @@
+-- `flow::instructions::call_empties`: a version that is looked up stands at its place.
 use Rattle.program.proofs.Tables.{listed-right}
 use Rattle.flow.proofs.Listed.{none-named, call-missing, call-found}
-use mathlib.Core.Path.{sym, _∙_}
-use mathlib.Core.Option.{Option·elim}
-use borrow.Author.Needs.{needs}
 use Rattle.flow.proofs.instructions.call_empties.Statement.{statement}
 use Rattle.flow.proofs.instructions.call_empties.Tie as tie
-use Rattle.flow.proofs.instructions.call_empties.Reads as reads
-use Rattle.flow.proofs.instructions.call_empties.Lts as lts
-use Rattle.flow.proofs.instructions.given_owned.Reads as given-owned-reads
-use Rattle.layout.proofs.field.Reads as field-reads
-use Rattle.program.proofs.lookup.listed.Reads as listed-reads
+use borrow.Author.Needs.{needs}
+use mathlib.Core.Option.{Option·elim}
+use mathlib.Core.Path.{sym, _∙_}
 
--- src/instructions.rt:119:9
 field-requires : tie.Need-field-requires
 field-requires c κs = search needs
 
--- src/instructions.rt:120:9
 field-requires-2 : tie.Need-field-requires-2
 field-requires-2 c κs = search needs
 
--- src/instructions.rt:121:24
 listed-requires : tie.Need-listed-requires
 listed-requires c κs = search needs
 
--- src/instructions.rt:121:19
 enum-known-c : tie.Need-enum-known-c
 enum-known-c c = search needs
 
--- src/instructions.rt:122:9
 enum-told : tie.Need-enum-told
 enum-told c = search needs
 
--- src/instructions.rt:122:9
 returns : tie.Need-returns
 unfolding Option·elim
 returns c =
     rw (call-missing _ _ ((c .before .before .before .before .field) .ensures .0) ((c .before .before .before .field2) .ensures .0) (sym ((c .before .before .listed) .ensures ∙ listed-right _ _ _ _ (c .before .before .before .before .before .before .pre)) ∙ (c .enum-told) .given .1)) none-named
 
--- src/instructions.rt:124:5
 given-owned-requires : tie.Need-given-owned-requires
 given-owned-requires c κs = search needs
 
--- src/instructions.rt:115:1
 returns-2 : tie.Need-returns-2
 unfolding Option·elim
 returns-2 c =

@@ -1,216 +1,167 @@
-use Rattle.flow.specs.Actions.{actionOf, touch}
-use Rattle.program.specs.Places.{instrAt}
-use Rattle.program.specs.Program.{instrOf}
-use Rattle.layout.specs.Records.{every, choose}
-use borrow.Author.Tests.{ne-eqb}
-use mathlib.Core.Path.{_∙_, sym}
-use borrow.Author.Needs.{needs}
+-- `flow::instructions::instruction`: one row for each kind.
 use Rattle.flow.proofs.instructions.instruction.Statement.{statement}
 use Rattle.flow.proofs.instructions.instruction.Tie as tie
-use Rattle.flow.proofs.instructions.instruction.Reads as reads
-use Rattle.flow.proofs.instructions.instruction.Lts as lts
-use Rattle.flow.proofs.instructions.calling.Reads as calling-reads
-use Rattle.flow.proofs.instructions.dispatching.Reads as dispatching-reads
-use Rattle.flow.proofs.instructions.plain.Reads as plain-reads
-use Rattle.flow.proofs.instructions.promising.Reads as promising-reads
-use Rattle.flow.proofs.instructions.reads_only.Reads as reads-only-reads
-use Rattle.flow.proofs.instructions.used.Reads as used-reads
-use Rattle.layout.proofs.field.Reads as field-reads
-use Rattle.layout.proofs.kind_at.Reads as kind-at-reads
+use Rattle.flow.specs.Actions.{actionOf, touch}
+use Rattle.layout.specs.Records.{every, choose}
+use Rattle.program.specs.Places.{instrAt}
+use Rattle.program.specs.Program.{instrOf}
+use borrow.Author.Needs.{needs}
+use borrow.Author.Tests.{ne-eqb}
+use mathlib.Core.Path.{_∙_, sym}
 
--- src/instructions.rt:149:11
 kind-at-requires : tie.Need-kind-at-requires
 kind-at-requires c κs = search needs
 
--- src/instructions.rt:150:24
 plain-requires : tie.Need-plain-requires
 plain-requires c κs = search needs
 
--- src/instructions.rt:151:23
 used-requires : tie.Need-used-requires
 used-requires c κs = search needs
 
--- src/instructions.rt:152:23
 plain-requires-2 : tie.Need-plain-requires-2
 plain-requires-2 c κs = search needs
 
--- src/instructions.rt:153:42
 field-requires : tie.Need-field-requires
 field-requires c κs = search needs
 
--- src/instructions.rt:153:23
 plain-requires-3 : tie.Need-plain-requires-3
 plain-requires-3 c κs = search needs
 
--- src/instructions.rt:154:23
 plain-requires-4 : tie.Need-plain-requires-4
 plain-requires-4 c κs = search needs
 
--- src/instructions.rt:155:23
 plain-requires-5 : tie.Need-plain-requires-5
 plain-requires-5 c κs = search needs
 
--- src/instructions.rt:156:23
 plain-requires-6 : tie.Need-plain-requires-6
 plain-requires-6 c κs = search needs
 
--- src/instructions.rt:157:25
 plain-requires-7 : tie.Need-plain-requires-7
 plain-requires-7 c κs = search needs
 
--- src/instructions.rt:158:26
 plain-requires-8 : tie.Need-plain-requires-8
 plain-requires-8 c κs = search needs
 
--- src/instructions.rt:159:24
 plain-requires-9 : tie.Need-plain-requires-9
 plain-requires-9 c κs = search needs
 
--- src/instructions.rt:160:25
 plain-requires-10 : tie.Need-plain-requires-10
 plain-requires-10 c κs = search needs
 
--- src/instructions.rt:161:25
 reads-only-requires : tie.Need-reads-only-requires
 reads-only-requires c κs = search needs
 
--- src/instructions.rt:162:24
 promising-requires : tie.Need-promising-requires
 promising-requires c κs = search needs
 
--- src/instructions.rt:163:25
 plain-requires-11 : tie.Need-plain-requires-11
 plain-requires-11 c κs = search needs
 
--- src/instructions.rt:164:24
 plain-requires-12 : tie.Need-plain-requires-12
 plain-requires-12 c κs = search needs
 
--- src/instructions.rt:165:24
 reads-only-requires-2 : tie.Need-reads-only-requires-2
 reads-only-requires-2 c κs = search needs
 
--- src/instructions.rt:166:24
 calling-requires : tie.Need-calling-requires
 calling-requires c κs = search needs
 
--- src/instructions.rt:167:28
 dispatching-requires : tie.Need-dispatching-requires
 dispatching-requires c κs = search needs
 
--- src/instructions.rt:168:14
 plain-requires-13 : tie.Need-plain-requires-13
 plain-requires-13 c κs = search needs
 
--- src/instructions.rt:145:1
 returns : tie.Need-returns
 unfolding every actionOf touch instrAt instrOf choose
 returns c =
     (c .plain) .ensures ∙ simp (sym ((c .before .before .kind-at) .ensures) ∙ (c .before .match) .keys1)
 
--- src/instructions.rt:145:1
 returns-2 : tie.Need-returns-2
 unfolding every actionOf touch instrAt instrOf choose
 returns-2 c =
     (c .used) .ensures ∙ simp (sym ((c .before .before .kind-at) .ensures) ∙ (c .before .match) .keys2)
 
--- src/instructions.rt:145:1
 returns-3 : tie.Need-returns-3
 unfolding every actionOf touch instrAt instrOf choose
 returns-3 c =
     (c .plain2) .ensures ∙ simp (sym ((c .before .before .kind-at) .ensures) ∙ (c .before .match) .keys3)
 
--- src/instructions.rt:145:1
 returns-4 : tie.Need-returns-4
 unfolding every actionOf touch instrAt instrOf choose
 returns-4 c =
     (c .plain3) .ensures ∙ simp (sym ((c .before .before .before .kind-at) .ensures) ∙ (c .before .before .match) .keys4, (c .before .field) .ensures .0)
 
--- src/instructions.rt:145:1
 returns-5 : tie.Need-returns-5
 unfolding every actionOf touch instrAt instrOf choose
 returns-5 c =
     (c .plain4) .ensures ∙ simp (sym ((c .before .before .kind-at) .ensures) ∙ (c .before .match) .keys5)
 
--- src/instructions.rt:145:1
 returns-6 : tie.Need-returns-6
 unfolding every actionOf touch instrAt instrOf choose
 returns-6 c =
     (c .plain5) .ensures ∙ simp (sym ((c .before .before .kind-at) .ensures) ∙ (c .before .match) .keys6)
 
--- src/instructions.rt:145:1
 returns-7 : tie.Need-returns-7
 unfolding every actionOf touch instrAt instrOf choose
 returns-7 c =
     (c .plain6) .ensures ∙ simp (sym ((c .before .before .kind-at) .ensures) ∙ (c .before .match) .keys7)
 
--- src/instructions.rt:145:1
 returns-8 : tie.Need-returns-8
 unfolding every actionOf touch instrAt instrOf choose
 returns-8 c =
     (c .plain7) .ensures ∙ simp (sym ((c .before .before .kind-at) .ensures) ∙ (c .before .match) .keys8)
 
--- src/instructions.rt:145:1
 returns-9 : tie.Need-returns-9
 unfolding every actionOf touch instrAt instrOf choose
 returns-9 c =
     (c .plain8) .ensures ∙ simp (sym ((c .before .before .kind-at) .ensures) ∙ (c .before .match) .keys9)
 
--- src/instructions.rt:145:1
 returns-10 : tie.Need-returns-10
 unfolding every actionOf touch instrAt instrOf choose
 returns-10 c =
     (c .plain9) .ensures ∙ simp (sym ((c .before .before .kind-at) .ensures) ∙ (c .before .match) .keys10)
 
--- src/instructions.rt:145:1
 returns-11 : tie.Need-returns-11
 unfolding every actionOf touch instrAt instrOf choose
 returns-11 c =
     (c .plain10) .ensures ∙ simp (sym ((c .before .before .kind-at) .ensures) ∙ (c .before .match) .keys11)
 
--- src/instructions.rt:145:1
 returns-12 : tie.Need-returns-12
 unfolding every actionOf touch instrAt instrOf choose
 returns-12 c =
     (c .reads-only) .ensures ∙ simp (sym ((c .before .before .kind-at) .ensures) ∙ (c .before .match) .keys12)
 
--- src/instructions.rt:145:1
 returns-13 : tie.Need-returns-13
 unfolding instrAt
 returns-13 c =
     (c .promising) .ensures ∙ simp (sym ((c .before .before .kind-at) .ensures) ∙ (c .before .match) .keys13)
 
--- src/instructions.rt:145:1
 returns-14 : tie.Need-returns-14
 unfolding every actionOf touch instrAt instrOf choose
 returns-14 c =
     (c .plain11) .ensures ∙ simp (sym ((c .before .before .kind-at) .ensures) ∙ (c .before .match) .keys14)
 
--- src/instructions.rt:145:1
 returns-15 : tie.Need-returns-15
 unfolding every actionOf touch instrAt instrOf choose
 returns-15 c =
     (c .plain12) .ensures ∙ simp (sym ((c .before .before .kind-at) .ensures) ∙ (c .before .match) .keys15)
 
--- src/instructions.rt:145:1
 returns-16 : tie.Need-returns-16
 unfolding every actionOf touch instrAt instrOf choose
 returns-16 c =
     (c .reads-only2) .ensures ∙ simp (sym ((c .before .before .kind-at) .ensures) ∙ (c .before .match) .keys16)
 
--- src/instructions.rt:145:1
 returns-17 : tie.Need-returns-17
 unfolding every actionOf touch instrAt instrOf choose
 returns-17 c =
     (c .calling) .ensures ∙ simp (sym ((c .before .before .kind-at) .ensures) ∙ (c .before .match) .keys17)
 
--- src/instructions.rt:145:1
 returns-18 : tie.Need-returns-18
 unfolding every actionOf touch instrAt instrOf choose
 returns-18 c =
     (c .dispatching) .ensures ∙ simp (sym ((c .before .before .kind-at) .ensures) ∙ (c .before .match) .keys18)
 
--- src/instructions.rt:145:1
 returns-19 : tie.Need-returns-19
 unfolding every actionOf touch instrAt instrOf choose
 returns-19 c =

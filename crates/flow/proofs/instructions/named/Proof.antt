@@ -1,17 +1,12 @@
-use Rattle.flow.proofs.Listed.{Gathers, gather-start, gather-one, gather-end, fields-next, fields-done}
-use Rattle.layout.specs.Records.{bodyAt, every}
-use mathlib.Core.Path.{refl}
-use native.Mathlib.Omega.{arith}
-use native.Mathlib.Nat.{sub-zero}
-use borrow.Author.Needs.{needs}
+-- `flow::instructions::named`: the loop goes along the fields: those it passed are gathered, those from k on are left.
 use Prim.Native.Nat.{_+_, _*_, _-_, _≤_}
+use Rattle.flow.proofs.Listed.{Gathers, gather-start, gather-one, gather-end, fields-next, fields-done}
 use Rattle.flow.proofs.instructions.named.Statement.{statement}
 use Rattle.flow.proofs.instructions.named.Tie as tie
-use Rattle.flow.proofs.instructions.named.Reads as reads
-use Rattle.flow.proofs.instructions.named.Lts as lts
-use Rattle.layout.proofs.field.Reads as field-reads
-use Rattle.sets.proofs.only.Reads as only-reads
-use Rattle.sets.proofs.union.Reads as union-reads
+use Rattle.layout.specs.Records.{bodyAt, every}
+use borrow.Author.Needs.{needs}
+use native.Mathlib.Nat.{sub-zero}
+use native.Mathlib.Omega.{arith}
 
 abbrev Inv-loop : tie.InvT-loop
 Inv-loop image p from step n registers₀ i₀ k₀ registers i k = (i ≤ n) × (k ≤ 256 * (i + 1)) × Gathers (every (bodyAt image p) from step n) registers (every (bodyAt image p) k step (n - i))
@@ -19,47 +14,38 @@ Inv-loop image p from step n registers₀ i₀ k₀ registers i k = (i ≤ n) ×
 abbrev μ-loop : tie.MeasureT-loop
 μ-loop image p from step n registers₀ i₀ k₀ registers i k = n - i
 
--- src/instructions.rt:31:5
 loop-holds : tie.Need-loop-holds Inv-loop μ-loop
 loop-holds c =
     (omega arith, omega (arith, (c .before) .pre), rw sub-zero (gather-start _))
 
--- src/instructions.rt:32:55
 field-requires : tie.Need-field-requires Inv-loop μ-loop
 field-requires c κs =
     search needs
 
--- src/instructions.rt:32:44
 only-requires : tie.Need-only-requires Inv-loop μ-loop
 only-requires c κs =
     search needs
 
--- src/instructions.rt:32:9
 union-requires : tie.Need-union-requires Inv-loop μ-loop
 union-requires c κs =
     search needs
 
--- src/instructions.rt:33:9
 add-i : tie.Need-add-i Inv-loop μ-loop
 add-i c =
     omega (arith, (c .before .before .before .before .before .before) .pre, (c .before .before .before .loop-test) .taken)
 
--- src/instructions.rt:34:9
 add-k : tie.Need-add-k Inv-loop μ-loop
 add-k c =
     omega (arith, (c .before .before .before .before .before .before) .pre, (c .before .before .before .loop-test) .taken, (c .before .before .before .before .loop) .inv)
 
--- src/instructions.rt:31:5
 loop-less : tie.Need-loop-less Inv-loop μ-loop
 loop-less c =
     omega (arith, (c .before .before .before .loop-test) .taken)
 
--- src/instructions.rt:31:5
 loop-again : tie.Need-loop-again Inv-loop μ-loop
 loop-again c =
     (omega (arith, (c .before .before .before .loop-test) .taken), omega (arith, (c .before .before .before .before .before .before) .pre, (c .before .before .before .before .loop) .inv), gather-one _ ((c .before .before .before .before .loop) .inv .2) (fields-next _ _ _ _ _ ((c .before .before .before .loop-test) .taken)) ((c .before .before .field) .ensures .0) ((c .before .only) .ensures) ((c .union) .ensures))
 
--- src/instructions.rt:24:1
 returns : tie.Need-returns Inv-loop μ-loop
 returns c =
     gather-end ((c .before .loop) .inv .2) (fields-done _ _ _ _ _ ((c .loop-test) .left))

@@ -1,19 +1,14 @@
+-- `flow::instructions::paired_owned`: the loop goes along the pairs, and gathers those of owned types.
+use Prim.Native.Nat.{_-_, _≤_}
 use Rattle.flow.proofs.Listed.{Gathers, gather-start, gather-one, gather-none, gather-end, pairOwned, pair-one, pair-other, pair-done, pairs-beside}
-use Rattle.flow.specs.Actions.{emptied}
-use Rattle.program.specs.Program.{arguments}
-use Rattle.layout.proofs.Fields.{length-every, every-at}
-use Rattle.layout.specs.Records.{bodyAt, every, _!_}
-use mathlib.Core.Path.{refl, sym, _∙_, ap}
-use native.Mathlib.Omega.{arith}
-use borrow.Author.Needs.{needs}
-use Prim.Native.Nat.{_+_, _*_, _-_, _≤_}
 use Rattle.flow.proofs.instructions.paired_owned.Statement.{statement}
 use Rattle.flow.proofs.instructions.paired_owned.Tie as tie
-use Rattle.flow.proofs.instructions.paired_owned.Reads as reads
-use Rattle.flow.proofs.instructions.paired_owned.Lts as lts
-use Rattle.layout.proofs.field.Reads as field-reads
-use Rattle.sets.proofs.only.Reads as only-reads
-use Rattle.sets.proofs.union.Reads as union-reads
+use Rattle.flow.specs.Actions.{emptied}
+use Rattle.layout.specs.Records.{bodyAt, _!_}
+use Rattle.program.specs.Program.{arguments}
+use borrow.Author.Needs.{needs}
+use mathlib.Core.Path.{ap}
+use native.Mathlib.Omega.{arith}
 
 abbrev Inv-loop : tie.InvT-loop
 Inv-loop image p n registers₀ i₀ registers i = (i ≤ n) × Gathers (emptied (arguments (bodyAt image p) 5 (bodyAt image p ! 4))) registers (pairOwned image p i)
@@ -21,87 +16,70 @@ Inv-loop image p n registers₀ i₀ registers i = (i ≤ n) × Gathers (emptied
 abbrev μ-loop : tie.MeasureT-loop
 μ-loop image p n registers₀ i₀ registers i = n - i
 
--- src/instructions.rt:69:9
 field-requires : tie.Need-field-requires Inv-loop μ-loop
 field-requires c κs =
     search needs
 
--- src/instructions.rt:72:5
 loop-holds : tie.Need-loop-holds Inv-loop μ-loop
 loop-holds c =
     (omega arith, gather-none (gather-start _) (ap emptied (pairs-beside _ 5 _)))
 
--- src/instructions.rt:73:40
 mul-field : tie.Need-mul-field Inv-loop μ-loop
 mul-field c =
     omega (arith, (c .loop-test) .taken, (c .before .before .field) .ensures)
 
--- src/instructions.rt:73:36
 add-field : tie.Need-add-field Inv-loop μ-loop
 add-field c =
     omega (arith, (c .loop-test) .taken, (c .before .before .field) .ensures)
 
--- src/instructions.rt:73:12
 field-requires-2 : tie.Need-field-requires-2 Inv-loop μ-loop
 field-requires-2 c κs =
     search needs
 
--- src/instructions.rt:74:87
 mul-field-2 : tie.Need-mul-field-2 Inv-loop μ-loop
 mul-field-2 c =
     omega (arith, (c .before .before .loop-test) .taken, (c .before .before .before .before .field) .ensures)
 
--- src/instructions.rt:74:83
 add-field-2 : tie.Need-add-field-2 Inv-loop μ-loop
 add-field-2 c =
     omega (arith, (c .before .before .loop-test) .taken, (c .before .before .before .before .field) .ensures)
 
--- src/instructions.rt:74:59
 field-requires-3 : tie.Need-field-requires-3 Inv-loop μ-loop
 field-requires-3 c κs =
     search needs
 
--- src/instructions.rt:74:48
 only-requires : tie.Need-only-requires Inv-loop μ-loop
 only-requires c κs =
     search needs
 
--- src/instructions.rt:74:13
 union-requires : tie.Need-union-requires Inv-loop μ-loop
 union-requires c κs =
     search needs
 
--- src/instructions.rt:75:13
 add-i : tie.Need-add-i Inv-loop μ-loop
 add-i c =
     omega (arith, (c .before .before .before .before .before .loop-test) .taken, (c .before .before .before .before .before .before .before .field) .ensures)
 
--- src/instructions.rt:72:5
 loop-less : tie.Need-loop-less Inv-loop μ-loop
 loop-less c =
     omega (arith, (c .before .before .before .before .before .loop-test) .taken)
 
--- src/instructions.rt:72:5
 loop-again : tie.Need-loop-again Inv-loop μ-loop
 loop-again c =
     (omega (arith, (c .before .before .before .before .before .loop-test) .taken), gather-one _ ((c .before .before .before .before .before .before .loop) .inv .1) (pair-one _ _ _ ((c .before .before .before .before .before .before .before .field) .ensures .0) ((c .before .before .before .before .before .loop-test) .taken) ((c .before .before .before .before .field2) .ensures .0) ((c .before .before .before .if1) .taken)) ((c .before .before .field3) .ensures .0) ((c .before .only) .ensures) ((c .union) .ensures))
 
--- src/instructions.rt:77:13
 add-i-2 : tie.Need-add-i-2 Inv-loop μ-loop
 add-i-2 c =
     omega (arith, (c .before .before .loop-test) .taken, (c .before .before .before .before .field) .ensures)
 
--- src/instructions.rt:72:5
 loop-less-2 : tie.Need-loop-less-2 Inv-loop μ-loop
 loop-less-2 c =
     omega (arith, (c .before .before .loop-test) .taken)
 
--- src/instructions.rt:72:5
 loop-again-2 : tie.Need-loop-again-2 Inv-loop μ-loop
 loop-again-2 c =
     (omega (arith, (c .before .before .loop-test) .taken), gather-none ((c .before .before .before .loop) .inv .1) (pair-other _ _ _ ((c .before .before .before .before .field) .ensures .0) ((c .before .before .loop-test) .taken) ((c .before .field2) .ensures .0) ((c .if1) .left)))
 
--- src/instructions.rt:66:1
 returns : tie.Need-returns Inv-loop μ-loop
 returns c =
     gather-end ((c .before .loop) .inv .1) (pair-done _ _ _ ((c .before .before .field) .ensures .0) ((c .loop-test) .left))

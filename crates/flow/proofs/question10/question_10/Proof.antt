@@ -1,22 +1,17 @@
-use Rattle.flow.specs.Questions.{question10}
-use Rattle.program.specs.Search.{first}
-use Rattle.program.specs.Program.{program}
-use Rattle.program.proofs.Passes.{Asking, start, at-end, at-broken, say-no, go-on}
-use Rattle.layout.specs.Records.{records}
-use Rattle.layout.proofs.Walk.{size-in}
-use native.Mathlib.Omega.{arith}
-use mathlib.Core.Path.{refl, sym, _∙_}
-use lib.ListN.{length}
-use borrow.Author.Needs.{needs}
+-- `flow::question10::question_10`: the loop is a pass along the records, and each turn meets the law of a pass.
 use Prim.Native.Nat.{_-_}
 use Rattle.flow.proofs.question10.question_10.Statement.{statement}
 use Rattle.flow.proofs.question10.question_10.Tie as tie
-use Rattle.flow.proofs.question10.question_10.Reads as reads
-use Rattle.flow.proofs.question10.question_10.Lts as lts
-use Rattle.flow.proofs.question10.flows_at.Reads as flows-at-reads
-use Rattle.layout.proofs.size_at.Reads as size-at-reads
-use Rattle.program.proofs.lookup.versions.Reads as versions-reads
-use Rattle.program.proofs.pass.moved.Reads as moved-reads
+use Rattle.flow.specs.Questions.{question10}
+use Rattle.layout.proofs.Walk.{size-in}
+use Rattle.layout.specs.Records.{records}
+use Rattle.program.proofs.Passes.{Asking, start, at-end, at-broken, say-no, go-on}
+use Rattle.program.specs.Program.{program}
+use Rattle.program.specs.Search.{first}
+use borrow.Author.Needs.{needs}
+use lib.ListN.{length}
+use mathlib.Core.Path.{refl, sym, _∙_}
+use native.Mathlib.Omega.{arith}
 
 abbrev Inv-loop : tie.InvT-loop
 Inv-loop image table p₀ here₀ p here = Asking (question10 (program (records image))) (first (question10 (program (records image))) (program (records image))) image p here
@@ -24,57 +19,46 @@ Inv-loop image table p₀ here₀ p here = Asking (question10 (program (records 
 abbrev μ-loop : tie.MeasureT-loop
 μ-loop image table p₀ here₀ p here = length image - p
 
--- src/question10.rt:43:17
 versions-requires : tie.Need-versions-requires Inv-loop μ-loop
 versions-requires c κs =
     search needs
 
--- src/question10.rt:49:5
 loop-holds : tie.Need-loop-holds Inv-loop μ-loop
 loop-holds c =
     start _ _
 
--- src/question10.rt:50:13
 size-at-requires : tie.Need-size-at-requires Inv-loop μ-loop
 size-at-requires c κs =
     search needs
 
--- src/question10.rt:52:13
 returns : tie.Need-returns Inv-loop μ-loop
 returns c =
     at-broken ((c .before .before .before .loop) .inv) ((c .before .size-at) .ensures) ((c .if1) .taken)
 
--- src/question10.rt:54:9
 moved-requires : tie.Need-moved-requires Inv-loop μ-loop
 moved-requires c κs =
     omega (arith, (c .before .before .before .loop) .inv .few, (c .before .before .loop-test) .taken)
 
--- src/question10.rt:55:12
 flows-at-requires : tie.Need-flows-at-requires Inv-loop μ-loop
 flows-at-requires c κs =
     (c .before .before .before .before .before .before .versions) .ensures
 
--- src/question10.rt:56:13
 add-p : tie.Need-add-p Inv-loop μ-loop
 add-p c =
     omega (arith, size-in _ _ ((c .before .before .before .before .before .size-at) .ensures) ((c .before .before .before .before .if1) .left))
 
--- src/question10.rt:49:5
 loop-less : tie.Need-loop-less Inv-loop μ-loop
 loop-less c =
     omega (arith, (c .before .before .before .before .if1) .left, (c .before .before .before .before .before .before .loop-test) .taken)
 
--- src/question10.rt:49:5
 loop-again : tie.Need-loop-again Inv-loop μ-loop
 loop-again c =
     go-on ((c .before .before .before .before .before .before .before .loop) .inv) (record { inside = (c .before .before .before .before .before .before .loop-test) .taken; size = (c .before .before .before .before .before .size-at) .ensures; whole = (c .before .before .before .before .if1) .left; kind = refl }) ((c .before .before .before .moved) .ensures) (sym ((c .before .flows-at) .ensures) ∙ (c .if2) .taken)
 
--- src/question10.rt:58:13
 returns-2 : tie.Need-returns-2 Inv-loop μ-loop
 returns-2 c =
     say-no ((c .before .before .before .before .before .before .before .loop) .inv) (record { inside = (c .before .before .before .before .before .before .loop-test) .taken; size = (c .before .before .before .before .before .size-at) .ensures; whole = (c .before .before .before .before .if1) .left; kind = refl }) ((c .before .before .before .moved) .ensures) (sym ((c .before .flows-at) .ensures) ∙ (c .if2) .left)
 
--- src/question10.rt:40:1
 returns-3 : tie.Need-returns-3 Inv-loop μ-loop
 returns-3 c =
     at-end ((c .before .loop) .inv) ((c .loop-test) .left)

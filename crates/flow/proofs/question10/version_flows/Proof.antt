@@ -1,43 +1,32 @@
+-- `flow::question10::version_flows`: the body's action, if it is allowed, within the parameters.
+use Rattle.flow.proofs.question10.version_flows.Statement.{statement}
+use Rattle.flow.proofs.question10.version_flows.Tie as tie
 use Rattle.flow.specs.Masks.{flowed}
 use Rattle.flow.specs.Questions.{flows}
 use Rattle.layout.proofs.Bools.{found-some, found-none}
-use mathlib.Core.Path.{sym, ap, _∙_}
 use borrow.Author.Needs.{needs}
-use Rattle.flow.proofs.question10.version_flows.Statement.{statement}
-use Rattle.flow.proofs.question10.version_flows.Tie as tie
-use Rattle.flow.proofs.question10.version_flows.Reads as reads
-use Rattle.flow.proofs.question10.version_flows.Lts as lts
-use Rattle.flow.proofs.walk.body_action.Reads as body-action-reads
-use Rattle.program.proofs.lookup.parameters.Reads as parameters-reads
-use Rattle.sets.proofs.below.Reads as below-reads
+use mathlib.Core.Path.{sym, ap, _∙_}
 
--- src/question10.rt:21:33
 body-action-requires : tie.Need-body-action-requires
 body-action-requires c κs = search needs
 
--- src/question10.rt:21:25
 enum-known-body : tie.Need-enum-known-body
 enum-known-body c = search needs
 
--- src/question10.rt:22:9
 enum-told : tie.Need-enum-told
 enum-told c = search needs
 
--- src/question10.rt:22:9
 returns : tie.Need-returns
 unfolding flows flowed
 returns c =
     sym (found-none _ (sym ((c .before .before .body-action) .ensures) ∙ ap flowed ((c .enum-told) .given .1)))
 
--- src/question10.rt:24:29
 parameters-requires : tie.Need-parameters-requires
 parameters-requires c κs = search needs
 
--- src/question10.rt:24:5
 below-requires : tie.Need-below-requires
 below-requires c κs = search needs
 
--- src/question10.rt:17:1
 returns-2 : tie.Need-returns-2
 unfolding flows flowed
 returns-2 c =

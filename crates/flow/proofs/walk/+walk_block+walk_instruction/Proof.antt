@@ -1,38 +1,38 @@
+-- `flow::walk::walk_block` and `walk_instruction`: the walk of a block meets the law of flow, and PROM enters only blocks above; blocks are below 256, and those left fall.
+use Prim.Native.Nat.{_+_, _-_, _*_, ℕ, _<_}
 use Rattle.flow.proofs.Blocks.{onward, no-block, begins, meets, ends, stands, reading-one, enters-none, enters-below, enters-block, past-below}
-use Rattle.flow.specs.Walks.{blockAction}
-use Rattle.flow.specs.Masks.{flowed}
-use Rattle.flow.specs.Actions.{Action, _then_}
-use Rattle.program.specs.Places.{versionAt}
-use Rattle.program.specs.Program.{program}
-use Rattle.sets.specs.Sets.{only}
-use Rattle.layout.proofs.Walk.{size-in}
-use Rattle.layout.specs.Records.{records}
-use Prim.Native.Nat.{_+_, _-_, _*_}
-use lib.ListN.{length}
-use mathlib.Core.Option.{Option}
-use mathlib.Core.Path.{_≡_, refl, sym, ap, _∙_}
-use native.Mathlib.Omega.{arith}
-use borrow.Author.Needs.{needs}
-use Prim.Native.Nat.{ℕ, _<_}
-use borrow.Fn.Kinds.{In}
-use borrow.Fn.PlainCycle.{Measures, is, falls, and}
-use Rattle.flow.proofs.walk.walk_block.Reads as walk-block
-use Rattle.flow.proofs.walk.walk_block.Kinds as walk-block-kinds
-use Rattle.flow.proofs.walk.+walk_block+walk_instruction.Lts-walk_block as walk-block-lts
-use Rattle.flow.proofs.walk.walk_instruction.Reads as walk-instruction
-use Rattle.flow.proofs.walk.walk_instruction.Kinds as walk-instruction-kinds
-use Rattle.flow.proofs.walk.+walk_block+walk_instruction.Lts-walk_instruction as walk-instruction-lts
 use Rattle.flow.proofs.actions.chain.Reads as chain-reads
 use Rattle.flow.proofs.actions.reading.Reads as reading-reads
 use Rattle.flow.proofs.instructions.instruction.Reads as instruction-reads
+use Rattle.flow.proofs.walk.+walk_block+walk_instruction.Lts-walk_block as walk-block-lts
+use Rattle.flow.proofs.walk.+walk_block+walk_instruction.Lts-walk_instruction as walk-instruction-lts
+use Rattle.flow.proofs.walk.+walk_block+walk_instruction.Tie.{close}
+use Rattle.flow.proofs.walk.+walk_block+walk_instruction.{statement}
 use Rattle.flow.proofs.walk.is_instruction.Reads as is-instruction-reads
+use Rattle.flow.proofs.walk.walk_block.Kinds as walk-block-kinds
+use Rattle.flow.proofs.walk.walk_block.Reads as walk-block
+use Rattle.flow.proofs.walk.walk_instruction.Kinds as walk-instruction-kinds
+use Rattle.flow.proofs.walk.walk_instruction.Reads as walk-instruction
+use Rattle.flow.specs.Actions.{Action, _then_}
+use Rattle.flow.specs.Masks.{flowed}
+use Rattle.flow.specs.Walks.{blockAction}
+use Rattle.layout.proofs.Walk.{size-in}
 use Rattle.layout.proofs.field.Reads as field-reads
 use Rattle.layout.proofs.kind_at.Reads as kind-at-reads
 use Rattle.layout.proofs.size_at.Reads as size-at-reads
+use Rattle.layout.specs.Records.{records}
 use Rattle.program.proofs.lookup.block.Reads as block-reads
+use Rattle.program.specs.Places.{versionAt}
+use Rattle.program.specs.Program.{program}
 use Rattle.sets.proofs.only.Reads as only-reads
-use Rattle.flow.proofs.walk.+walk_block+walk_instruction.{statement}
-use Rattle.flow.proofs.walk.+walk_block+walk_instruction.Tie.{close}
+use Rattle.sets.specs.Sets.{only}
+use borrow.Author.Needs.{needs}
+use borrow.Fn.Kinds.{In}
+use borrow.Fn.PlainCycle.{Measures, is, falls, and}
+use lib.ListN.{length}
+use mathlib.Core.Option.{Option}
+use mathlib.Core.Path.{_≡_, sym, ap, _∙_}
+use native.Mathlib.Omega.{arith}
 
 abbrev μ-walk-block : Measures 2 walk-block-kinds.ps ℕ
 μ-walk-block κs a = 2 * (256 - a .1 .1 .1 .0) + 1
@@ -64,583 +64,165 @@ walk-instruction-below t =
     (falls 2 walk-instruction-kinds.ps _<_ μ-walk-instruction t)
     walk-instruction.Pre
 
+abbrev walk-block-claims : ℕ → walk-block-lts.Claims
+walk-block-claims t = (
+  block-reads.Asked,
+  block-reads.Learnt,
+  size-at-reads.Asked,
+  size-at-reads.Learnt,
+  is-instruction-reads.Asked,
+  is-instruction-reads.Learnt,
+  walk-instruction-below t,
+  walk-instruction.Post,
+  chain-reads.Asked,
+  chain-reads.Learnt,
+  field-reads.Asked,
+  field-reads.Learnt,
+  only-reads.Asked,
+  only-reads.Learnt,
+  reading-reads.Asked,
+  reading-reads.Learnt,
+)
+
+abbrev walk-instruction-claims : ℕ → walk-instruction-lts.Claims
+walk-instruction-claims t = (
+  kind-at-reads.Asked,
+  kind-at-reads.Learnt,
+  instruction-reads.Asked,
+  instruction-reads.Learnt,
+  field-reads.Asked,
+  field-reads.Learnt,
+  walk-block-below t,
+  walk-block.Post,
+)
+
 abbrev walk-block-Inv-loop : walk-block-lts.InvT-loop
 walk-block-Inv-loop image table v b q done₀ p₀ done p = blockAction (program (records image)) (versionAt image v) b ≡ onward image v b q p (flowed done)
 
 abbrev walk-block-μ-loop : walk-block-lts.MeasureT-loop
 walk-block-μ-loop image table v b q done₀ p₀ done p = length image - p
 
--- src/walk.rt:39:24
-walk-block-block-requires : (t : ℕ) → walk-block-lts.Need-block-requires (
-  block-reads.Asked,
-  block-reads.Learnt,
-  size-at-reads.Asked,
-  size-at-reads.Learnt,
-  is-instruction-reads.Asked,
-  is-instruction-reads.Learnt,
-  walk-instruction-below t,
-  walk-instruction.Post,
-  chain-reads.Asked,
-  chain-reads.Learnt,
-  field-reads.Asked,
-  field-reads.Learnt,
-  only-reads.Asked,
-  only-reads.Learnt,
-  reading-reads.Asked,
-  reading-reads.Learnt,
-) (walk-block-at t) walk-block.Post walk-block-Inv-loop walk-block-μ-loop
+walk-block-block-requires : (t : ℕ) → walk-block-lts.Need-block-requires (walk-block-claims t) (walk-block-at t) walk-block.Post walk-block-Inv-loop walk-block-μ-loop
 walk-block-block-requires t c κs =
     search needs
 
--- src/walk.rt:39:19
-walk-block-enum-known-q : (t : ℕ) → walk-block-lts.Need-enum-known-q (
-  block-reads.Asked,
-  block-reads.Learnt,
-  size-at-reads.Asked,
-  size-at-reads.Learnt,
-  is-instruction-reads.Asked,
-  is-instruction-reads.Learnt,
-  walk-instruction-below t,
-  walk-instruction.Post,
-  chain-reads.Asked,
-  chain-reads.Learnt,
-  field-reads.Asked,
-  field-reads.Learnt,
-  only-reads.Asked,
-  only-reads.Learnt,
-  reading-reads.Asked,
-  reading-reads.Learnt,
-) (walk-block-at t) walk-block.Post walk-block-Inv-loop walk-block-μ-loop
+walk-block-enum-known-q : (t : ℕ) → walk-block-lts.Need-enum-known-q (walk-block-claims t) (walk-block-at t) walk-block.Post walk-block-Inv-loop walk-block-μ-loop
 walk-block-enum-known-q t c =
     search needs
 
--- src/walk.rt:40:9
-walk-block-enum-told : (t : ℕ) → walk-block-lts.Need-enum-told (
-  block-reads.Asked,
-  block-reads.Learnt,
-  size-at-reads.Asked,
-  size-at-reads.Learnt,
-  is-instruction-reads.Asked,
-  is-instruction-reads.Learnt,
-  walk-instruction-below t,
-  walk-instruction.Post,
-  chain-reads.Asked,
-  chain-reads.Learnt,
-  field-reads.Asked,
-  field-reads.Learnt,
-  only-reads.Asked,
-  only-reads.Learnt,
-  reading-reads.Asked,
-  reading-reads.Learnt,
-) (walk-block-at t) walk-block.Post walk-block-Inv-loop walk-block-μ-loop
+walk-block-enum-told : (t : ℕ) → walk-block-lts.Need-enum-told (walk-block-claims t) (walk-block-at t) walk-block.Post walk-block-Inv-loop walk-block-μ-loop
 walk-block-enum-told t c =
     search needs
 
--- src/walk.rt:40:9
-walk-block-returns : (t : ℕ) → walk-block-lts.Need-returns (
-  block-reads.Asked,
-  block-reads.Learnt,
-  size-at-reads.Asked,
-  size-at-reads.Learnt,
-  is-instruction-reads.Asked,
-  is-instruction-reads.Learnt,
-  walk-instruction-below t,
-  walk-instruction.Post,
-  chain-reads.Asked,
-  chain-reads.Learnt,
-  field-reads.Asked,
-  field-reads.Learnt,
-  only-reads.Asked,
-  only-reads.Learnt,
-  reading-reads.Asked,
-  reading-reads.Learnt,
-) (walk-block-at t) walk-block.Post walk-block-Inv-loop walk-block-μ-loop
+walk-block-returns : (t : ℕ) → walk-block-lts.Need-returns (walk-block-claims t) (walk-block-at t) walk-block.Post walk-block-Inv-loop walk-block-μ-loop
 unfolding flowed
 walk-block-returns t c =
     no-block _ _ _ (sym ((c .before .before .block) .ensures) ∙ (c .enum-told) .given .1)
 
--- src/walk.rt:48:21
-walk-block-size-at-requires : (t : ℕ) → walk-block-lts.Need-size-at-requires (
-  block-reads.Asked,
-  block-reads.Learnt,
-  size-at-reads.Asked,
-  size-at-reads.Learnt,
-  is-instruction-reads.Asked,
-  is-instruction-reads.Learnt,
-  walk-instruction-below t,
-  walk-instruction.Post,
-  chain-reads.Asked,
-  chain-reads.Learnt,
-  field-reads.Asked,
-  field-reads.Learnt,
-  only-reads.Asked,
-  only-reads.Learnt,
-  reading-reads.Asked,
-  reading-reads.Learnt,
-) (walk-block-at t) walk-block.Post walk-block-Inv-loop walk-block-μ-loop
+walk-block-size-at-requires : (t : ℕ) → walk-block-lts.Need-size-at-requires (walk-block-claims t) (walk-block-at t) walk-block.Post walk-block-Inv-loop walk-block-μ-loop
 walk-block-size-at-requires t c κs =
     search needs
 
--- src/walk.rt:48:17
-walk-block-add-p : (t : ℕ) → walk-block-lts.Need-add-p (
-  block-reads.Asked,
-  block-reads.Learnt,
-  size-at-reads.Asked,
-  size-at-reads.Learnt,
-  is-instruction-reads.Asked,
-  is-instruction-reads.Learnt,
-  walk-instruction-below t,
-  walk-instruction.Post,
-  chain-reads.Asked,
-  chain-reads.Learnt,
-  field-reads.Asked,
-  field-reads.Learnt,
-  only-reads.Asked,
-  only-reads.Learnt,
-  reading-reads.Asked,
-  reading-reads.Learnt,
-) (walk-block-at t) walk-block.Post walk-block-Inv-loop walk-block-μ-loop
+walk-block-add-p : (t : ℕ) → walk-block-lts.Need-add-p (walk-block-claims t) (walk-block-at t) walk-block.Post walk-block-Inv-loop walk-block-μ-loop
 walk-block-add-p t c =
     omega (arith, past-below _ _ 18446744073709551616 ((c .size-at) .ensures) (omega (arith, (c .before .known-told) .given)) (omega (arith, (c .before .before .before .before .before .before) .good .0 .0)))
 
--- src/walk.rt:49:5
-walk-block-loop-holds : (t : ℕ) → walk-block-lts.Need-loop-holds (
-  block-reads.Asked,
-  block-reads.Learnt,
-  size-at-reads.Asked,
-  size-at-reads.Learnt,
-  is-instruction-reads.Asked,
-  is-instruction-reads.Learnt,
-  walk-instruction-below t,
-  walk-instruction.Post,
-  chain-reads.Asked,
-  chain-reads.Learnt,
-  field-reads.Asked,
-  field-reads.Learnt,
-  only-reads.Asked,
-  only-reads.Learnt,
-  reading-reads.Asked,
-  reading-reads.Learnt,
-) (walk-block-at t) walk-block.Post walk-block-Inv-loop walk-block-μ-loop
+walk-block-loop-holds : (t : ℕ) → walk-block-lts.Need-loop-holds (walk-block-claims t) (walk-block-at t) walk-block.Post walk-block-Inv-loop walk-block-μ-loop
 unfolding flowed
 walk-block-loop-holds t c =
     begins _ _ _ _ (sym ((c .before .before .before .before .block) .ensures) ∙ (c .before .before .q) .given .1) ((c .size-at) .ensures)
 
--- src/walk.rt:49:11
-walk-block-is-instruction-requires : (t : ℕ) → walk-block-lts.Need-is-instruction-requires (
-  block-reads.Asked,
-  block-reads.Learnt,
-  size-at-reads.Asked,
-  size-at-reads.Learnt,
-  is-instruction-reads.Asked,
-  is-instruction-reads.Learnt,
-  walk-instruction-below t,
-  walk-instruction.Post,
-  chain-reads.Asked,
-  chain-reads.Learnt,
-  field-reads.Asked,
-  field-reads.Learnt,
-  only-reads.Asked,
-  only-reads.Learnt,
-  reading-reads.Asked,
-  reading-reads.Learnt,
-) (walk-block-at t) walk-block.Post walk-block-Inv-loop walk-block-μ-loop
+walk-block-is-instruction-requires : (t : ℕ) → walk-block-lts.Need-is-instruction-requires (walk-block-claims t) (walk-block-at t) walk-block.Post walk-block-Inv-loop walk-block-μ-loop
 walk-block-is-instruction-requires t c κs =
     search needs
 
--- src/walk.rt:50:37
-walk-block-walk-instruction-requires : (t : ℕ) → walk-block-lts.Need-walk-instruction-requires (
-  block-reads.Asked,
-  block-reads.Learnt,
-  size-at-reads.Asked,
-  size-at-reads.Learnt,
-  is-instruction-reads.Asked,
-  is-instruction-reads.Learnt,
-  walk-instruction-below t,
-  walk-instruction.Post,
-  chain-reads.Asked,
-  chain-reads.Learnt,
-  field-reads.Asked,
-  field-reads.Learnt,
-  only-reads.Asked,
-  only-reads.Learnt,
-  reading-reads.Asked,
-  reading-reads.Learnt,
-) (walk-block-at t) walk-block.Post walk-block-Inv-loop walk-block-μ-loop
+walk-block-walk-instruction-requires : (t : ℕ) → walk-block-lts.Need-walk-instruction-requires (walk-block-claims t) (walk-block-at t) walk-block.Post walk-block-Inv-loop walk-block-μ-loop
 walk-block-walk-instruction-requires t c κs =
     (omega arith, (c .before .before .before .before .before .before .before .before .before) .pre .1)
 
--- src/walk.rt:50:9
-walk-block-chain-requires : (t : ℕ) → walk-block-lts.Need-chain-requires (
-  block-reads.Asked,
-  block-reads.Learnt,
-  size-at-reads.Asked,
-  size-at-reads.Learnt,
-  is-instruction-reads.Asked,
-  is-instruction-reads.Learnt,
-  walk-instruction-below t,
-  walk-instruction.Post,
-  chain-reads.Asked,
-  chain-reads.Learnt,
-  field-reads.Asked,
-  field-reads.Learnt,
-  only-reads.Asked,
-  only-reads.Learnt,
-  reading-reads.Asked,
-  reading-reads.Learnt,
-) (walk-block-at t) walk-block.Post walk-block-Inv-loop walk-block-μ-loop
+walk-block-chain-requires : (t : ℕ) → walk-block-lts.Need-chain-requires (walk-block-claims t) (walk-block-at t) walk-block.Post walk-block-Inv-loop walk-block-μ-loop
 walk-block-chain-requires t c κs =
     search needs
 
--- src/walk.rt:51:14
-walk-block-size-at-requires-2 : (t : ℕ) → walk-block-lts.Need-size-at-requires-2 (
-  block-reads.Asked,
-  block-reads.Learnt,
-  size-at-reads.Asked,
-  size-at-reads.Learnt,
-  is-instruction-reads.Asked,
-  is-instruction-reads.Learnt,
-  walk-instruction-below t,
-  walk-instruction.Post,
-  chain-reads.Asked,
-  chain-reads.Learnt,
-  field-reads.Asked,
-  field-reads.Learnt,
-  only-reads.Asked,
-  only-reads.Learnt,
-  reading-reads.Asked,
-  reading-reads.Learnt,
-) (walk-block-at t) walk-block.Post walk-block-Inv-loop walk-block-μ-loop
+walk-block-size-at-requires-2 : (t : ℕ) → walk-block-lts.Need-size-at-requires-2 (walk-block-claims t) (walk-block-at t) walk-block.Post walk-block-Inv-loop walk-block-μ-loop
 walk-block-size-at-requires-2 t c κs =
     search needs
 
--- src/walk.rt:51:9
-walk-block-add-p-2 : (t : ℕ) → walk-block-lts.Need-add-p-2 (
-  block-reads.Asked,
-  block-reads.Learnt,
-  size-at-reads.Asked,
-  size-at-reads.Learnt,
-  is-instruction-reads.Asked,
-  is-instruction-reads.Learnt,
-  walk-instruction-below t,
-  walk-instruction.Post,
-  chain-reads.Asked,
-  chain-reads.Learnt,
-  field-reads.Asked,
-  field-reads.Learnt,
-  only-reads.Asked,
-  only-reads.Learnt,
-  reading-reads.Asked,
-  reading-reads.Learnt,
-) (walk-block-at t) walk-block.Post walk-block-Inv-loop walk-block-μ-loop
+walk-block-add-p-2 : (t : ℕ) → walk-block-lts.Need-add-p-2 (walk-block-claims t) (walk-block-at t) walk-block.Post walk-block-Inv-loop walk-block-μ-loop
 walk-block-add-p-2 t c =
     let h = stands _ _ (sym ((c .before .before .before .before .is-instruction) .ensures) ∙ (c .before .before .before .if1) .taken) in omega (arith, size-in _ _ ((c .size-at2) .ensures) (λ z. h .whole (sym ((c .size-at2) .ensures) ∙ z)), (c .before .before .before .before .before .before .before .before .before .before .before .before) .good .0 .0)
 
--- src/walk.rt:49:5
-walk-block-loop-less : (t : ℕ) → walk-block-lts.Need-loop-less (
-  block-reads.Asked,
-  block-reads.Learnt,
-  size-at-reads.Asked,
-  size-at-reads.Learnt,
-  is-instruction-reads.Asked,
-  is-instruction-reads.Learnt,
-  walk-instruction-below t,
-  walk-instruction.Post,
-  chain-reads.Asked,
-  chain-reads.Learnt,
-  field-reads.Asked,
-  field-reads.Learnt,
-  only-reads.Asked,
-  only-reads.Learnt,
-  reading-reads.Asked,
-  reading-reads.Learnt,
-) (walk-block-at t) walk-block.Post walk-block-Inv-loop walk-block-μ-loop
+walk-block-loop-less : (t : ℕ) → walk-block-lts.Need-loop-less (walk-block-claims t) (walk-block-at t) walk-block.Post walk-block-Inv-loop walk-block-μ-loop
 walk-block-loop-less t c =
     let h = stands _ _ (sym ((c .before .before .before .before .is-instruction) .ensures) ∙ (c .before .before .before .if1) .taken) in omega (arith, size-in _ _ ((c .size-at2) .ensures) (λ z. h .whole (sym ((c .size-at2) .ensures) ∙ z)), (c .before .before .before .before .before .before .before .before .before .before .before .before) .good .0 .0)
 
--- src/walk.rt:49:5
-walk-block-loop-again : (t : ℕ) → walk-block-lts.Need-loop-again (
-  block-reads.Asked,
-  block-reads.Learnt,
-  size-at-reads.Asked,
-  size-at-reads.Learnt,
-  is-instruction-reads.Asked,
-  is-instruction-reads.Learnt,
-  walk-instruction-below t,
-  walk-instruction.Post,
-  chain-reads.Asked,
-  chain-reads.Learnt,
-  field-reads.Asked,
-  field-reads.Learnt,
-  only-reads.Asked,
-  only-reads.Learnt,
-  reading-reads.Asked,
-  reading-reads.Learnt,
-) (walk-block-at t) walk-block.Post walk-block-Inv-loop walk-block-μ-loop
+walk-block-loop-again : (t : ℕ) → walk-block-lts.Need-loop-again (walk-block-claims t) (walk-block-at t) walk-block.Post walk-block-Inv-loop walk-block-μ-loop
 walk-block-loop-again t c =
     (c .before .before .before .before .before .loop) .inv ∙ meets _ _ _ _ _ _ (stands _ _ (sym ((c .before .before .before .before .is-instruction) .ensures) ∙ (c .before .before .before .if1) .taken)) ((c .before .chain) .ensures ∙ ap (λ (o : Option Action). flowed ((c .before .before .before .before .before .loop) .done) then o) ((c .before .before .walk-instruction) .ensures)) ((c .size-at2) .ensures)
 
--- src/walk.rt:53:54
-walk-block-field-requires : (t : ℕ) → walk-block-lts.Need-field-requires (
-  block-reads.Asked,
-  block-reads.Learnt,
-  size-at-reads.Asked,
-  size-at-reads.Learnt,
-  is-instruction-reads.Asked,
-  is-instruction-reads.Learnt,
-  walk-instruction-below t,
-  walk-instruction.Post,
-  chain-reads.Asked,
-  chain-reads.Learnt,
-  field-reads.Asked,
-  field-reads.Learnt,
-  only-reads.Asked,
-  only-reads.Learnt,
-  reading-reads.Asked,
-  reading-reads.Learnt,
-) (walk-block-at t) walk-block.Post walk-block-Inv-loop walk-block-μ-loop
+walk-block-field-requires : (t : ℕ) → walk-block-lts.Need-field-requires (walk-block-claims t) (walk-block-at t) walk-block.Post walk-block-Inv-loop walk-block-μ-loop
 walk-block-field-requires t c κs =
     search needs
 
--- src/walk.rt:53:43
-walk-block-only-requires : (t : ℕ) → walk-block-lts.Need-only-requires (
-  block-reads.Asked,
-  block-reads.Learnt,
-  size-at-reads.Asked,
-  size-at-reads.Learnt,
-  is-instruction-reads.Asked,
-  is-instruction-reads.Learnt,
-  walk-instruction-below t,
-  walk-instruction.Post,
-  chain-reads.Asked,
-  chain-reads.Learnt,
-  field-reads.Asked,
-  field-reads.Learnt,
-  only-reads.Asked,
-  only-reads.Learnt,
-  reading-reads.Asked,
-  reading-reads.Learnt,
-) (walk-block-at t) walk-block.Post walk-block-Inv-loop walk-block-μ-loop
+walk-block-only-requires : (t : ℕ) → walk-block-lts.Need-only-requires (walk-block-claims t) (walk-block-at t) walk-block.Post walk-block-Inv-loop walk-block-μ-loop
 walk-block-only-requires t c κs =
     search needs
 
--- src/walk.rt:53:26
-walk-block-reading-requires : (t : ℕ) → walk-block-lts.Need-reading-requires (
-  block-reads.Asked,
-  block-reads.Learnt,
-  size-at-reads.Asked,
-  size-at-reads.Learnt,
-  is-instruction-reads.Asked,
-  is-instruction-reads.Learnt,
-  walk-instruction-below t,
-  walk-instruction.Post,
-  chain-reads.Asked,
-  chain-reads.Learnt,
-  field-reads.Asked,
-  field-reads.Learnt,
-  only-reads.Asked,
-  only-reads.Learnt,
-  reading-reads.Asked,
-  reading-reads.Learnt,
-) (walk-block-at t) walk-block.Post walk-block-Inv-loop walk-block-μ-loop
+walk-block-reading-requires : (t : ℕ) → walk-block-lts.Need-reading-requires (walk-block-claims t) (walk-block-at t) walk-block.Post walk-block-Inv-loop walk-block-μ-loop
 walk-block-reading-requires t c κs =
     search needs
 
--- src/walk.rt:53:5
-walk-block-chain-requires-2 : (t : ℕ) → walk-block-lts.Need-chain-requires-2 (
-  block-reads.Asked,
-  block-reads.Learnt,
-  size-at-reads.Asked,
-  size-at-reads.Learnt,
-  is-instruction-reads.Asked,
-  is-instruction-reads.Learnt,
-  walk-instruction-below t,
-  walk-instruction.Post,
-  chain-reads.Asked,
-  chain-reads.Learnt,
-  field-reads.Asked,
-  field-reads.Learnt,
-  only-reads.Asked,
-  only-reads.Learnt,
-  reading-reads.Asked,
-  reading-reads.Learnt,
-) (walk-block-at t) walk-block.Post walk-block-Inv-loop walk-block-μ-loop
+walk-block-chain-requires-2 : (t : ℕ) → walk-block-lts.Need-chain-requires-2 (walk-block-claims t) (walk-block-at t) walk-block.Post walk-block-Inv-loop walk-block-μ-loop
 walk-block-chain-requires-2 t c κs =
     search needs
 
--- src/walk.rt:35:1
-walk-block-returns-2 : (t : ℕ) → walk-block-lts.Need-returns-2 (
-  block-reads.Asked,
-  block-reads.Learnt,
-  size-at-reads.Asked,
-  size-at-reads.Learnt,
-  is-instruction-reads.Asked,
-  is-instruction-reads.Learnt,
-  walk-instruction-below t,
-  walk-instruction.Post,
-  chain-reads.Asked,
-  chain-reads.Learnt,
-  field-reads.Asked,
-  field-reads.Learnt,
-  only-reads.Asked,
-  only-reads.Learnt,
-  reading-reads.Asked,
-  reading-reads.Learnt,
-) (walk-block-at t) walk-block.Post walk-block-Inv-loop walk-block-μ-loop
+walk-block-returns-2 : (t : ℕ) → walk-block-lts.Need-returns-2 (walk-block-claims t) (walk-block-at t) walk-block.Post walk-block-Inv-loop walk-block-μ-loop
 walk-block-returns-2 t c =
     ends _ _ _ _ _ _ (sym ((c .before .before .before .before .before .is-instruction) .ensures) ∙ (c .before .before .before .before .if1) .left) ((c .chain2) .ensures ∙ ap (λ (o : Option Action). flowed ((c .before .before .before .before .before .before .loop) .done) then o) ((c .before .reading) .ensures ∙ reading-one _ _ ((c .before .before .only) .ensures ∙ ap (only 16) ((c .before .before .before .field) .ensures .0)))) ∙ sym ((c .before .before .before .before .before .before .loop) .inv)
 
--- src/walk.rt:61:8
-walk-instruction-kind-at-requires : (t : ℕ) → walk-instruction-lts.Need-kind-at-requires (
-  kind-at-reads.Asked,
-  kind-at-reads.Learnt,
-  instruction-reads.Asked,
-  instruction-reads.Learnt,
-  field-reads.Asked,
-  field-reads.Learnt,
-  walk-block-below t,
-  walk-block.Post,
-) (walk-instruction-at t) walk-instruction.Post
+walk-instruction-kind-at-requires : (t : ℕ) → walk-instruction-lts.Need-kind-at-requires (walk-instruction-claims t) (walk-instruction-at t) walk-instruction.Post
 walk-instruction-kind-at-requires t c κs =
     search needs
 
--- src/walk.rt:62:9
-walk-instruction-instruction-requires : (t : ℕ) → walk-instruction-lts.Need-instruction-requires (
-  kind-at-reads.Asked,
-  kind-at-reads.Learnt,
-  instruction-reads.Asked,
-  instruction-reads.Learnt,
-  field-reads.Asked,
-  field-reads.Learnt,
-  walk-block-below t,
-  walk-block.Post,
-) (walk-instruction-at t) walk-instruction.Post
+walk-instruction-instruction-requires : (t : ℕ) → walk-instruction-lts.Need-instruction-requires (walk-instruction-claims t) (walk-instruction-at t) walk-instruction.Post
 walk-instruction-instruction-requires t c κs =
     search needs
 
--- src/walk.rt:62:9
-walk-instruction-returns : (t : ℕ) → walk-instruction-lts.Need-returns (
-  kind-at-reads.Asked,
-  kind-at-reads.Learnt,
-  instruction-reads.Asked,
-  instruction-reads.Learnt,
-  field-reads.Asked,
-  field-reads.Learnt,
-  walk-block-below t,
-  walk-block.Post,
-) (walk-instruction-at t) walk-instruction.Post
+walk-instruction-returns : (t : ℕ) → walk-instruction-lts.Need-returns (walk-instruction-claims t) (walk-instruction-at t) walk-instruction.Post
 unfolding flowed
 walk-instruction-returns t c =
     (c .instruction) .ensures ∙ enters-none _ _ _ _ ((c .before .before .kind-at) .ensures) ((c .before .if1) .taken)
 
--- src/walk.rt:64:9
-walk-instruction-field-requires : (t : ℕ) → walk-instruction-lts.Need-field-requires (
-  kind-at-reads.Asked,
-  kind-at-reads.Learnt,
-  instruction-reads.Asked,
-  instruction-reads.Learnt,
-  field-reads.Asked,
-  field-reads.Learnt,
-  walk-block-below t,
-  walk-block.Post,
-) (walk-instruction-at t) walk-instruction.Post
+walk-instruction-field-requires : (t : ℕ) → walk-instruction-lts.Need-field-requires (walk-instruction-claims t) (walk-instruction-at t) walk-instruction.Post
 walk-instruction-field-requires t c κs =
     search needs
 
--- src/walk.rt:66:9
 walk-instruction-instruction-requires-2 :
-    (t : ℕ) → walk-instruction-lts.Need-instruction-requires-2 (
-      kind-at-reads.Asked,
-      kind-at-reads.Learnt,
-      instruction-reads.Asked,
-      instruction-reads.Learnt,
-      field-reads.Asked,
-      field-reads.Learnt,
-      walk-block-below t,
-      walk-block.Post,
-    ) (walk-instruction-at t) walk-instruction.Post
+    (t : ℕ) → walk-instruction-lts.Need-instruction-requires-2 (walk-instruction-claims t) (walk-instruction-at t) walk-instruction.Post
 walk-instruction-instruction-requires-2 t c κs =
     search needs
 
--- src/walk.rt:66:9
-walk-instruction-returns-2 : (t : ℕ) → walk-instruction-lts.Need-returns-2 (
-  kind-at-reads.Asked,
-  kind-at-reads.Learnt,
-  instruction-reads.Asked,
-  instruction-reads.Learnt,
-  field-reads.Asked,
-  field-reads.Learnt,
-  walk-block-below t,
-  walk-block.Post,
-) (walk-instruction-at t) walk-instruction.Post
+walk-instruction-returns-2 : (t : ℕ) → walk-instruction-lts.Need-returns-2 (walk-instruction-claims t) (walk-instruction-at t) walk-instruction.Post
 unfolding flowed
 walk-instruction-returns-2 t c =
     (c .instruction2) .ensures ∙ enters-below _ _ _ _ ((c .before .before .before .before .kind-at) .ensures) ((c .before .before .field) .ensures .0) ((c .before .if2) .taken)
 
--- src/walk.rt:68:48
-walk-instruction-walk-block-requires : (t : ℕ) → walk-instruction-lts.Need-walk-block-requires (
-  kind-at-reads.Asked,
-  kind-at-reads.Learnt,
-  instruction-reads.Asked,
-  instruction-reads.Learnt,
-  field-reads.Asked,
-  field-reads.Learnt,
-  walk-block-below t,
-  walk-block.Post,
-) (walk-instruction-at t) walk-instruction.Post
+walk-instruction-walk-block-requires : (t : ℕ) → walk-instruction-lts.Need-walk-block-requires (walk-instruction-claims t) (walk-instruction-at t) walk-instruction.Post
 walk-instruction-walk-block-requires t c κs =
     (omega arith, (c .before .before .before .before .before) .pre .1)
 
--- src/walk.rt:68:5
 walk-instruction-instruction-requires-3 :
-    (t : ℕ) → walk-instruction-lts.Need-instruction-requires-3 (
-      kind-at-reads.Asked,
-      kind-at-reads.Learnt,
-      instruction-reads.Asked,
-      instruction-reads.Learnt,
-      field-reads.Asked,
-      field-reads.Learnt,
-      walk-block-below t,
-      walk-block.Post,
-    ) (walk-instruction-at t) walk-instruction.Post
+    (t : ℕ) → walk-instruction-lts.Need-instruction-requires-3 (walk-instruction-claims t) (walk-instruction-at t) walk-instruction.Post
 walk-instruction-instruction-requires-3 t c κs =
     search needs
 
--- src/walk.rt:57:1
-walk-instruction-returns-3 : (t : ℕ) → walk-instruction-lts.Need-returns-3 (
-  kind-at-reads.Asked,
-  kind-at-reads.Learnt,
-  instruction-reads.Asked,
-  instruction-reads.Learnt,
-  field-reads.Asked,
-  field-reads.Learnt,
-  walk-block-below t,
-  walk-block.Post,
-) (walk-instruction-at t) walk-instruction.Post
+walk-instruction-returns-3 : (t : ℕ) → walk-instruction-lts.Need-returns-3 (walk-instruction-claims t) (walk-instruction-at t) walk-instruction.Post
 walk-instruction-returns-3 t c =
     (c .instruction3) .ensures ∙ enters-block _ _ _ _ ((c .before .before .before .before .before .kind-at) .ensures) ((c .before .before .before .field) .ensures .0) _ ((c .before .before .if2) .left) ((c .before .walk-block) .ensures)
 
 pub +walk-block+walk-instruction-spec : {M : Type 1} → statement M
 +walk-block+walk-instruction-spec =
-    close μ-walk-block μ-walk-instruction (λ t. walk-block-lts.spec (
-      block-reads.Asked,
-      block-reads.Learnt,
-      size-at-reads.Asked,
-      size-at-reads.Learnt,
-      is-instruction-reads.Asked,
-      is-instruction-reads.Learnt,
-      walk-instruction-below t,
-      walk-instruction.Post,
-      chain-reads.Asked,
-      chain-reads.Learnt,
-      field-reads.Asked,
-      field-reads.Learnt,
-      only-reads.Asked,
-      only-reads.Learnt,
-      reading-reads.Asked,
-      reading-reads.Learnt,
-    )
-    (walk-block-at t)
+    close μ-walk-block μ-walk-instruction (λ t. walk-block-lts.spec (walk-block-claims t) (walk-block-at t)
     walk-block.Post
     walk-block-Inv-loop
     walk-block-μ-loop
@@ -663,17 +245,7 @@ pub +walk-block+walk-instruction-spec : {M : Type 1} → statement M
     (walk-block-reading-requires t)
     (walk-block-chain-requires-2 t)
     (walk-block-returns-2 t))
-    λ t. walk-instruction-lts.spec (
-      kind-at-reads.Asked,
-      kind-at-reads.Learnt,
-      instruction-reads.Asked,
-      instruction-reads.Learnt,
-      field-reads.Asked,
-      field-reads.Learnt,
-      walk-block-below t,
-      walk-block.Post,
-    )
-    (walk-instruction-at t)
+    λ t. walk-instruction-lts.spec (walk-instruction-claims t) (walk-instruction-at t)
     walk-instruction.Post
     (walk-instruction-kind-at-requires t)
     (walk-instruction-instruction-requires t)

@@ -1,39 +1,28 @@
-use Rattle.flow.proofs.Blocks.{none-block}
-use Rattle.flow.proofs.Blocks.{none-past, none-broken, none-version}
-use borrow.Author.Tests.{eq-eqb, ne-eqb}
-use mathlib.Core.Path.{refl, sym, _∙_}
-use borrow.Author.Needs.{needs}
+-- `flow::walk::is_instruction`: what is seen from p begins with an instruction, or it does not.
+use Rattle.flow.proofs.Blocks.{none-block, none-past, none-broken, none-version}
 use Rattle.flow.proofs.walk.is_instruction.Statement.{statement}
 use Rattle.flow.proofs.walk.is_instruction.Tie as tie
-use Rattle.flow.proofs.walk.is_instruction.Reads as reads
-use Rattle.flow.proofs.walk.is_instruction.Lts as lts
-use Rattle.layout.proofs.kind_at.Reads as kind-at-reads
-use Rattle.layout.proofs.size_at.Reads as size-at-reads
+use borrow.Author.Needs.{needs}
+use mathlib.Core.Path.{sym, _∙_}
 
--- src/walk.rt:22:9
 returns : tie.Need-returns
 returns c =
     sym (none-past _ _ ((c .if1) .taken))
 
--- src/walk.rt:24:8
 size-at-requires : tie.Need-size-at-requires
 size-at-requires c κs = search needs
 
--- src/walk.rt:25:9
 returns-2 : tie.Need-returns-2
 returns-2 c =
     sym (none-broken _ _ (sym ((c .before .size-at) .ensures) ∙ (c .if2) .taken))
 
--- src/walk.rt:27:9
 kind-at-requires : tie.Need-kind-at-requires
 kind-at-requires c κs = search needs
 
--- src/walk.rt:29:9
 returns-3 : tie.Need-returns-3
 returns-3 c =
     sym (none-version _ _ (record { inside = (c .before .before .before .before .if1) .left; size = (c .before .before .before .size-at) .ensures; whole = (c .before .before .if2) .left; kind = (c .before .kind-at) .ensures }) ((c .if3) .taken))
 
--- src/walk.rt:18:1
 returns-4 : tie.Need-returns-4
 returns-4 c =
     sym (none-block _ _ (record { inside = (c .before .before .before .before .if1) .left; size = (c .before .before .before .size-at) .ensures; whole = (c .before .before .if2) .left; kind = (c .before .kind-at) .ensures }) ((c .if3) .left))
