@@ -133,10 +133,7 @@ fn mistake_one_owned_register_given_as_owned_and_borrowed_in_one_call_is_8() {
     };
     refuses(&with_arguments("r0, r0"), 8, 13 + 7);
     // 0.0 reads r0, r1, empties r1, assigns r2; 1.0 reads r0, assigns r2.
-    accepts(
-        &with_arguments("r0, r1"),
-        &["0.0 2 1 1 0", "1.0 1 1 0 0"],
-    );
+    accepts(&with_arguments("r0, r1"), &["0.0 2 1 1 0", "1.0 1 1 0 0"]);
 }
 
 #[test]

@@ -1,0 +1,113 @@
+//! How long a verdict takes, by the proved library and by the reference.
+
+use differential::edges::image;
+use reference::questions::records;
+use reference::{verdict, Verdict};
+use std::fmt::Write;
+use std::hint::black_box;
+use std::time::Instant;
+
+/// How often each checker is timed on each image, the two in turn.
+const ROUNDS: usize = 21;
+
+/// The records of a typical image.
+const TYPICAL: usize = 60;
+
+/// Times of one verdict in microseconds.
+struct Times(Vec<f64>);
+
+impl Times {
+    /// The least time.
+    fn min(&self) -> f64 {
+        self.0.iter().copied().fold(f64::INFINITY, f64::min)
+    }
+
+    /// The time in the middle.
+    fn median(&self) -> f64 {
+        let mut times = self.0.clone();
+        times.sort_by(f64::total_cmp);
+        times[times.len() / 2]
+    }
+
+    /// Times so many verdicts once more.
+    fn add<T>(&mut self, verdicts: u32, judge: impl Fn() -> T) {
+        let start = Instant::now();
+        for _ in 0..verdicts {
+            black_box(judge());
+        }
+        let time = start.elapsed().as_secs_f64() / f64::from(verdicts);
+        self.0.push(time * 1e6);
+    }
+}
+
+fn main() {
+    println!("microseconds per verdict, {ROUNDS} rounds of each checker in turn\n");
+    compare("typical", &typical(), 1000);
+    compare("largest", &largest(), 20);
+}
+
+/// Times both checkers on an accepted image, so many verdicts in a round.
+fn compare(name: &str, image: &[u8], verdicts: u32) {
+    let Verdict::Accepted(versions) = verdict(image) else {
+        panic!("the {name} image is refused: {:?}", verdict(image));
+    };
+    assert_eq!(differential::verdict(image), Verdict::Accepted(versions));
+    let records = records(image).expect("an accepted image").len();
+    let bytes = image.len();
+    println!("{name} accepted image: {bytes} bytes, {records} records, {versions} versions");
+    let (mut proved, mut reference) = (Times(vec![]), Times(vec![]));
+    for _ in 0..ROUNDS {
+        proved.add(verdicts, || differential::verdict_number(black_box(image)));
+        reference.add(verdicts, || verdict(black_box(image)));
+    }
+    print_line("proved library", proved.min(), proved.median());
+    print_line("reference", reference.min(), reference.median());
+    let ratio = |time: fn(&Times) -> f64| time(&reference) / time(&proved);
+    print_line("ratio", ratio(Times::min), ratio(Times::median));
+    println!();
+}
+
+/// A line of the table.
+fn print_line(name: &str, min: f64, median: f64) {
+    println!("  {name:<16}min {min:>10.2}   median {median:>10.2}");
+}
+
+/// The first generated image of the typical number of records.
+fn typical() -> Vec<u8> {
+    let mut images = (0..).map(generator::accepted);
+    let is_typical = |image: &Vec<u8>| records(image).is_some_and(|r| r.len() == TYPICAL);
+    images.find(is_typical).expect("one of the seeds gives it")
+}
+
+/// 64 versions of 512 bytes, which together are the most bytes of an image.
+fn largest() -> Vec<u8> {
+    image(&(0..64).map(version).collect::<String>())
+}
+
+/// The text of a version with 16 registers and 8 blocks, each promise block
+/// within the one before it, that calls 10 of the 64 versions.
+fn version(index: usize) -> String {
+    let mut text = format!(
+        "version {}.{}(r0: int) -> int
+           registers r1: int, r2: quiet promise, r3: quiet promise, r4: quiet promise
+           registers r5: quiet promise, r6: quiet promise, r7: quiet promise
+           registers r8: quiet promise, r9: int, r10: int, r11: int
+           registers r12: int, r13: int, r14: int, r15: int\n",
+        index / 4,
+        index % 4
+    );
+    for block in 0..8 {
+        writeln!(text, "block {block} quiet -> r1").expect("a string takes all");
+        if block < 7 {
+            let promise = block + 2;
+            let next = block + 1;
+            text += &format!("r{promise} = prom {next}\nr1 = force r{promise}\n");
+        }
+        text += "r9 = add r0, r0\nr10 = sub r9, r0\nr11 = mul r9, r10\nr1 = less r10, r11\n";
+        for call in 0..if block < 2 { 2 } else { 1 } {
+            let callee = (index * 5 + block * 11 + call * 31) % 64;
+            text += &format!("r1 = call {}.{}(r1)\n", callee / 4, callee % 4);
+        }
+    }
+    text
+}

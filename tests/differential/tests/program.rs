@@ -1,0 +1,174 @@
+//! The program `check`: it reads all of standard input and prints its report, nothing else.
+
+use differential::edges::{identities, image, EVERY_INSTRUCTION, IDENTITY};
+use generator::{accepted, accepted_of, damaged, Theme};
+use reference::bounds::{MAX_IMAGE, VERSIONS};
+use reference::{report, verdict, Verdict};
+use std::fs::{self, File};
+use std::io::Write;
+use std::path::Path;
+use std::process::{Child, Command, Stdio};
+use std::thread;
+use std::time::Duration;
+
+/// The program.
+const PROGRAM: &str = concat!(env!("CARGO_MANIFEST_DIR"), "/../../target/bin/fir_check");
+
+/// How many generated images of each sort the program is run on.
+const IMAGES: u64 = 250;
+
+/// Starts the program.
+fn start(input: Stdio) -> Child {
+    assert!(
+        Path::new(PROGRAM).exists(),
+        "the program is not there: {PROGRAM} is missing; run `rt check fir_check`"
+    );
+    Command::new(PROGRAM)
+        .stdin(input)
+        .stdout(Stdio::piped())
+        .stderr(Stdio::piped())
+        .spawn()
+        .expect("the program starts")
+}
+
+/// Asserts that a program that has all its input prints this text, and nothing else.
+#[track_caller]
+fn ends_with(program: Child, text: &str) {
+    let output = program.wait_with_output().expect("the program ends");
+    let printed = output.stdout.escape_ascii().to_string();
+    assert_eq!(printed, text.as_bytes().escape_ascii().to_string());
+    assert_eq!(output.stderr.escape_ascii().to_string(), "");
+    assert_eq!(output.status.code(), Some(0));
+}
+
+/// Asserts what the program prints for bytes that are written at once.
+#[track_caller]
+fn prints(input: &[u8], text: &str) {
+    let mut program = start(Stdio::piped());
+    let mut pipe = program.stdin.take().expect("a pipe");
+    pipe.write_all(input).expect("all of the input is read");
+    drop(pipe);
+    ends_with(program, text);
+}
+
+/// Asserts what the program prints for bytes that come in pieces, with a pause after each.
+#[track_caller]
+fn prints_in_pieces(input: &[u8], size: usize, text: &str) {
+    let mut program = start(Stdio::piped());
+    let mut pipe = program.stdin.take().expect("a pipe");
+    for piece in input.chunks(size) {
+        pipe.write_all(piece).expect("all of the input is read");
+        pipe.flush().expect("the piece is sent");
+        thread::sleep(Duration::from_millis(1));
+    }
+    drop(pipe);
+    ends_with(program, text);
+}
+
+/// An accepted image of exactly the most bytes.
+fn largest() -> Vec<u8> {
+    let mut images = (0..).map(|seed| accepted_of(Theme::Large, seed));
+    let largest = images.find(|image| image.len() == MAX_IMAGE);
+    largest.expect("one of the seeds gives it")
+}
+
+/// The bytes, with zeros after them up to a length.
+fn extended(bytes: &[u8], length: usize) -> Vec<u8> {
+    let mut extended = bytes.to_vec();
+    extended.resize(length, 0);
+    extended
+}
+
+#[test]
+fn image_i_prints_its_line_and_accepted_1() {
+    prints(&IDENTITY, "0.0 1 0 0 0\naccepted 1\n");
+}
+
+#[test]
+fn the_empty_input_is_refused_by_1() {
+    prints(&[], "refused 1 at 0\n");
+    ends_with(start(Stdio::null()), "refused 1 at 0\n");
+}
+
+#[test]
+fn inputs_of_32768_bytes_are_images() {
+    let largest = largest();
+    assert!(matches!(verdict(&largest), Verdict::Accepted(_)));
+    prints(&largest, &report(&largest));
+    prints(&[0; 32_768], "refused 2 at 0\n");
+    prints(&extended(&IDENTITY, 32_768), "refused 2 at 18\n");
+}
+
+#[test]
+fn inputs_of_more_than_32768_bytes_are_refused_by_1() {
+    let largest = largest();
+    for length in [32_769, 65_535, 65_536, 65_536 + 18, 98_304, 100_000] {
+        prints(&extended(&largest, length), "refused 1 at 0\n");
+        prints(&extended(&IDENTITY, length), "refused 1 at 0\n");
+    }
+    prints(&largest.repeat(2), "refused 1 at 0\n");
+}
+
+#[test]
+fn accepted_images_print_their_versions() {
+    for seed in 0..IMAGES {
+        let image = accepted(seed);
+        assert!(matches!(verdict(&image), Verdict::Accepted(_)));
+        prints(&image, &report(&image));
+    }
+}
+
+#[test]
+fn refused_images_print_only_their_refusal() {
+    let mut refused = 0;
+    for seed in 0..IMAGES {
+        let image = damaged(seed).bytes;
+        let text = report(&image);
+        refused += usize::from(text.starts_with("refused"));
+        prints(&image, &text);
+    }
+    assert!(refused > 200, "{refused} refused images");
+}
+
+#[test]
+fn images_with_64_versions_print_65_lines() {
+    for image in [identities(VERSIONS), accepted_of(Theme::Many, 0)] {
+        let text = report(&image);
+        assert_eq!(text.lines().count(), VERSIONS + 1);
+        prints(&image, &text);
+    }
+}
+
+#[test]
+fn input_in_single_bytes_is_put_together() {
+    prints_in_pieces(&IDENTITY, 1, "0.0 1 0 0 0\naccepted 1\n");
+    let image = image(EVERY_INSTRUCTION);
+    prints_in_pieces(&image, 1, &report(&image));
+    prints_in_pieces(&IDENTITY[..17], 1, "refused 2 at 11\n");
+}
+
+#[test]
+fn input_in_pieces_is_put_together() {
+    let largest = largest();
+    for size in [511, 4096, 32_767] {
+        prints_in_pieces(&largest, size, &report(&largest));
+        let more = extended(&largest, 32_769);
+        prints_in_pieces(&more, size, "refused 1 at 0\n");
+    }
+    prints_in_pieces(&[0; 100_000], 4099, "refused 1 at 0\n");
+    for seed in 0..20 {
+        let image = generator::any(seed);
+        let size = 1 + image.len() / 7;
+        prints_in_pieces(&image, size, &report(&image));
+    }
+}
+
+#[test]
+fn input_from_a_file_is_read() {
+    let path = Path::new(env!("CARGO_TARGET_TMPDIR")).join("image");
+    for image in [IDENTITY.to_vec(), largest(), extended(&IDENTITY, 100_000)] {
+        fs::write(&path, &image).expect("the file is written");
+        let file = File::open(&path).expect("the file is there");
+        ends_with(start(file.into()), &report(&image));
+    }
+}
