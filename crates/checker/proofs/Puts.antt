@@ -6,7 +6,9 @@ use native.Mathlib.Omega.{arith}
 use lib.ListN.{length, length-append}
 use Rattle.writer.specs.Text.{text, decimal, placed}
 use Rattle.writer.proofs.Placed.{placed-then, placed-length, placed-none, placed-past}
-use borrow.Author.Tests.{le-leb, lt-leb}
+use mathlib.Core.Bool.{Bool, true, false, cond}
+use lib.Dec.{leb}
+use borrow.Author.Tests.{le-leb, lt-leb, leb-true}
 use Rattle.checker.specs.Reports.{spaced, lineText, countsOf, refusal, answer, reportText, reportedOf, Told, versionLines}
 use Rattle.layout.specs.Records.{records}
 use Rattle.program.specs.Program.{Program, program}
@@ -142,3 +144,12 @@ told-accepted s n e t = rw e t
 pub told-refused : {r : Reported} {x y : List ℕ} (s : List ℕ) (n p : ℕ) → verdictOf s ≡ Refused n p → Told r x y (refusal n p) → Told r x y (reportText s)
 unfolding reportText answer
 told-refused s n p e t = rw e t
+
+-- a text that was written fits
+pub written-fits : (t : List ℕ) (places n : ℕ) → reportedOf t places ≡ Written n → n ≤ places
+unfolding reportedOf
+written-fits t places n e = go (leb (length t) places) refl e
+  where
+    go : (b : Bool) → leb (length t) places ≡ b → cond b (Written (length t)) Short ≡ Written n → n ≤ places
+    go true x y = let z : length t ≡ n = cc in omega (arith, leb-true (length t) places x)
+    go false x y = let z : _≡_ {A = ℕ} 0 1 = cc in absurd (omega arith)

@@ -62,14 +62,15 @@ fn compare(name: &str, image: &[u8], verdicts: u32) {
     }
     print_line("proved library", proved.min(), proved.median());
     print_line("reference", reference.min(), reference.median());
+    // How many times as long the reference takes.
     let ratio = |time: fn(&Times) -> f64| time(&reference) / time(&proved);
-    print_line("ratio", ratio(Times::min), ratio(Times::median));
+    print_line("reference/proved", ratio(Times::min), ratio(Times::median));
     println!();
 }
 
 /// A line of the table.
 fn print_line(name: &str, min: f64, median: f64) {
-    println!("  {name:<16}min {min:>10.2}   median {median:>10.2}");
+    println!("  {name:<18}min {min:>10.2}   median {median:>10.2}");
 }
 
 /// The first generated image of the typical number of records.
