@@ -46,7 +46,7 @@ module _ {s : List ℕ} {p n k : ℕ} (m : Whole s p n k) where
       go false e = rw (at-line m x (eqb-false k kind.BLOCK e))
 
 -- an accepted image is no longer than the bound
-asked : (n : ℕ) (x : Found) (more : Verdict) (k : ℕ) → ask n x more ≡ Accepted k → (x ≡ Nothing) × (more ≡ Accepted k)
+pub asked : (n : ℕ) (x : Found) (more : Verdict) (k : ℕ) → ask n x more ≡ Accepted k → (x ≡ Nothing) × (more ≡ Accepted k)
 unfolding ask
 asked n Nothing more k e = (refl, e)
 asked n (At p) more k e = let z : _≡_ {A = ℕ} 0 1 = cc in absurd (omega arith)

@@ -1,5 +1,6 @@
 pub mod Existence
 pub mod Forms
+pub mod Held
 pub mod Laid
 pub mod Literals
 pub mod Lookups
