@@ -1,19 +1,62 @@
--- What an accepted image gives: the tests of questions 4 and 6 to 10 as facts, for every version, block and instruction that is looked up.
-use mathlib.Core.Path.{_≡_}
+-- What an accepted image gives: each question's fact, for its records and for every version, block and instruction that is looked up.
+use mathlib.Core.Path.{_≡_, ap}
 use mathlib.Core.List.{List}
 use mathlib.Core.Option.{some}
 use Prim.Native.Nat.{ℕ}
 use lib.ListN.{length}
 use Rattle.layout.specs.Records.{records}
+use Rattle.layout.specs.Questions.{question1, question2, question3, question4, question5}
+use Rattle.layout.specs.declared.Found.the-variants.{Nothing}
 use Rattle.program.specs.Program.{Version, Program, program, findVersion}
+use Rattle.program.specs.Search.{first}
 use Rattle.program.specs.Questions.{question7}
 use Rattle.program.proofs.Held.{Held, holds}
 use Rattle.program.proofs.Laid.{bounds, in-bounds}
 use Rattle.typing.specs.Questions.{question6, question8, question9}
 use Rattle.flow.specs.Questions.{question10}
 use Rattle.checker.specs.Verdicts.{verdictOf}
-use Rattle.checker.specs.declared.Verdict.the-variants.{Accepted}
+use Rattle.checker.specs.declared.Verdict.{Verdict}
+use Rattle.checker.specs.declared.Verdict.the-variants.{Accepted, Refused}
 use Rattle.checker.proofs.Asks.{asked}
+
+-- what the ten questions found of the image s, whose program has k versions
+pub record Passed (s : List ℕ) (k : ℕ) : Type 0 where
+  pub q1 : question1 s ≡ Nothing
+  pub q2 : question2 (records s) ≡ Nothing
+  pub q3 : question3 (records s) ≡ Nothing
+  pub q4 : question4 (length s) (records s) ≡ Nothing
+  pub q5 : question5 (records s) ≡ Nothing
+  pub q6 : first question6 (program (records s)) ≡ Nothing
+  pub q7 : first (question7 (program (records s))) (program (records s)) ≡ Nothing
+  pub q8 : first (question8 (program (records s))) (program (records s)) ≡ Nothing
+  pub q9 : first (question9 (program (records s))) (program (records s)) ≡ Nothing
+  pub q10 : first (question10 (program (records s))) (program (records s)) ≡ Nothing
+  pub count : length (program (records s)) ≡ k
+
+-- the number that an answer carries behind its case
+carried : Verdict → ℕ
+carried (Accepted k) = k
+carried (Refused n p) = p
+
+-- an accepted image passed all questions
+pub passed : (s : List ℕ) (k : ℕ) → verdictOf s ≡ Accepted k → Passed s k
+unfolding verdictOf carried
+passed s k e =
+    let e1 = asked 1 _ _ k e in
+    let e2 = asked 2 _ _ k (e1 .1) in
+    let e3 = asked 3 _ _ k (e2 .1) in
+    let e4 = asked 4 _ _ k (e3 .1) in
+    let e5 = asked 5 _ _ k (e4 .1) in
+    let e6 = asked 6 _ _ k (e5 .1) in
+    let e7 = asked 7 _ _ k (e6 .1) in
+    let e8 = asked 8 _ _ k (e7 .1) in
+    let e9 = asked 9 _ _ k (e8 .1) in
+    let e10 = asked 10 _ _ k (e9 .1) in
+    record {
+      q1 = e1 .0; q2 = e2 .0; q3 = e3 .0; q4 = e4 .0; q5 = e5 .0;
+      q6 = e6 .0; q7 = e7 .0; q8 = e8 .0; q9 = e9 .0; q10 = e10 .0;
+      count = ap carried (e10 .1);
+    }
 
 -- what questions 4 and 6 to 10 found of a version of the program P
 pub record Checked (P : Program) (v : Version) : Type 0 where
@@ -26,19 +69,14 @@ pub record Checked (P : Program) (v : Version) : Type 0 where
 
 -- THE LAW of the verdict: every version of an accepted image is checked
 pub checked : (s : List ℕ) (k : ℕ) → verdictOf s ≡ Accepted k → (f w : ℕ) (v : Version) → findVersion (program (records s)) f w ≡ some v → Checked (program (records s)) v
-unfolding verdictOf
 checked s k e f w v h =
-    let e5 = asked 4 _ _ k (asked 3 _ _ k (asked 2 _ _ k (asked 1 _ _ k e .1) .1) .1) in
-    let e7 = asked 6 _ _ k (asked 5 _ _ k (e5 .1) .1) in
-    let e8 = asked 7 _ _ k (e7 .1) in
-    let e9 = asked 8 _ _ k (e8 .1) in
-    let e10 = asked 9 _ _ k (e9 .1) in
     let P = program (records s) in
+    let all = passed s k e in
     record {
-      bound = holds bounds P (in-bounds (length s) (records s) (e5 .0)) f w v h;
-      types = holds question6 P (e7 .0) f w v h;
-      exist = holds (question7 P) P (e8 .0) f w v h;
-      fit = holds (question8 P) P (e9 .0) f w v h;
-      cover = holds (question9 P) P (e10 .0) f w v h;
-      flow = holds (question10 P) P (asked 10 _ _ k (e10 .1) .0) f w v h;
+      bound = holds bounds P (in-bounds (length s) (records s) (all .q4)) f w v h;
+      types = holds question6 P (all .q6) f w v h;
+      exist = holds (question7 P) P (all .q7) f w v h;
+      fit = holds (question8 P) P (all .q8) f w v h;
+      cover = holds (question9 P) P (all .q9) f w v h;
+      flow = holds (question10 P) P (all .q10) f w v h;
     }
