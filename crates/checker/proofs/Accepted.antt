@@ -53,8 +53,16 @@ passed s k e =
     let e9 = asked 9 _ _ k (e8 .1) in
     let e10 = asked 10 _ _ k (e9 .1) in
     record {
-      q1 = e1 .0; q2 = e2 .0; q3 = e3 .0; q4 = e4 .0; q5 = e5 .0;
-      q6 = e6 .0; q7 = e7 .0; q8 = e8 .0; q9 = e9 .0; q10 = e10 .0;
+      q1 = e1 .0;
+      q2 = e2 .0;
+      q3 = e3 .0;
+      q4 = e4 .0;
+      q5 = e5 .0;
+      q6 = e6 .0;
+      q7 = e7 .0;
+      q8 = e8 .0;
+      q9 = e9 .0;
+      q10 = e10 .0;
       count = ap carried (e10 .1);
     }
 

@@ -1,5 +1,6 @@
 pub mod Blocks
 pub mod Calm
+pub mod Fitting
 pub mod Follows
 pub mod Listed
 pub mod Suffixes

@@ -5,7 +5,7 @@ use generator::{accepted, accepted_of, damaged, Theme};
 use reference::bounds::{MAX_IMAGE, VERSIONS};
 use reference::{report, verdict, Verdict};
 use std::fs::{self, File};
-use std::io::Write;
+use std::io::{ErrorKind, Write};
 use std::path::Path;
 use std::process::{Child, Command, Stdio};
 use std::thread;
@@ -41,27 +41,35 @@ fn ends_with(program: Child, text: &str) {
     assert_eq!(output.status.code(), Some(0));
 }
 
-/// Asserts what the program prints for bytes that are written at once.
-#[track_caller]
-fn prints(input: &[u8], text: &str) {
-    let mut program = start(Stdio::piped());
+/// Sends bytes to the program in pieces, with a pause between them; was all of it read?
+fn send(program: &mut Child, input: &[u8], size: usize) -> bool {
     let mut pipe = program.stdin.take().expect("a pipe");
-    pipe.write_all(input).expect("all of the input is read");
-    drop(pipe);
-    ends_with(program, text);
+    for (index, piece) in input.chunks(size).enumerate() {
+        if index > 0 {
+            thread::sleep(Duration::from_millis(1));
+        }
+        match pipe.write_all(piece).and_then(|()| pipe.flush()) {
+            Ok(()) => (),
+            Err(error) if error.kind() == ErrorKind::BrokenPipe => return false,
+            Err(error) => panic!("the input is sent: {error}"),
+        }
+    }
+    true
 }
 
-/// Asserts what the program prints for bytes that come in pieces, with a pause after each.
+/// Asserts what the program prints for bytes that are sent at once.
+#[track_caller]
+fn prints(input: &[u8], text: &str) {
+    prints_in_pieces(input, input.len().max(1), text);
+}
+
+/// Asserts what the program prints for bytes that come in pieces, and that it
+/// reads all of them.
 #[track_caller]
 fn prints_in_pieces(input: &[u8], size: usize, text: &str) {
     let mut program = start(Stdio::piped());
-    let mut pipe = program.stdin.take().expect("a pipe");
-    for piece in input.chunks(size) {
-        pipe.write_all(piece).expect("all of the input is read");
-        pipe.flush().expect("the piece is sent");
-        thread::sleep(Duration::from_millis(1));
-    }
-    drop(pipe);
+    let all = send(&mut program, input, size);
+    assert!(all, "some input is not read");
     ends_with(program, text);
 }
 
@@ -107,6 +115,11 @@ fn inputs_of_more_than_32768_bytes_are_refused_by_1() {
         prints(&extended(&IDENTITY, length), "refused 1 at 0\n");
     }
     prints(&largest.repeat(2), "refused 1 at 0\n");
+}
+
+#[test]
+fn all_of_a_long_input_is_read() {
+    prints(&[0; 1_000_000], "refused 1 at 0\n");
 }
 
 #[test]

@@ -45,19 +45,22 @@ impl Action {
         }
     }
 
-    /// A then A′: none unless U meets none of R′, W′, U′, C′ and C does not meet U′.
-    pub fn then(&self, next: &Action) -> Option<Action> {
+    /// A then A′: none unless U meets none of R′, W′, U′, C′ and C does not meet
+    /// U′; else (R ∪ (R′ − W), W ∪ W′, U ∪ U′, C ∪ C′).
+    pub fn then(mut self, next: &Action) -> Option<Action> {
         let emptied_before = [&next.reads, &next.assigns, &next.empties, &next.captures];
         let allowed = emptied_before
             .iter()
             .all(|set| self.empties.is_disjoint(set))
             && self.captures.is_disjoint(&next.empties);
-        allowed.then(|| Action {
-            reads: &self.reads | &(&next.reads - &self.assigns),
-            assigns: &self.assigns | &next.assigns,
-            empties: &self.empties | &next.empties,
-            captures: &self.captures | &next.captures,
-        })
+        if !allowed {
+            return None;
+        }
+        self.reads.extend(&next.reads - &self.assigns);
+        self.assigns.extend(&next.assigns);
+        self.empties.extend(&next.empties);
+        self.captures.extend(&next.captures);
+        Some(self)
     }
 
     /// What PROM yields for its block's action: (R, ∅, U, R ∪ W ∪ U ∪ C).

@@ -17,12 +17,12 @@ enum-known-p c = search needs
 returns : tie.Need-returns
 unfolding detailOf
 returns c =
-      simp (sym ((c .before .before .before .verdict) .ensures) ∙ (c .before .n) .given .1)
+    simp (sym ((c .before .before .before .verdict) .ensures) ∙ (c .before .n) .given .1)
 
 returns-2 : tie.Need-returns-2
 unfolding detailOf
 returns-2 c =
-      simp (sym ((c .before .before .before .verdict) .ensures) ∙ (c .before .p) .given .1)
+    simp (sym ((c .before .before .before .verdict) .ensures) ∙ (c .before .p) .given .1)
 
 pub fir-verdict-detail-spec : {M : Type 1} → statement M
 fir-verdict-detail-spec =

@@ -17,12 +17,12 @@ enum-known-n c = search needs
 returns : tie.Need-returns
 unfolding numberOf
 returns c =
-      simp (sym ((c .before .before .verdict) .ensures) ∙ (c .enum-told) .given .1)
+    simp (sym ((c .before .before .verdict) .ensures) ∙ (c .enum-told) .given .1)
 
 returns-2 : tie.Need-returns-2
 unfolding numberOf
 returns-2 c =
-      simp (sym ((c .before .before .before .verdict) .ensures) ∙ (c .before .n) .given .1)
+    simp (sym ((c .before .before .before .verdict) .ensures) ∙ (c .before .n) .given .1)
 
 pub fir-verdict-number-spec : {M : Type 1} → statement M
 fir-verdict-number-spec =

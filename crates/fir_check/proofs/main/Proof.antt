@@ -1,3 +1,4 @@
+-- `fir_check::main`: the written text lies within the buffer.
 use Prim.Native.Nat.{_≤_}
 use Rattle.checker.proofs.Puts.{written-fits}
 use Rattle.writer.proofs.Placed.{placed-length}
@@ -14,59 +15,53 @@ use Rattle.checker.proofs.report.report.Reads as report-reads
 use Rattle.io.proofs.read_full.Reads as read-full-reads
 use Rattle.io.proofs.write_all.Reads as write-all-reads
 
--- src/main.rt:10:30
 slice-aggregate-read-full : tie.Need-slice-aggregate-read-full
 slice-aggregate-read-full c = search needs
 
--- src/main.rt:10:9
 read-full-requires : tie.Need-read-full-requires
 read-full-requires c κs = search needs
 
--- src/main.rt:12:26
 array-share-prefix-image : tie.Need-array-share-prefix-image
 array-share-prefix-image c = search needs
 
--- src/main.rt:12:26
 slice-aggregate-report : tie.Need-slice-aggregate-report
 slice-aggregate-report c = search needs
 
--- src/main.rt:12:39
 slice-aggregate-report-2 : tie.Need-slice-aggregate-report-2
 slice-aggregate-report-2 c = search needs
 
--- src/main.rt:12:11
 report-requires : tie.Need-report-requires
 report-requires c κs = search needs
 
--- src/main.rt:13:27
 enum-known-size : tie.Need-enum-known-size
 enum-known-size c = search needs
 
--- src/main.rt:14:30
+slice-aggregate-read-on : tie.Need-slice-aggregate-read-on
+slice-aggregate-read-on c = search needs
+
+read-on-requires : tie.Need-read-on-requires
+read-on-requires c κs = search needs
+
 array-share-prefix-text : tie.Need-array-share-prefix-text
 array-share-prefix-text c =
-      let w = written-fits _ _ _ (sym ((c .before .before .before .before .report) .ensures .says) ∙ (c .before .size) .given .1) in
-      rw (ap length ((c .before .before .before .before .report) .ensures .writes) ∙ placed-length _ _ _) w
+    let w = written-fits _ _ _ (sym ((c .before .before .before .before .before .before .before .report) .ensures .says) ∙ (c .before .before .before .before .size) .given .1) in
+    rw (ap length ((c .before .before .before .before .before .before .before .report) .ensures .writes) ∙ placed-length _ _ _) w
 
--- src/main.rt:14:30
 slice-aggregate-write-all : tie.Need-slice-aggregate-write-all
 slice-aggregate-write-all c =
-      let w = written-fits _ _ _ (sym ((c .before .before .before .before .before .report) .ensures .says) ∙ (c .before .before .size) .given .1) in
-      let h : (c .before .before .size) .given .0 .0 ≤ length ((c .before .before .before .before .before .report) .last .1 .0) = rw (ap length ((c .before .before .before .before .before .report) .ensures .writes) ∙ placed-length _ _ _) w in
-      sym (length-take-le _ _ h)
+    let w = written-fits _ _ _ (sym ((c .before .before .before .before .before .before .before .before .report) .ensures .says) ∙ (c .before .before .before .before .before .size) .given .1) in
+    let h : (c .before .before .before .before .before .size) .given .0 .0 ≤ length ((c .before .before .before .before .before .before .before .before .report) .last .1 .0) = rw (ap length ((c .before .before .before .before .before .before .before .before .report) .ensures .writes) ∙ placed-length _ _ _) w in
+    sym (length-take-le _ _ h)
 
--- src/main.rt:14:13
 write-all-requires : tie.Need-write-all-requires
 write-all-requires c κs = search needs
 
 enum-told : tie.Need-enum-told
 enum-told c = search needs
 
--- src/main.rt:8:1
 returns : tie.Need-returns
 returns c = search needs
 
--- src/main.rt:8:1
 returns-2 : tie.Need-returns-2
 returns-2 c = search needs
 
@@ -81,6 +76,8 @@ main-spec =
     slice-aggregate-report-2
     report-requires
     enum-known-size
+    slice-aggregate-read-on
+    read-on-requires
     array-share-prefix-text
     slice-aggregate-write-all
     write-all-requires

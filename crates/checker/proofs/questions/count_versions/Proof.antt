@@ -22,51 +22,51 @@ abbrev μ-loop : tie.MeasureT-loop
 
 loop-holds : tie.Need-loop-holds Inv-loop μ-loop
 loop-holds c =
-      (omega arith, omega arith, sym (zero-add _))
+    (omega arith, omega arith, sym (zero-add _))
 
 size-at-requires : tie.Need-size-at-requires Inv-loop μ-loop
 size-at-requires c κs =
-      search needs
+    search needs
 
 returns : tie.Need-returns Inv-loop μ-loop
 returns c =
-      sym ((c .before .before .before .loop) .inv .2 ∙ rw (none-ahead _ _ (view-past _ _ (sym ((c .before .size-at) .ensures) ∙ (c .if1) .taken)), add-zero))
+    sym ((c .before .before .before .loop) .inv .2 ∙ rw (none-ahead _ _ (view-past _ _ (sym ((c .before .size-at) .ensures) ∙ (c .if1) .taken)), add-zero))
 
 kind-at-requires : tie.Need-kind-at-requires Inv-loop μ-loop
 kind-at-requires c κs =
-      search needs
+    search needs
 
 add-count : tie.Need-add-count Inv-loop μ-loop
 add-count c =
-      omega (arith, (c .before .before .before .before .before .loop) .inv .0, (c .before .before .before .before .before .loop) .inv .1, (c .before .before .before .before .loop-test) .taken)
+    omega (arith, (c .before .before .before .before .before .loop) .inv .0, (c .before .before .before .before .before .loop) .inv .1, (c .before .before .before .before .loop-test) .taken)
 
 add-p : tie.Need-add-p Inv-loop μ-loop
 add-p c =
-      omega (arith, size-in _ _ ((c .before .before .before .size-at) .ensures) ((c .before .before .if1) .left))
+    omega (arith, size-in _ _ ((c .before .before .before .size-at) .ensures) ((c .before .before .if1) .left))
 
 loop-less : tie.Need-loop-less Inv-loop μ-loop
 loop-less c =
-      omega (arith, (c .before .before .if1) .left, (c .before .before .before .before .loop-test) .taken)
+    omega (arith, (c .before .before .if1) .left, (c .before .before .before .before .loop-test) .taken)
 
 loop-again : tie.Need-loop-again Inv-loop μ-loop
 loop-again c =
-      (omega (arith, size-in _ _ ((c .before .before .before .size-at) .ensures) ((c .before .before .if1) .left)), omega (arith, (c .before .before .before .before .before .loop) .inv .1, (c .before .before .if1) .left), (c .before .before .before .before .before .loop) .inv .2 ∙ rw (one-ahead (record { inside = (c .before .before .before .before .loop-test) .taken; size = (c .before .before .before .size-at) .ensures; whole = (c .before .before .if1) .left; kind = (c .before .kind-at) .ensures }) ((c .if2) .taken)) (omega arith))
+    (omega (arith, size-in _ _ ((c .before .before .before .size-at) .ensures) ((c .before .before .if1) .left)), omega (arith, (c .before .before .before .before .before .loop) .inv .1, (c .before .before .if1) .left), (c .before .before .before .before .before .loop) .inv .2 ∙ rw (one-ahead (record { inside = (c .before .before .before .before .loop-test) .taken; size = (c .before .before .before .size-at) .ensures; whole = (c .before .before .if1) .left; kind = (c .before .kind-at) .ensures }) ((c .if2) .taken)) (omega arith))
 
 add-p-2 : tie.Need-add-p-2 Inv-loop μ-loop
 add-p-2 c =
-      omega (arith, size-in _ _ ((c .before .before .before .size-at) .ensures) ((c .before .before .if1) .left))
+    omega (arith, size-in _ _ ((c .before .before .before .size-at) .ensures) ((c .before .before .if1) .left))
 
 loop-less-2 : tie.Need-loop-less-2 Inv-loop μ-loop
 loop-less-2 c =
-      omega (arith, (c .before .before .if1) .left, (c .before .before .before .before .loop-test) .taken)
+    omega (arith, (c .before .before .if1) .left, (c .before .before .before .before .loop-test) .taken)
 
 loop-again-2 : tie.Need-loop-again-2 Inv-loop μ-loop
 loop-again-2 c =
-      (omega (arith, size-in _ _ ((c .before .before .before .size-at) .ensures) ((c .before .before .if1) .left)), omega (arith, (c .before .before .before .before .before .loop) .inv .1), (c .before .before .before .before .before .loop) .inv .2 ∙ rw (same-ahead (record { inside = (c .before .before .before .before .loop-test) .taken; size = (c .before .before .before .size-at) .ensures; whole = (c .before .before .if1) .left; kind = (c .before .kind-at) .ensures }) ((c .if2) .left)))
+    (omega (arith, size-in _ _ ((c .before .before .before .size-at) .ensures) ((c .before .before .if1) .left)), omega (arith, (c .before .before .before .before .before .loop) .inv .1), (c .before .before .before .before .before .loop) .inv .2 ∙ rw (same-ahead (record { inside = (c .before .before .before .before .loop-test) .taken; size = (c .before .before .before .size-at) .ensures; whole = (c .before .before .if1) .left; kind = (c .before .kind-at) .ensures }) ((c .if2) .left)))
 
 returns-2 : tie.Need-returns-2 Inv-loop μ-loop
 returns-2 c =
-      sym ((c .before .loop) .inv .2 ∙ rw (none-ahead _ _ (view-end _ _ ((c .loop-test) .left)), add-zero))
+    sym ((c .before .loop) .inv .2 ∙ rw (none-ahead _ _ (view-end _ _ ((c .loop-test) .left)), add-zero))
 
 pub count-versions-spec : {M : Type 1} → statement M
 count-versions-spec =

@@ -16,7 +16,7 @@ enum-known-p c = search needs
 returns : tie.Need-returns
 unfolding verdictOf
 returns c =
-      sym (ask-no 1 _ (sym ((c .before .before .before .question-1) .ensures) ∙ (c .before .p) .given .1))
+    sym (ask-no 1 _ (sym ((c .before .before .before .question-1) .ensures) ∙ (c .before .p) .given .1))
 
 enum-told : tie.Need-enum-told
 enum-told c = search needs
@@ -30,7 +30,7 @@ enum-known-p-2 c = search needs
 returns-2 : tie.Need-returns-2
 unfolding verdictOf
 returns-2 c =
-      sym (ask-yes 1 _ (sym ((c .before .before .before .before .before .before .question-1) .ensures) ∙ (c .before .before .before .before .enum-told) .given .1) ∙ ask-no 2 _ (sym ((c .before .before .before .question-2) .ensures) ∙ (c .before .p2) .given .1))
+    sym (ask-yes 1 _ (sym ((c .before .before .before .before .before .before .question-1) .ensures) ∙ (c .before .before .before .before .enum-told) .given .1) ∙ ask-no 2 _ (sym ((c .before .before .before .question-2) .ensures) ∙ (c .before .p2) .given .1))
 
 enum-told-2 : tie.Need-enum-told-2
 enum-told-2 c = search needs
@@ -44,7 +44,7 @@ enum-known-p-3 c = search needs
 returns-3 : tie.Need-returns-3
 unfolding verdictOf
 returns-3 c =
-      sym (ask-yes 1 _ (sym ((c .before .before .before .before .before .before .before .before .before .question-1) .ensures) ∙ (c .before .before .before .before .before .before .before .enum-told) .given .1) ∙ ask-yes 2 _ (sym ((c .before .before .before .before .before .before .question-2) .ensures) ∙ (c .before .before .before .before .enum-told2) .given .1) ∙ ask-no 3 _ (sym ((c .before .before .before .question-3) .ensures) ∙ (c .before .p3) .given .1))
+    sym (ask-yes 1 _ (sym ((c .before .before .before .before .before .before .before .before .before .question-1) .ensures) ∙ (c .before .before .before .before .before .before .before .enum-told) .given .1) ∙ ask-yes 2 _ (sym ((c .before .before .before .before .before .before .question-2) .ensures) ∙ (c .before .before .before .before .enum-told2) .given .1) ∙ ask-no 3 _ (sym ((c .before .before .before .question-3) .ensures) ∙ (c .before .p3) .given .1))
 
 enum-told-3 : tie.Need-enum-told-3
 enum-told-3 c = search needs
@@ -58,7 +58,7 @@ enum-known-p-4 c = search needs
 returns-4 : tie.Need-returns-4
 unfolding verdictOf
 returns-4 c =
-      sym (ask-yes 1 _ (sym ((c .before .before .before .before .before .before .before .before .before .before .before .before .question-1) .ensures) ∙ (c .before .before .before .before .before .before .before .before .before .before .enum-told) .given .1) ∙ ask-yes 2 _ (sym ((c .before .before .before .before .before .before .before .before .before .question-2) .ensures) ∙ (c .before .before .before .before .before .before .before .enum-told2) .given .1) ∙ ask-yes 3 _ (sym ((c .before .before .before .before .before .before .question-3) .ensures) ∙ (c .before .before .before .before .enum-told3) .given .1) ∙ ask-no 4 _ (sym ((c .before .before .before .question-4) .ensures) ∙ (c .before .p4) .given .1))
+    sym (ask-yes 1 _ (sym ((c .before .before .before .before .before .before .before .before .before .before .before .before .question-1) .ensures) ∙ (c .before .before .before .before .before .before .before .before .before .before .enum-told) .given .1) ∙ ask-yes 2 _ (sym ((c .before .before .before .before .before .before .before .before .before .question-2) .ensures) ∙ (c .before .before .before .before .before .before .before .enum-told2) .given .1) ∙ ask-yes 3 _ (sym ((c .before .before .before .before .before .before .question-3) .ensures) ∙ (c .before .before .before .before .enum-told3) .given .1) ∙ ask-no 4 _ (sym ((c .before .before .before .question-4) .ensures) ∙ (c .before .p4) .given .1))
 
 enum-told-4 : tie.Need-enum-told-4
 enum-told-4 c = search needs
@@ -72,7 +72,7 @@ enum-known-p-5 c = search needs
 returns-5 : tie.Need-returns-5
 unfolding verdictOf
 returns-5 c =
-      sym (ask-yes 1 _ (sym ((c .before .before .before .before .before .before .before .before .before .before .before .before .before .before .before .question-1) .ensures) ∙ (c .before .before .before .before .before .before .before .before .before .before .before .before .before .enum-told) .given .1) ∙ ask-yes 2 _ (sym ((c .before .before .before .before .before .before .before .before .before .before .before .before .question-2) .ensures) ∙ (c .before .before .before .before .before .before .before .before .before .before .enum-told2) .given .1) ∙ ask-yes 3 _ (sym ((c .before .before .before .before .before .before .before .before .before .question-3) .ensures) ∙ (c .before .before .before .before .before .before .before .enum-told3) .given .1) ∙ ask-yes 4 _ (sym ((c .before .before .before .before .before .before .question-4) .ensures) ∙ (c .before .before .before .before .enum-told4) .given .1) ∙ ask-no 5 _ (sym ((c .before .before .before .question-5) .ensures) ∙ (c .before .p5) .given .1))
+    sym (ask-yes 1 _ (sym ((c .before .before .before .before .before .before .before .before .before .before .before .before .before .before .before .question-1) .ensures) ∙ (c .before .before .before .before .before .before .before .before .before .before .before .before .before .enum-told) .given .1) ∙ ask-yes 2 _ (sym ((c .before .before .before .before .before .before .before .before .before .before .before .before .question-2) .ensures) ∙ (c .before .before .before .before .before .before .before .before .before .before .enum-told2) .given .1) ∙ ask-yes 3 _ (sym ((c .before .before .before .before .before .before .before .before .before .question-3) .ensures) ∙ (c .before .before .before .before .before .before .before .enum-told3) .given .1) ∙ ask-yes 4 _ (sym ((c .before .before .before .before .before .before .question-4) .ensures) ∙ (c .before .before .before .before .enum-told4) .given .1) ∙ ask-no 5 _ (sym ((c .before .before .before .question-5) .ensures) ∙ (c .before .p5) .given .1))
 
 enum-told-5 : tie.Need-enum-told-5
 enum-told-5 c = search needs
@@ -86,7 +86,7 @@ enum-known-p-6 c = search needs
 returns-6 : tie.Need-returns-6
 unfolding verdictOf
 returns-6 c =
-      sym (ask-yes 1 _ (sym ((c .before .before .before .before .before .before .before .before .before .before .before .before .before .before .before .before .before .before .question-1) .ensures) ∙ (c .before .before .before .before .before .before .before .before .before .before .before .before .before .before .before .before .enum-told) .given .1) ∙ ask-yes 2 _ (sym ((c .before .before .before .before .before .before .before .before .before .before .before .before .before .before .before .question-2) .ensures) ∙ (c .before .before .before .before .before .before .before .before .before .before .before .before .before .enum-told2) .given .1) ∙ ask-yes 3 _ (sym ((c .before .before .before .before .before .before .before .before .before .before .before .before .question-3) .ensures) ∙ (c .before .before .before .before .before .before .before .before .before .before .enum-told3) .given .1) ∙ ask-yes 4 _ (sym ((c .before .before .before .before .before .before .before .before .before .question-4) .ensures) ∙ (c .before .before .before .before .before .before .before .enum-told4) .given .1) ∙ ask-yes 5 _ (sym ((c .before .before .before .before .before .before .question-5) .ensures) ∙ (c .before .before .before .before .enum-told5) .given .1) ∙ ask-no 6 _ (sym ((c .before .before .before .question-6) .ensures) ∙ (c .before .p6) .given .1))
+    sym (ask-yes 1 _ (sym ((c .before .before .before .before .before .before .before .before .before .before .before .before .before .before .before .before .before .before .question-1) .ensures) ∙ (c .before .before .before .before .before .before .before .before .before .before .before .before .before .before .before .before .enum-told) .given .1) ∙ ask-yes 2 _ (sym ((c .before .before .before .before .before .before .before .before .before .before .before .before .before .before .before .question-2) .ensures) ∙ (c .before .before .before .before .before .before .before .before .before .before .before .before .before .enum-told2) .given .1) ∙ ask-yes 3 _ (sym ((c .before .before .before .before .before .before .before .before .before .before .before .before .question-3) .ensures) ∙ (c .before .before .before .before .before .before .before .before .before .before .enum-told3) .given .1) ∙ ask-yes 4 _ (sym ((c .before .before .before .before .before .before .before .before .before .question-4) .ensures) ∙ (c .before .before .before .before .before .before .before .enum-told4) .given .1) ∙ ask-yes 5 _ (sym ((c .before .before .before .before .before .before .question-5) .ensures) ∙ (c .before .before .before .before .enum-told5) .given .1) ∙ ask-no 6 _ (sym ((c .before .before .before .question-6) .ensures) ∙ (c .before .p6) .given .1))
 
 enum-told-6 : tie.Need-enum-told-6
 enum-told-6 c = search needs
@@ -100,7 +100,7 @@ enum-known-p-7 c = search needs
 returns-7 : tie.Need-returns-7
 unfolding verdictOf
 returns-7 c =
-      sym (ask-yes 1 _ (sym ((c .before .before .before .before .before .before .before .before .before .before .before .before .before .before .before .before .before .before .before .before .before .question-1) .ensures) ∙ (c .before .before .before .before .before .before .before .before .before .before .before .before .before .before .before .before .before .before .before .enum-told) .given .1) ∙ ask-yes 2 _ (sym ((c .before .before .before .before .before .before .before .before .before .before .before .before .before .before .before .before .before .before .question-2) .ensures) ∙ (c .before .before .before .before .before .before .before .before .before .before .before .before .before .before .before .before .enum-told2) .given .1) ∙ ask-yes 3 _ (sym ((c .before .before .before .before .before .before .before .before .before .before .before .before .before .before .before .question-3) .ensures) ∙ (c .before .before .before .before .before .before .before .before .before .before .before .before .before .enum-told3) .given .1) ∙ ask-yes 4 _ (sym ((c .before .before .before .before .before .before .before .before .before .before .before .before .question-4) .ensures) ∙ (c .before .before .before .before .before .before .before .before .before .before .enum-told4) .given .1) ∙ ask-yes 5 _ (sym ((c .before .before .before .before .before .before .before .before .before .question-5) .ensures) ∙ (c .before .before .before .before .before .before .before .enum-told5) .given .1) ∙ ask-yes 6 _ (sym ((c .before .before .before .before .before .before .question-6) .ensures) ∙ (c .before .before .before .before .enum-told6) .given .1) ∙ ask-no 7 _ (sym ((c .before .before .before .question-7) .ensures) ∙ (c .before .p7) .given .1))
+    sym (ask-yes 1 _ (sym ((c .before .before .before .before .before .before .before .before .before .before .before .before .before .before .before .before .before .before .before .before .before .question-1) .ensures) ∙ (c .before .before .before .before .before .before .before .before .before .before .before .before .before .before .before .before .before .before .before .enum-told) .given .1) ∙ ask-yes 2 _ (sym ((c .before .before .before .before .before .before .before .before .before .before .before .before .before .before .before .before .before .before .question-2) .ensures) ∙ (c .before .before .before .before .before .before .before .before .before .before .before .before .before .before .before .before .enum-told2) .given .1) ∙ ask-yes 3 _ (sym ((c .before .before .before .before .before .before .before .before .before .before .before .before .before .before .before .question-3) .ensures) ∙ (c .before .before .before .before .before .before .before .before .before .before .before .before .before .enum-told3) .given .1) ∙ ask-yes 4 _ (sym ((c .before .before .before .before .before .before .before .before .before .before .before .before .question-4) .ensures) ∙ (c .before .before .before .before .before .before .before .before .before .before .enum-told4) .given .1) ∙ ask-yes 5 _ (sym ((c .before .before .before .before .before .before .before .before .before .question-5) .ensures) ∙ (c .before .before .before .before .before .before .before .enum-told5) .given .1) ∙ ask-yes 6 _ (sym ((c .before .before .before .before .before .before .question-6) .ensures) ∙ (c .before .before .before .before .enum-told6) .given .1) ∙ ask-no 7 _ (sym ((c .before .before .before .question-7) .ensures) ∙ (c .before .p7) .given .1))
 
 enum-told-7 : tie.Need-enum-told-7
 enum-told-7 c = search needs
@@ -114,7 +114,7 @@ enum-known-p-8 c = search needs
 returns-8 : tie.Need-returns-8
 unfolding verdictOf
 returns-8 c =
-      sym (ask-yes 1 _ (sym ((c .before .before .before .before .before .before .before .before .before .before .before .before .before .before .before .before .before .before .before .before .before .before .before .before .question-1) .ensures) ∙ (c .before .before .before .before .before .before .before .before .before .before .before .before .before .before .before .before .before .before .before .before .before .before .enum-told) .given .1) ∙ ask-yes 2 _ (sym ((c .before .before .before .before .before .before .before .before .before .before .before .before .before .before .before .before .before .before .before .before .before .question-2) .ensures) ∙ (c .before .before .before .before .before .before .before .before .before .before .before .before .before .before .before .before .before .before .before .enum-told2) .given .1) ∙ ask-yes 3 _ (sym ((c .before .before .before .before .before .before .before .before .before .before .before .before .before .before .before .before .before .before .question-3) .ensures) ∙ (c .before .before .before .before .before .before .before .before .before .before .before .before .before .before .before .before .enum-told3) .given .1) ∙ ask-yes 4 _ (sym ((c .before .before .before .before .before .before .before .before .before .before .before .before .before .before .before .question-4) .ensures) ∙ (c .before .before .before .before .before .before .before .before .before .before .before .before .before .enum-told4) .given .1) ∙ ask-yes 5 _ (sym ((c .before .before .before .before .before .before .before .before .before .before .before .before .question-5) .ensures) ∙ (c .before .before .before .before .before .before .before .before .before .before .enum-told5) .given .1) ∙ ask-yes 6 _ (sym ((c .before .before .before .before .before .before .before .before .before .question-6) .ensures) ∙ (c .before .before .before .before .before .before .before .enum-told6) .given .1) ∙ ask-yes 7 _ (sym ((c .before .before .before .before .before .before .question-7) .ensures) ∙ (c .before .before .before .before .enum-told7) .given .1) ∙ ask-no 8 _ (sym ((c .before .before .before .question-8) .ensures) ∙ (c .before .p8) .given .1))
+    sym (ask-yes 1 _ (sym ((c .before .before .before .before .before .before .before .before .before .before .before .before .before .before .before .before .before .before .before .before .before .before .before .before .question-1) .ensures) ∙ (c .before .before .before .before .before .before .before .before .before .before .before .before .before .before .before .before .before .before .before .before .before .before .enum-told) .given .1) ∙ ask-yes 2 _ (sym ((c .before .before .before .before .before .before .before .before .before .before .before .before .before .before .before .before .before .before .before .before .before .question-2) .ensures) ∙ (c .before .before .before .before .before .before .before .before .before .before .before .before .before .before .before .before .before .before .before .enum-told2) .given .1) ∙ ask-yes 3 _ (sym ((c .before .before .before .before .before .before .before .before .before .before .before .before .before .before .before .before .before .before .question-3) .ensures) ∙ (c .before .before .before .before .before .before .before .before .before .before .before .before .before .before .before .before .enum-told3) .given .1) ∙ ask-yes 4 _ (sym ((c .before .before .before .before .before .before .before .before .before .before .before .before .before .before .before .question-4) .ensures) ∙ (c .before .before .before .before .before .before .before .before .before .before .before .before .before .enum-told4) .given .1) ∙ ask-yes 5 _ (sym ((c .before .before .before .before .before .before .before .before .before .before .before .before .question-5) .ensures) ∙ (c .before .before .before .before .before .before .before .before .before .before .enum-told5) .given .1) ∙ ask-yes 6 _ (sym ((c .before .before .before .before .before .before .before .before .before .question-6) .ensures) ∙ (c .before .before .before .before .before .before .before .enum-told6) .given .1) ∙ ask-yes 7 _ (sym ((c .before .before .before .before .before .before .question-7) .ensures) ∙ (c .before .before .before .before .enum-told7) .given .1) ∙ ask-no 8 _ (sym ((c .before .before .before .question-8) .ensures) ∙ (c .before .p8) .given .1))
 
 enum-told-8 : tie.Need-enum-told-8
 enum-told-8 c = search needs
@@ -128,7 +128,7 @@ enum-known-p-9 c = search needs
 returns-9 : tie.Need-returns-9
 unfolding verdictOf
 returns-9 c =
-      sym (ask-yes 1 _ (sym ((c .before .before .before .before .before .before .before .before .before .before .before .before .before .before .before .before .before .before .before .before .before .before .before .before .before .before .before .question-1) .ensures) ∙ (c .before .before .before .before .before .before .before .before .before .before .before .before .before .before .before .before .before .before .before .before .before .before .before .before .before .enum-told) .given .1) ∙ ask-yes 2 _ (sym ((c .before .before .before .before .before .before .before .before .before .before .before .before .before .before .before .before .before .before .before .before .before .before .before .before .question-2) .ensures) ∙ (c .before .before .before .before .before .before .before .before .before .before .before .before .before .before .before .before .before .before .before .before .before .before .enum-told2) .given .1) ∙ ask-yes 3 _ (sym ((c .before .before .before .before .before .before .before .before .before .before .before .before .before .before .before .before .before .before .before .before .before .question-3) .ensures) ∙ (c .before .before .before .before .before .before .before .before .before .before .before .before .before .before .before .before .before .before .before .enum-told3) .given .1) ∙ ask-yes 4 _ (sym ((c .before .before .before .before .before .before .before .before .before .before .before .before .before .before .before .before .before .before .question-4) .ensures) ∙ (c .before .before .before .before .before .before .before .before .before .before .before .before .before .before .before .before .enum-told4) .given .1) ∙ ask-yes 5 _ (sym ((c .before .before .before .before .before .before .before .before .before .before .before .before .before .before .before .question-5) .ensures) ∙ (c .before .before .before .before .before .before .before .before .before .before .before .before .before .enum-told5) .given .1) ∙ ask-yes 6 _ (sym ((c .before .before .before .before .before .before .before .before .before .before .before .before .question-6) .ensures) ∙ (c .before .before .before .before .before .before .before .before .before .before .enum-told6) .given .1) ∙ ask-yes 7 _ (sym ((c .before .before .before .before .before .before .before .before .before .question-7) .ensures) ∙ (c .before .before .before .before .before .before .before .enum-told7) .given .1) ∙ ask-yes 8 _ (sym ((c .before .before .before .before .before .before .question-8) .ensures) ∙ (c .before .before .before .before .enum-told8) .given .1) ∙ ask-no 9 _ (sym ((c .before .before .before .question-9) .ensures) ∙ (c .before .p9) .given .1))
+    sym (ask-yes 1 _ (sym ((c .before .before .before .before .before .before .before .before .before .before .before .before .before .before .before .before .before .before .before .before .before .before .before .before .before .before .before .question-1) .ensures) ∙ (c .before .before .before .before .before .before .before .before .before .before .before .before .before .before .before .before .before .before .before .before .before .before .before .before .before .enum-told) .given .1) ∙ ask-yes 2 _ (sym ((c .before .before .before .before .before .before .before .before .before .before .before .before .before .before .before .before .before .before .before .before .before .before .before .before .question-2) .ensures) ∙ (c .before .before .before .before .before .before .before .before .before .before .before .before .before .before .before .before .before .before .before .before .before .before .enum-told2) .given .1) ∙ ask-yes 3 _ (sym ((c .before .before .before .before .before .before .before .before .before .before .before .before .before .before .before .before .before .before .before .before .before .question-3) .ensures) ∙ (c .before .before .before .before .before .before .before .before .before .before .before .before .before .before .before .before .before .before .before .enum-told3) .given .1) ∙ ask-yes 4 _ (sym ((c .before .before .before .before .before .before .before .before .before .before .before .before .before .before .before .before .before .before .question-4) .ensures) ∙ (c .before .before .before .before .before .before .before .before .before .before .before .before .before .before .before .before .enum-told4) .given .1) ∙ ask-yes 5 _ (sym ((c .before .before .before .before .before .before .before .before .before .before .before .before .before .before .before .question-5) .ensures) ∙ (c .before .before .before .before .before .before .before .before .before .before .before .before .before .enum-told5) .given .1) ∙ ask-yes 6 _ (sym ((c .before .before .before .before .before .before .before .before .before .before .before .before .question-6) .ensures) ∙ (c .before .before .before .before .before .before .before .before .before .before .enum-told6) .given .1) ∙ ask-yes 7 _ (sym ((c .before .before .before .before .before .before .before .before .before .question-7) .ensures) ∙ (c .before .before .before .before .before .before .before .enum-told7) .given .1) ∙ ask-yes 8 _ (sym ((c .before .before .before .before .before .before .question-8) .ensures) ∙ (c .before .before .before .before .enum-told8) .given .1) ∙ ask-no 9 _ (sym ((c .before .before .before .question-9) .ensures) ∙ (c .before .p9) .given .1))
 
 enum-told-9 : tie.Need-enum-told-9
 enum-told-9 c = search needs
@@ -142,7 +142,7 @@ enum-known-p-10 c = search needs
 returns-10 : tie.Need-returns-10
 unfolding verdictOf
 returns-10 c =
-      sym (ask-yes 1 _ (sym ((c .before .before .before .before .before .before .before .before .before .before .before .before .before .before .before .before .before .before .before .before .before .before .before .before .before .before .before .before .before .before .question-1) .ensures) ∙ (c .before .before .before .before .before .before .before .before .before .before .before .before .before .before .before .before .before .before .before .before .before .before .before .before .before .before .before .before .enum-told) .given .1) ∙ ask-yes 2 _ (sym ((c .before .before .before .before .before .before .before .before .before .before .before .before .before .before .before .before .before .before .before .before .before .before .before .before .before .before .before .question-2) .ensures) ∙ (c .before .before .before .before .before .before .before .before .before .before .before .before .before .before .before .before .before .before .before .before .before .before .before .before .before .enum-told2) .given .1) ∙ ask-yes 3 _ (sym ((c .before .before .before .before .before .before .before .before .before .before .before .before .before .before .before .before .before .before .before .before .before .before .before .before .question-3) .ensures) ∙ (c .before .before .before .before .before .before .before .before .before .before .before .before .before .before .before .before .before .before .before .before .before .before .enum-told3) .given .1) ∙ ask-yes 4 _ (sym ((c .before .before .before .before .before .before .before .before .before .before .before .before .before .before .before .before .before .before .before .before .before .question-4) .ensures) ∙ (c .before .before .before .before .before .before .before .before .before .before .before .before .before .before .before .before .before .before .before .enum-told4) .given .1) ∙ ask-yes 5 _ (sym ((c .before .before .before .before .before .before .before .before .before .before .before .before .before .before .before .before .before .before .question-5) .ensures) ∙ (c .before .before .before .before .before .before .before .before .before .before .before .before .before .before .before .before .enum-told5) .given .1) ∙ ask-yes 6 _ (sym ((c .before .before .before .before .before .before .before .before .before .before .before .before .before .before .before .question-6) .ensures) ∙ (c .before .before .before .before .before .before .before .before .before .before .before .before .before .enum-told6) .given .1) ∙ ask-yes 7 _ (sym ((c .before .before .before .before .before .before .before .before .before .before .before .before .question-7) .ensures) ∙ (c .before .before .before .before .before .before .before .before .before .before .enum-told7) .given .1) ∙ ask-yes 8 _ (sym ((c .before .before .before .before .before .before .before .before .before .question-8) .ensures) ∙ (c .before .before .before .before .before .before .before .enum-told8) .given .1) ∙ ask-yes 9 _ (sym ((c .before .before .before .before .before .before .question-9) .ensures) ∙ (c .before .before .before .before .enum-told9) .given .1) ∙ ask-no 10 _ (sym ((c .before .before .before .question-10) .ensures) ∙ (c .before .p10) .given .1))
+    sym (ask-yes 1 _ (sym ((c .before .before .before .before .before .before .before .before .before .before .before .before .before .before .before .before .before .before .before .before .before .before .before .before .before .before .before .before .before .before .question-1) .ensures) ∙ (c .before .before .before .before .before .before .before .before .before .before .before .before .before .before .before .before .before .before .before .before .before .before .before .before .before .before .before .before .enum-told) .given .1) ∙ ask-yes 2 _ (sym ((c .before .before .before .before .before .before .before .before .before .before .before .before .before .before .before .before .before .before .before .before .before .before .before .before .before .before .before .question-2) .ensures) ∙ (c .before .before .before .before .before .before .before .before .before .before .before .before .before .before .before .before .before .before .before .before .before .before .before .before .before .enum-told2) .given .1) ∙ ask-yes 3 _ (sym ((c .before .before .before .before .before .before .before .before .before .before .before .before .before .before .before .before .before .before .before .before .before .before .before .before .question-3) .ensures) ∙ (c .before .before .before .before .before .before .before .before .before .before .before .before .before .before .before .before .before .before .before .before .before .before .enum-told3) .given .1) ∙ ask-yes 4 _ (sym ((c .before .before .before .before .before .before .before .before .before .before .before .before .before .before .before .before .before .before .before .before .before .question-4) .ensures) ∙ (c .before .before .before .before .before .before .before .before .before .before .before .before .before .before .before .before .before .before .before .enum-told4) .given .1) ∙ ask-yes 5 _ (sym ((c .before .before .before .before .before .before .before .before .before .before .before .before .before .before .before .before .before .before .question-5) .ensures) ∙ (c .before .before .before .before .before .before .before .before .before .before .before .before .before .before .before .before .enum-told5) .given .1) ∙ ask-yes 6 _ (sym ((c .before .before .before .before .before .before .before .before .before .before .before .before .before .before .before .question-6) .ensures) ∙ (c .before .before .before .before .before .before .before .before .before .before .before .before .before .enum-told6) .given .1) ∙ ask-yes 7 _ (sym ((c .before .before .before .before .before .before .before .before .before .before .before .before .question-7) .ensures) ∙ (c .before .before .before .before .before .before .before .before .before .before .enum-told7) .given .1) ∙ ask-yes 8 _ (sym ((c .before .before .before .before .before .before .before .before .before .question-8) .ensures) ∙ (c .before .before .before .before .before .before .before .enum-told8) .given .1) ∙ ask-yes 9 _ (sym ((c .before .before .before .before .before .before .question-9) .ensures) ∙ (c .before .before .before .before .enum-told9) .given .1) ∙ ask-no 10 _ (sym ((c .before .before .before .question-10) .ensures) ∙ (c .before .p10) .given .1))
 
 enum-told-10 : tie.Need-enum-told-10
 enum-told-10 c = search needs
@@ -153,7 +153,7 @@ count-versions-requires c κs = search needs
 returns-11 : tie.Need-returns-11
 unfolding verdictOf
 returns-11 c =
-      ap Accepted ((c .count-versions) .ensures) ∙ sym (ask-yes 1 _ (sym ((c .before .before .before .before .before .before .before .before .before .before .before .before .before .before .before .before .before .before .before .before .before .before .before .before .before .before .before .before .before .before .question-1) .ensures) ∙ (c .before .before .before .before .before .before .before .before .before .before .before .before .before .before .before .before .before .before .before .before .before .before .before .before .before .before .before .before .enum-told) .given .1) ∙ ask-yes 2 _ (sym ((c .before .before .before .before .before .before .before .before .before .before .before .before .before .before .before .before .before .before .before .before .before .before .before .before .before .before .before .question-2) .ensures) ∙ (c .before .before .before .before .before .before .before .before .before .before .before .before .before .before .before .before .before .before .before .before .before .before .before .before .before .enum-told2) .given .1) ∙ ask-yes 3 _ (sym ((c .before .before .before .before .before .before .before .before .before .before .before .before .before .before .before .before .before .before .before .before .before .before .before .before .question-3) .ensures) ∙ (c .before .before .before .before .before .before .before .before .before .before .before .before .before .before .before .before .before .before .before .before .before .before .enum-told3) .given .1) ∙ ask-yes 4 _ (sym ((c .before .before .before .before .before .before .before .before .before .before .before .before .before .before .before .before .before .before .before .before .before .question-4) .ensures) ∙ (c .before .before .before .before .before .before .before .before .before .before .before .before .before .before .before .before .before .before .before .enum-told4) .given .1) ∙ ask-yes 5 _ (sym ((c .before .before .before .before .before .before .before .before .before .before .before .before .before .before .before .before .before .before .question-5) .ensures) ∙ (c .before .before .before .before .before .before .before .before .before .before .before .before .before .before .before .before .enum-told5) .given .1) ∙ ask-yes 6 _ (sym ((c .before .before .before .before .before .before .before .before .before .before .before .before .before .before .before .question-6) .ensures) ∙ (c .before .before .before .before .before .before .before .before .before .before .before .before .before .enum-told6) .given .1) ∙ ask-yes 7 _ (sym ((c .before .before .before .before .before .before .before .before .before .before .before .before .question-7) .ensures) ∙ (c .before .before .before .before .before .before .before .before .before .before .enum-told7) .given .1) ∙ ask-yes 8 _ (sym ((c .before .before .before .before .before .before .before .before .before .question-8) .ensures) ∙ (c .before .before .before .before .before .before .before .enum-told8) .given .1) ∙ ask-yes 9 _ (sym ((c .before .before .before .before .before .before .question-9) .ensures) ∙ (c .before .before .before .before .enum-told9) .given .1) ∙ ask-yes 10 _ (sym ((c .before .before .before .question-10) .ensures) ∙ (c .before .enum-told10) .given .1))
+    ap Accepted ((c .count-versions) .ensures) ∙ sym (ask-yes 1 _ (sym ((c .before .before .before .before .before .before .before .before .before .before .before .before .before .before .before .before .before .before .before .before .before .before .before .before .before .before .before .before .before .before .question-1) .ensures) ∙ (c .before .before .before .before .before .before .before .before .before .before .before .before .before .before .before .before .before .before .before .before .before .before .before .before .before .before .before .before .enum-told) .given .1) ∙ ask-yes 2 _ (sym ((c .before .before .before .before .before .before .before .before .before .before .before .before .before .before .before .before .before .before .before .before .before .before .before .before .before .before .before .question-2) .ensures) ∙ (c .before .before .before .before .before .before .before .before .before .before .before .before .before .before .before .before .before .before .before .before .before .before .before .before .before .enum-told2) .given .1) ∙ ask-yes 3 _ (sym ((c .before .before .before .before .before .before .before .before .before .before .before .before .before .before .before .before .before .before .before .before .before .before .before .before .question-3) .ensures) ∙ (c .before .before .before .before .before .before .before .before .before .before .before .before .before .before .before .before .before .before .before .before .before .before .enum-told3) .given .1) ∙ ask-yes 4 _ (sym ((c .before .before .before .before .before .before .before .before .before .before .before .before .before .before .before .before .before .before .before .before .before .question-4) .ensures) ∙ (c .before .before .before .before .before .before .before .before .before .before .before .before .before .before .before .before .before .before .before .enum-told4) .given .1) ∙ ask-yes 5 _ (sym ((c .before .before .before .before .before .before .before .before .before .before .before .before .before .before .before .before .before .before .question-5) .ensures) ∙ (c .before .before .before .before .before .before .before .before .before .before .before .before .before .before .before .before .enum-told5) .given .1) ∙ ask-yes 6 _ (sym ((c .before .before .before .before .before .before .before .before .before .before .before .before .before .before .before .question-6) .ensures) ∙ (c .before .before .before .before .before .before .before .before .before .before .before .before .before .enum-told6) .given .1) ∙ ask-yes 7 _ (sym ((c .before .before .before .before .before .before .before .before .before .before .before .before .question-7) .ensures) ∙ (c .before .before .before .before .before .before .before .before .before .before .enum-told7) .given .1) ∙ ask-yes 8 _ (sym ((c .before .before .before .before .before .before .before .before .before .question-8) .ensures) ∙ (c .before .before .before .before .before .before .before .enum-told8) .given .1) ∙ ask-yes 9 _ (sym ((c .before .before .before .before .before .before .question-9) .ensures) ∙ (c .before .before .before .before .enum-told9) .given .1) ∙ ask-yes 10 _ (sym ((c .before .before .before .question-10) .ensures) ∙ (c .before .enum-told10) .given .1))
 
 pub verdict-spec : {M : Type 1} → statement M
 verdict-spec =

@@ -30,12 +30,12 @@ enum-told c = search needs
 returns : tie.Need-returns
 unfolding countsOf
 returns c =
-      simp ((c .before .before .before .size) .ensures, (c .before .before .size2) .ensures, (c .before .size3) .ensures, (c .size4) .ensures) (sym (counts-allowed _ _ _ _ ((c .before .before .before .before .before .before .before .action) .ensures) ((c .before .before .before .before .before .a) .given .1)))
+    simp ((c .before .before .before .size) .ensures, (c .before .before .size2) .ensures, (c .before .size3) .ensures, (c .size4) .ensures) (sym (counts-allowed _ _ _ _ ((c .before .before .before .before .before .before .before .action) .ensures) ((c .before .before .before .before .before .a) .given .1)))
 
 returns-2 : tie.Need-returns-2
 unfolding countsOf
 returns-2 c =
-      sym (counts-refused _ _ _ ((c .before .before .action) .ensures) ((c .enum-told) .given .1))
+    sym (counts-refused _ _ _ ((c .before .before .action) .ensures) ((c .enum-told) .given .1))
 
 pub counts-at-spec : {M : Type 1} → statement M
 counts-at-spec =

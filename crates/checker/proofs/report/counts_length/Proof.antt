@@ -53,12 +53,12 @@ enum-told c = search needs
 
 returns : tie.Need-returns
 returns c =
-      let k = counts-known ((c .before .before .before .before .before .before .before) .args .counts) ((c .before .before .before .before .before .counts) .given .1) in
-      (omega (arith, k, (c .before .before .before .digits-of) .ensures .0, (c .before .before .digits-of2) .ensures .0, (c .before .digits-of3) .ensures .0, (c .digits-of4) .ensures .0), omega (arith, (c .before .before .before .digits-of) .ensures .1, (c .before .before .digits-of2) .ensures .1, (c .before .digits-of3) .ensures .1, (c .digits-of4) .ensures .1))
+    let k = counts-known ((c .before .before .before .before .before .before .before) .args .counts) ((c .before .before .before .before .before .counts) .given .1) in
+    (omega (arith, k, (c .before .before .before .digits-of) .ensures .0, (c .before .before .digits-of2) .ensures .0, (c .before .digits-of3) .ensures .0, (c .digits-of4) .ensures .0), omega (arith, (c .before .before .before .digits-of) .ensures .1, (c .before .before .digits-of2) .ensures .1, (c .before .digits-of3) .ensures .1, (c .digits-of4) .ensures .1))
 
 returns-2 : tie.Need-returns-2
 returns-2 c =
-      (sym (counts-unknown _ ((c .enum-told) .given .1)), omega arith)
+    (sym (counts-unknown _ ((c .enum-told) .given .1)), omega arith)
 
 pub counts-length-spec : {M : Type 1} → statement M
 counts-length-spec =

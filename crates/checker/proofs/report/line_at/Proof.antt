@@ -17,7 +17,7 @@ counts-at-requires c κs = search needs
 returns : tie.Need-returns
 unfolding lineOf versionLine versionAt
 returns c =
-      simp ((c .before .before .field) .ensures .0, (c .before .field2) .ensures .0, (c .counts-at) .ensures)
+    simp ((c .before .before .field) .ensures .0, (c .before .field2) .ensures .0, (c .counts-at) .ensures)
 
 pub line-at-spec : {M : Type 1} → statement M
 line-at-spec = tie.close (tie.spec field-requires field-requires-2 counts-at-requires returns)

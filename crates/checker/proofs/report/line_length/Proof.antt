@@ -30,8 +30,8 @@ add-result-2 c = search needs
 returns : tie.Need-returns
 unfolding lineOf
 returns c =
-      let l = (c .before .before .before) .args .line in
-      (omega (arith, line-length (l .function) (l .version) (countsOf (l .counts)), (c .before .before .digits-of) .ensures .0, (c .before .digits-of2) .ensures .0, (c .counts-length) .ensures .0), omega (arith, (c .before .before .digits-of) .ensures .1, (c .before .digits-of2) .ensures .1, (c .counts-length) .ensures .1))
+    let l = (c .before .before .before) .args .line in
+    (omega (arith, line-length (l .function) (l .version) (countsOf (l .counts)), (c .before .before .digits-of) .ensures .0, (c .before .digits-of2) .ensures .0, (c .counts-length) .ensures .0), omega (arith, (c .before .before .digits-of) .ensures .1, (c .before .digits-of2) .ensures .1, (c .counts-length) .ensures .1))
 
 pub line-length-spec : {M : Type 1} → statement M
 line-length-spec =

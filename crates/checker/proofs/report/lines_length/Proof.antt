@@ -23,59 +23,59 @@ abbrev μ-loop : tie.MeasureT-loop
 
 loop-holds : tie.Need-loop-holds Inv-loop μ-loop
 loop-holds c =
-      (omega arith, omega arith, sym (zero-add _))
+    (omega arith, omega arith, sym (zero-add _))
 
 size-at-requires : tie.Need-size-at-requires Inv-loop μ-loop
 size-at-requires c κs =
-      search needs
+    search needs
 
 returns : tie.Need-returns Inv-loop μ-loop
 returns c =
-      (sym ((c .before .before .before .loop) .inv .2 ∙ rw (none-left (program (records (now ((c .before .before .before .before .before) .args .image)))) _ _ (view-past _ _ (sym ((c .before .size-at) .ensures) ∙ (c .if1) .taken)), add-zero)), omega (arith, (c .before .before .before .before .before) .pre, (c .before .before .before .loop) .inv .0, (c .before .before .before .loop) .inv .1))
+    (sym ((c .before .before .before .loop) .inv .2 ∙ rw (none-left (program (records (now ((c .before .before .before .before .before) .args .image)))) _ _ (view-past _ _ (sym ((c .before .size-at) .ensures) ∙ (c .if1) .taken)), add-zero)), omega (arith, (c .before .before .before .before .before) .pre, (c .before .before .before .loop) .inv .0, (c .before .before .before .loop) .inv .1))
 
 kind-at-requires : tie.Need-kind-at-requires Inv-loop μ-loop
 kind-at-requires c κs =
-      search needs
+    search needs
 
 line-at-requires : tie.Need-line-at-requires Inv-loop μ-loop
 line-at-requires c κs =
-      search needs
+    search needs
 
 line-length-requires : tie.Need-line-length-requires Inv-loop μ-loop
 line-length-requires c κs =
-      search needs
+    search needs
 
 add-total : tie.Need-add-total Inv-loop μ-loop
 add-total c =
-      omega (arith, (c .before .before .before .before .before .before .before .before .before) .pre, (c .before .before .before .before .before .before .before .loop) .inv .0, (c .before .before .before .before .before .before .before .loop) .inv .1, (c .before .before .before .before .before .before .loop-test) .taken, (c .line-length) .ensures .1)
+    omega (arith, (c .before .before .before .before .before .before .before .before .before) .pre, (c .before .before .before .before .before .before .before .loop) .inv .0, (c .before .before .before .before .before .before .before .loop) .inv .1, (c .before .before .before .before .before .before .loop-test) .taken, (c .line-length) .ensures .1)
 
 add-p : tie.Need-add-p Inv-loop μ-loop
 add-p c =
-      omega (arith, size-in _ _ ((c .before .before .before .before .before .size-at) .ensures) ((c .before .before .before .before .if1) .left))
+    omega (arith, size-in _ _ ((c .before .before .before .before .before .size-at) .ensures) ((c .before .before .before .before .if1) .left))
 
 loop-less : tie.Need-loop-less Inv-loop μ-loop
 loop-less c =
-      omega (arith, (c .before .before .before .before .if1) .left, (c .before .before .before .before .before .before .loop-test) .taken)
+    omega (arith, (c .before .before .before .before .if1) .left, (c .before .before .before .before .before .before .loop-test) .taken)
 
 loop-again : tie.Need-loop-again Inv-loop μ-loop
 loop-again c =
-      (omega (arith, size-in _ _ ((c .before .before .before .before .before .size-at) .ensures) ((c .before .before .before .before .if1) .left)), omega (arith, (c .before .before .before .before .before .before .before .loop) .inv .1, (c .line-length) .ensures .1, size-in _ _ ((c .before .before .before .before .before .size-at) .ensures) ((c .before .before .before .before .if1) .left)), (c .before .before .before .before .before .before .before .loop) .inv .2 ∙ rw (line-left (program (records (now ((c .before .before .before .before .before .before .before .before .before) .args .image)))) (record { inside = (c .before .before .before .before .before .before .loop-test) .taken; size = (c .before .before .before .before .before .size-at) .ensures; whole = (c .before .before .before .before .if1) .left; kind = (c .before .before .before .kind-at) .ensures }) ((c .before .before .if2) .taken), length-append, ← (c .before .line-at) .ensures, ← (c .line-length) .ensures .0) (omega arith))
+    (omega (arith, size-in _ _ ((c .before .before .before .before .before .size-at) .ensures) ((c .before .before .before .before .if1) .left)), omega (arith, (c .before .before .before .before .before .before .before .loop) .inv .1, (c .line-length) .ensures .1, size-in _ _ ((c .before .before .before .before .before .size-at) .ensures) ((c .before .before .before .before .if1) .left)), (c .before .before .before .before .before .before .before .loop) .inv .2 ∙ rw (line-left (program (records (now ((c .before .before .before .before .before .before .before .before .before) .args .image)))) (record { inside = (c .before .before .before .before .before .before .loop-test) .taken; size = (c .before .before .before .before .before .size-at) .ensures; whole = (c .before .before .before .before .if1) .left; kind = (c .before .before .before .kind-at) .ensures }) ((c .before .before .if2) .taken), length-append, ← (c .before .line-at) .ensures, ← (c .line-length) .ensures .0) (omega arith))
 
 add-p-2 : tie.Need-add-p-2 Inv-loop μ-loop
 add-p-2 c =
-      omega (arith, size-in _ _ ((c .before .before .before .size-at) .ensures) ((c .before .before .if1) .left))
+    omega (arith, size-in _ _ ((c .before .before .before .size-at) .ensures) ((c .before .before .if1) .left))
 
 loop-less-2 : tie.Need-loop-less-2 Inv-loop μ-loop
 loop-less-2 c =
-      omega (arith, (c .before .before .if1) .left, (c .before .before .before .before .loop-test) .taken)
+    omega (arith, (c .before .before .if1) .left, (c .before .before .before .before .loop-test) .taken)
 
 loop-again-2 : tie.Need-loop-again-2 Inv-loop μ-loop
 loop-again-2 c =
-      (omega (arith, size-in _ _ ((c .before .before .before .size-at) .ensures) ((c .before .before .if1) .left)), omega (arith, (c .before .before .before .before .before .loop) .inv .1), (c .before .before .before .before .before .loop) .inv .2 ∙ rw (same-left (program (records (now ((c .before .before .before .before .before .before .before) .args .image)))) (record { inside = (c .before .before .before .before .loop-test) .taken; size = (c .before .before .before .size-at) .ensures; whole = (c .before .before .if1) .left; kind = (c .before .kind-at) .ensures }) ((c .if2) .left)))
+    (omega (arith, size-in _ _ ((c .before .before .before .size-at) .ensures) ((c .before .before .if1) .left)), omega (arith, (c .before .before .before .before .before .loop) .inv .1), (c .before .before .before .before .before .loop) .inv .2 ∙ rw (same-left (program (records (now ((c .before .before .before .before .before .before .before) .args .image)))) (record { inside = (c .before .before .before .before .loop-test) .taken; size = (c .before .before .before .size-at) .ensures; whole = (c .before .before .if1) .left; kind = (c .before .kind-at) .ensures }) ((c .if2) .left)))
 
 returns-2 : tie.Need-returns-2 Inv-loop μ-loop
 returns-2 c =
-      (sym ((c .before .loop) .inv .2 ∙ rw (none-left (program (records (now ((c .before .before .before) .args .image)))) _ _ (view-end _ _ ((c .loop-test) .left)), add-zero)), omega (arith, (c .before .before .before) .pre, (c .before .loop) .inv .0, (c .before .loop) .inv .1))
+    (sym ((c .before .loop) .inv .2 ∙ rw (none-left (program (records (now ((c .before .before .before) .args .image)))) _ _ (view-end _ _ ((c .loop-test) .left)), add-zero)), omega (arith, (c .before .before .before) .pre, (c .before .loop) .inv .0, (c .before .loop) .inv .1))
 
 pub lines-length-spec : {M : Type 1} → statement M
 lines-length-spec =

@@ -17,38 +17,38 @@ cast-put-count c = search needs
 
 put-count-requires : tie.Need-put-count-requires
 put-count-requires c κs =
-      let k = counts-known ((c .before .before .before .before .before) .args .counts) ((c .before .before .counts) .given .1) in
-      rw length-count (omega (arith, (c .before .before .before .before .before) .pre, k))
+    let k = counts-known ((c .before .before .before .before .before) .args .counts) ((c .before .before .counts) .given .1) in
+    rw length-count (omega (arith, (c .before .before .before .before .before) .pre, k))
 
 cast-put-count-2 : tie.Need-cast-put-count-2
 cast-put-count-2 c = search needs
 
 put-count-requires-2 : tie.Need-put-count-requires-2
 put-count-requires-2 c κs =
-      let k = counts-known ((c .before .before .before .before .before .before .before .before .before) .args .counts) ((c .before .before .before .before .before .before .counts) .given .1) in
-      let l : length ((c .before .before .before .put-count) .last .0) ≡ length ((c .before .before .before .before .before .before .before .before .before) .args .out .now) = ap length ((c .before .before .before .put-count) .ensures .1) ∙ placed-length _ _ _ in
-      rw length-count (omega (arith, (c .before .before .before .before .before .before .before .before .before) .pre, k, l, rw length-count at ((c .before .before .before .put-count) .ensures .0)))
+    let k = counts-known ((c .before .before .before .before .before .before .before .before .before) .args .counts) ((c .before .before .before .before .before .before .counts) .given .1) in
+    let l : length ((c .before .before .before .put-count) .last .0) ≡ length ((c .before .before .before .before .before .before .before .before .before) .args .out .now) = ap length ((c .before .before .before .put-count) .ensures .1) ∙ placed-length _ _ _ in
+    rw length-count (omega (arith, (c .before .before .before .before .before .before .before .before .before) .pre, k, l, rw length-count at ((c .before .before .before .put-count) .ensures .0)))
 
 cast-put-count-3 : tie.Need-cast-put-count-3
 cast-put-count-3 c = search needs
 
 put-count-requires-3 : tie.Need-put-count-requires-3
 put-count-requires-3 c κs =
-      let k = counts-known ((c .before .before .before .before .before .before .before .before .before .before .before .before .before) .args .counts) ((c .before .before .before .before .before .before .before .before .before .before .counts) .given .1) in
-      let l : length ((c .before .before .before .before .before .before .before .put-count) .last .0) ≡ length ((c .before .before .before .before .before .before .before .before .before .before .before .before .before) .args .out .now) = ap length ((c .before .before .before .before .before .before .before .put-count) .ensures .1) ∙ placed-length _ _ _ in
-      let m : length ((c .before .before .before .put-count2) .last .0) ≡ length ((c .before .before .before .before .before .before .before .put-count) .last .0) = ap length ((c .before .before .before .put-count2) .ensures .1) ∙ placed-length _ _ _ in
-      rw length-count (omega (arith, (c .before .before .before .before .before .before .before .before .before .before .before .before .before) .pre, k, l, m, rw length-count at ((c .before .before .before .before .before .before .before .put-count) .ensures .0), rw length-count at ((c .before .before .before .put-count2) .ensures .0)))
+    let k = counts-known ((c .before .before .before .before .before .before .before .before .before .before .before .before .before) .args .counts) ((c .before .before .before .before .before .before .before .before .before .before .counts) .given .1) in
+    let l : length ((c .before .before .before .before .before .before .before .put-count) .last .0) ≡ length ((c .before .before .before .before .before .before .before .before .before .before .before .before .before) .args .out .now) = ap length ((c .before .before .before .before .before .before .before .put-count) .ensures .1) ∙ placed-length _ _ _ in
+    let m : length ((c .before .before .before .put-count2) .last .0) ≡ length ((c .before .before .before .before .before .before .before .put-count) .last .0) = ap length ((c .before .before .before .put-count2) .ensures .1) ∙ placed-length _ _ _ in
+    rw length-count (omega (arith, (c .before .before .before .before .before .before .before .before .before .before .before .before .before) .pre, k, l, m, rw length-count at ((c .before .before .before .before .before .before .before .put-count) .ensures .0), rw length-count at ((c .before .before .before .put-count2) .ensures .0)))
 
 cast-put-count-4 : tie.Need-cast-put-count-4
 cast-put-count-4 c = search needs
 
 put-count-requires-4 : tie.Need-put-count-requires-4
 put-count-requires-4 c κs =
-      let k = counts-known ((c .before .before .before .before .before .before .before .before .before .before .before .before .before .before .before .before .before) .args .counts) ((c .before .before .before .before .before .before .before .before .before .before .before .before .before .before .counts) .given .1) in
-      let l : length ((c .before .before .before .before .before .before .before .before .before .before .before .put-count) .last .0) ≡ length ((c .before .before .before .before .before .before .before .before .before .before .before .before .before .before .before .before .before) .args .out .now) = ap length ((c .before .before .before .before .before .before .before .before .before .before .before .put-count) .ensures .1) ∙ placed-length _ _ _ in
-      let m : length ((c .before .before .before .before .before .before .before .put-count2) .last .0) ≡ length ((c .before .before .before .before .before .before .before .before .before .before .before .put-count) .last .0) = ap length ((c .before .before .before .before .before .before .before .put-count2) .ensures .1) ∙ placed-length _ _ _ in
-      let n : length ((c .before .before .before .put-count3) .last .0) ≡ length ((c .before .before .before .before .before .before .before .put-count2) .last .0) = ap length ((c .before .before .before .put-count3) .ensures .1) ∙ placed-length _ _ _ in
-      rw length-count (omega (arith, (c .before .before .before .before .before .before .before .before .before .before .before .before .before .before .before .before .before) .pre, k, l, m, n, rw length-count at ((c .before .before .before .before .before .before .before .before .before .before .before .put-count) .ensures .0), rw length-count at ((c .before .before .before .before .before .before .before .put-count2) .ensures .0), rw length-count at ((c .before .before .before .put-count3) .ensures .0)))
+    let k = counts-known ((c .before .before .before .before .before .before .before .before .before .before .before .before .before .before .before .before .before) .args .counts) ((c .before .before .before .before .before .before .before .before .before .before .before .before .before .before .counts) .given .1) in
+    let l : length ((c .before .before .before .before .before .before .before .before .before .before .before .put-count) .last .0) ≡ length ((c .before .before .before .before .before .before .before .before .before .before .before .before .before .before .before .before .before) .args .out .now) = ap length ((c .before .before .before .before .before .before .before .before .before .before .before .put-count) .ensures .1) ∙ placed-length _ _ _ in
+    let m : length ((c .before .before .before .before .before .before .before .put-count2) .last .0) ≡ length ((c .before .before .before .before .before .before .before .before .before .before .before .put-count) .last .0) = ap length ((c .before .before .before .before .before .before .before .put-count2) .ensures .1) ∙ placed-length _ _ _ in
+    let n : length ((c .before .before .before .put-count3) .last .0) ≡ length ((c .before .before .before .before .before .before .before .put-count2) .last .0) = ap length ((c .before .before .before .put-count3) .ensures .1) ∙ placed-length _ _ _ in
+    rw length-count (omega (arith, (c .before .before .before .before .before .before .before .before .before .before .before .before .before .before .before .before .before) .pre, k, l, m, n, rw length-count at ((c .before .before .before .before .before .before .before .before .before .before .before .put-count) .ensures .0), rw length-count at ((c .before .before .before .before .before .before .before .put-count2) .ensures .0), rw length-count at ((c .before .before .before .put-count3) .ensures .0)))
 
 enum-told : tie.Need-enum-told
 enum-told c = search needs
@@ -58,12 +58,12 @@ same-length c = search needs
 
 returns : tie.Need-returns
 returns c =
-      let w = counts-put _ ((c .before .before .before .before .before .before .before .before .before .before .before .before .before .before .before .before .before .counts) .given .1) ((c .before .before .before .before .before .before .before .before .before .before .before .before .before .before .before .before .before .before .before .before) .pre) (record { writes = (c .before .before .before .before .before .before .before .before .before .before .before .before .before .before .put-count) .ensures .1; ends = (c .before .before .before .before .before .before .before .before .before .before .before .before .before .before .put-count) .ensures .0 }) (record { writes = (c .before .before .before .before .before .before .before .before .before .before .put-count2) .ensures .1; ends = (c .before .before .before .before .before .before .before .before .before .before .put-count2) .ensures .0 }) (record { writes = (c .before .before .before .before .before .before .put-count3) .ensures .1; ends = (c .before .before .before .before .before .before .put-count3) .ensures .0 }) (record { writes = (c .before .before .put-count4) .ensures .1; ends = (c .before .before .put-count4) .ensures .0 }) in
-      (w .ends, w .writes)
+    let w = counts-put _ ((c .before .before .before .before .before .before .before .before .before .before .before .before .before .before .before .before .before .counts) .given .1) ((c .before .before .before .before .before .before .before .before .before .before .before .before .before .before .before .before .before .before .before .before) .pre) (record { writes = (c .before .before .before .before .before .before .before .before .before .before .before .before .before .before .put-count) .ensures .1; ends = (c .before .before .before .before .before .before .before .before .before .before .before .before .before .before .put-count) .ensures .0 }) (record { writes = (c .before .before .before .before .before .before .before .before .before .before .put-count2) .ensures .1; ends = (c .before .before .before .before .before .before .before .before .before .before .put-count2) .ensures .0 }) (record { writes = (c .before .before .before .before .before .before .put-count3) .ensures .1; ends = (c .before .before .before .before .before .before .put-count3) .ensures .0 }) (record { writes = (c .before .before .put-count4) .ensures .1; ends = (c .before .before .put-count4) .ensures .0 }) in
+    (w .ends, w .writes)
 
 returns-2 : tie.Need-returns-2
 returns-2 c =
-      (omega (arith, ap length (counts-none ((c .before .before .before) .args .counts) ((c .enum-told) .given .1))), rw (counts-none _ ((c .enum-told) .given .1)) (sym (placed-none _ _)))
+    (omega (arith, ap length (counts-none ((c .before .before .before) .args .counts) ((c .enum-told) .given .1))), rw (counts-none _ ((c .enum-told) .given .1)) (sym (placed-none _ _)))
 
 pub put-counts-spec : {M : Type 1} → statement M
 put-counts-spec =

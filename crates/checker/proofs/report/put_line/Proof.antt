@@ -42,11 +42,11 @@ put-number-requires-2 c κs = search needs
 put-counts-requires : tie.Need-put-counts-requires
 unfolding lineOf
 put-counts-requires c κs =
-      let l = (c .before .before .before .before .before .before .before .before .before .before .before .before .before .before .before .before) .args .line in
-      let e : length ((c .before .before .before .put-number2) .last .0) ≡ length ((c .before .before .before .before .before .before .before .before .before .before .before .before .before .before .before .before) .args .out .now) = (ap length ((c .before .before .before .put-number2) .ensures) ∙ placed-length _ _ _) ∙ (ap length ((c .before .before .before .before .before .before .before .before .put-byte) .ensures) ∙ placed-length _ _ _) ∙ (ap length ((c .before .before .before .before .before .before .before .before .before .before .before .before .put-number) .ensures) ∙ placed-length _ _ _) in
-      let n = line-length (l .function) (l .version) (countsOf (l .counts)) in
-      let h : (c .before .before .before .before .before .before .before .before .before .before .before .before .before .before .before .before) .args .at + length (lineText (l .function) (l .version) (countsOf (l .counts))) ≤ length ((c .before .before .before .before .before .before .before .before .before .before .before .before .before .before .before .before) .args .out .now) = (c .before .before .before .before .before .before .before .before .before .before .before .before .before .before .before .before) .pre in
-      omega (arith, h, n, e, (c .before .before .before .before .before .before .before .before .before .before .before .before .before .before .digits-of) .ensures .0, (c .before .before .before .before .before .digits-of2) .ensures .0)
+    let l = (c .before .before .before .before .before .before .before .before .before .before .before .before .before .before .before .before) .args .line in
+    let e : length ((c .before .before .before .put-number2) .last .0) ≡ length ((c .before .before .before .before .before .before .before .before .before .before .before .before .before .before .before .before) .args .out .now) = (ap length ((c .before .before .before .put-number2) .ensures) ∙ placed-length _ _ _) ∙ (ap length ((c .before .before .before .before .before .before .before .before .put-byte) .ensures) ∙ placed-length _ _ _) ∙ (ap length ((c .before .before .before .before .before .before .before .before .before .before .before .before .put-number) .ensures) ∙ placed-length _ _ _) in
+    let n = line-length (l .function) (l .version) (countsOf (l .counts)) in
+    let h : (c .before .before .before .before .before .before .before .before .before .before .before .before .before .before .before .before) .args .at + length (lineText (l .function) (l .version) (countsOf (l .counts))) ≤ length ((c .before .before .before .before .before .before .before .before .before .before .before .before .before .before .before .before) .args .out .now) = (c .before .before .before .before .before .before .before .before .before .before .before .before .before .before .before .before) .pre in
+    omega (arith, h, n, e, (c .before .before .before .before .before .before .before .before .before .before .before .before .before .before .digits-of) .ensures .0, (c .before .before .before .before .before .digits-of2) .ensures .0)
 
 put-byte-requires-2 : tie.Need-put-byte-requires-2
 put-byte-requires-2 c κs = search needs
@@ -54,10 +54,10 @@ put-byte-requires-2 c κs = search needs
 add-result : tie.Need-add-result
 unfolding lineOf
 add-result c =
-      let l = (c .before .before .before .before .before .before .before .before .before .before .before .before .before .before .before .before .before .before .before .before .before .before .before) .args .line in
-      let n = line-length (l .function) (l .version) (countsOf (l .counts)) in
-      let h : (c .before .before .before .before .before .before .before .before .before .before .before .before .before .before .before .before .before .before .before .before .before .before .before) .args .at + length (lineText (l .function) (l .version) (countsOf (l .counts))) ≤ length ((c .before .before .before .before .before .before .before .before .before .before .before .before .before .before .before .before .before .before .before .before .before .before .before) .args .out .now) = (c .before .before .before .before .before .before .before .before .before .before .before .before .before .before .before .before .before .before .before .before .before .before .before) .pre in
-      omega (arith, h, n, (c .before .before .before .before .before .before .before .before .before .before .before .before .before .before .before .before .before .before .before .before .before .digits-of) .ensures .0, (c .before .before .before .before .before .before .before .before .before .before .before .before .digits-of2) .ensures .0, (c .before .before .before .before .before .before .put-counts) .ensures .0, (c .before .before .before .before .before .before .before .before .before .before .before .before .before .before .before .before .before .before .before .before .before .before .before) .good)
+    let l = (c .before .before .before .before .before .before .before .before .before .before .before .before .before .before .before .before .before .before .before .before .before .before .before) .args .line in
+    let n = line-length (l .function) (l .version) (countsOf (l .counts)) in
+    let h : (c .before .before .before .before .before .before .before .before .before .before .before .before .before .before .before .before .before .before .before .before .before .before .before) .args .at + length (lineText (l .function) (l .version) (countsOf (l .counts))) ≤ length ((c .before .before .before .before .before .before .before .before .before .before .before .before .before .before .before .before .before .before .before .before .before .before .before) .args .out .now) = (c .before .before .before .before .before .before .before .before .before .before .before .before .before .before .before .before .before .before .before .before .before .before .before) .pre in
+    omega (arith, h, n, (c .before .before .before .before .before .before .before .before .before .before .before .before .before .before .before .before .before .before .before .before .before .digits-of) .ensures .0, (c .before .before .before .before .before .before .before .before .before .before .before .before .digits-of2) .ensures .0, (c .before .before .before .before .before .before .put-counts) .ensures .0, (c .before .before .before .before .before .before .before .before .before .before .before .before .before .before .before .before .before .before .before .before .before .before .before) .good)
 
 same-length : tie.Need-same-length
 same-length c = search needs
@@ -65,9 +65,9 @@ same-length c = search needs
 returns : tie.Need-returns
 unfolding lineOf text
 returns c =
-      let l = (c .before .before .before .before .before .before .before .before .before .before .before .before .before .before .before .before .before .before .before .before .before .before .before) .args .line in
-      let w = line-put (l .function) (l .version) (countsOf (l .counts)) ((c .before .before .before .before .before .before .before .before .before .before .before .before .before .before .before .before .before .before .before .before .before .before .before) .pre) (record { writes = (c .before .before .before .before .before .before .before .before .before .before .before .before .before .before .before .before .before .before .before .put-number) .ensures; ends = ap (λ (n : ℕ). (c .before .before .before .before .before .before .before .before .before .before .before .before .before .before .before .before .before .before .before .before .before .before .before) .args .at + n) ((c .before .before .before .before .before .before .before .before .before .before .before .before .before .before .before .before .before .before .before .before .before .digits-of) .ensures .0) }) (record { writes = (c .before .before .before .before .before .before .before .before .before .before .before .before .before .before .before .put-byte) .ensures; ends = refl }) (record { writes = (c .before .before .before .before .before .before .before .before .before .before .put-number2) .ensures; ends = ap (λ (n : ℕ). (c .before .before .before .before .before .before .before .before .before .before .before .before .before .before .before .before .before .before .before .before .before .before .before) .args .at + (c .before .before .before .before .before .before .before .before .before .before .before .before .before .before .before .before .before .before .before .before .before .digits-of) .result + 1 + n) ((c .before .before .before .before .before .before .before .before .before .before .before .before .digits-of2) .ensures .0) }) (record { writes = (c .before .before .before .before .before .before .put-counts) .ensures .1; ends = (c .before .before .before .before .before .before .put-counts) .ensures .0 }) (record { writes = (c .before .before .put-byte2) .ensures; ends = refl }) in
-      (w .ends, w .writes)
+    let l = (c .before .before .before .before .before .before .before .before .before .before .before .before .before .before .before .before .before .before .before .before .before .before .before) .args .line in
+    let w = line-put (l .function) (l .version) (countsOf (l .counts)) ((c .before .before .before .before .before .before .before .before .before .before .before .before .before .before .before .before .before .before .before .before .before .before .before) .pre) (record { writes = (c .before .before .before .before .before .before .before .before .before .before .before .before .before .before .before .before .before .before .before .put-number) .ensures; ends = ap (λ (n : ℕ). (c .before .before .before .before .before .before .before .before .before .before .before .before .before .before .before .before .before .before .before .before .before .before .before) .args .at + n) ((c .before .before .before .before .before .before .before .before .before .before .before .before .before .before .before .before .before .before .before .before .before .digits-of) .ensures .0) }) (record { writes = (c .before .before .before .before .before .before .before .before .before .before .before .before .before .before .before .put-byte) .ensures; ends = refl }) (record { writes = (c .before .before .before .before .before .before .before .before .before .before .put-number2) .ensures; ends = ap (λ (n : ℕ). (c .before .before .before .before .before .before .before .before .before .before .before .before .before .before .before .before .before .before .before .before .before .before .before) .args .at + (c .before .before .before .before .before .before .before .before .before .before .before .before .before .before .before .before .before .before .before .before .before .digits-of) .result + 1 + n) ((c .before .before .before .before .before .before .before .before .before .before .before .before .digits-of2) .ensures .0) }) (record { writes = (c .before .before .before .before .before .before .put-counts) .ensures .1; ends = (c .before .before .before .before .before .before .put-counts) .ensures .0 }) (record { writes = (c .before .before .put-byte2) .ensures; ends = refl }) in
+    (w .ends, w .writes)
 
 pub put-line-spec : {M : Type 1} → statement M
 put-line-spec =

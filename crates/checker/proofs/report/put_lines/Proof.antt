@@ -26,65 +26,65 @@ abbrev μ-loop : tie.MeasureT-loop
 
 loop-holds : tie.Need-loop-holds Inv-loop μ-loop
 loop-holds c =
-      (omega arith, refl, writing-first _ _)
+    (omega arith, refl, writing-first _ _)
 
 size-at-requires : tie.Need-size-at-requires Inv-loop μ-loop
 size-at-requires c κs =
-      search needs
+    search needs
 
 same-length : tie.Need-same-length Inv-loop μ-loop
 same-length c =
-      (c .before .before .before .loop) .inv .1
+    (c .before .before .before .loop) .inv .1
 
 returns : tie.Need-returns Inv-loop μ-loop
 returns c =
-      let w = writing-last (writing-as (none-left (program (records (now ((c .before .before .before .before .before .before) .args .image)))) _ _ (view-past _ _ (sym ((c .before .size-at) .ensures) ∙ (c .if1) .taken))) ((c .before .before .before .loop) .inv .2)) in
-      (w .ends ∙ zero-add _, w .writes)
+    let w = writing-last (writing-as (none-left (program (records (now ((c .before .before .before .before .before .before) .args .image)))) _ _ (view-past _ _ (sym ((c .before .size-at) .ensures) ∙ (c .if1) .taken))) ((c .before .before .before .loop) .inv .2)) in
+    (w .ends ∙ zero-add _, w .writes)
 
 kind-at-requires : tie.Need-kind-at-requires Inv-loop μ-loop
 kind-at-requires c κs =
-      search needs
+    search needs
 
 line-at-requires : tie.Need-line-at-requires Inv-loop μ-loop
 line-at-requires c κs =
-      search needs
+    search needs
 
 put-line-requires : tie.Need-put-line-requires Inv-loop μ-loop
 put-line-requires c κs =
-      rw ((c .line-at) .ensures, (c .before .before .before .before .before .before .before .loop) .inv .1) (writing-fits (versionLine (program (records (now ((c .before .before .before .before .before .before .before .before .before .before) .args .image)))) (versionAt (now ((c .before .before .before .before .before .before .before .before .before .before) .args .image)) ((c .before .before .before .before .before .before .before .loop) .p))) (linesAhead (program (records (now ((c .before .before .before .before .before .before .before .before .before .before) .args .image)))) (now ((c .before .before .before .before .before .before .before .before .before .before) .args .image)) ((c .before .before .before .before .before .before .before .loop) .p + (c .before .before .before .before .before .size-at) .result)) (writing-as (line-left (program (records (now ((c .before .before .before .before .before .before .before .before .before .before) .args .image)))) (record { inside = (c .before .before .before .before .before .before .loop-test) .taken; size = (c .before .before .before .before .before .size-at) .ensures; whole = (c .before .before .before .before .if1) .left; kind = (c .before .before .before .kind-at) .ensures }) ((c .before .before .if2) .taken)) ((c .before .before .before .before .before .before .before .loop) .inv .2)) ((c .before .before .before .before .before .before .before .before .before .before) .pre))
+    rw ((c .line-at) .ensures, (c .before .before .before .before .before .before .before .loop) .inv .1) (writing-fits (versionLine (program (records (now ((c .before .before .before .before .before .before .before .before .before .before) .args .image)))) (versionAt (now ((c .before .before .before .before .before .before .before .before .before .before) .args .image)) ((c .before .before .before .before .before .before .before .loop) .p))) (linesAhead (program (records (now ((c .before .before .before .before .before .before .before .before .before .before) .args .image)))) (now ((c .before .before .before .before .before .before .before .before .before .before) .args .image)) ((c .before .before .before .before .before .before .before .loop) .p + (c .before .before .before .before .before .size-at) .result)) (writing-as (line-left (program (records (now ((c .before .before .before .before .before .before .before .before .before .before) .args .image)))) (record { inside = (c .before .before .before .before .before .before .loop-test) .taken; size = (c .before .before .before .before .before .size-at) .ensures; whole = (c .before .before .before .before .if1) .left; kind = (c .before .before .before .kind-at) .ensures }) ((c .before .before .if2) .taken)) ((c .before .before .before .before .before .before .before .loop) .inv .2)) ((c .before .before .before .before .before .before .before .before .before .before) .pre))
 
 add-p : tie.Need-add-p Inv-loop μ-loop
 add-p c =
-      omega (arith, size-in _ _ ((c .before .before .before .before .before .before .before .before .size-at) .ensures) ((c .before .before .before .before .before .before .before .if1) .left))
+    omega (arith, size-in _ _ ((c .before .before .before .before .before .before .before .before .size-at) .ensures) ((c .before .before .before .before .before .before .before .if1) .left))
 
 loop-less : tie.Need-loop-less Inv-loop μ-loop
 loop-less c =
-      omega (arith, (c .before .before .before .before .before .before .before .if1) .left, (c .before .before .before .before .before .before .before .before .before .loop-test) .taken)
+    omega (arith, (c .before .before .before .before .before .before .before .if1) .left, (c .before .before .before .before .before .before .before .before .before .loop-test) .taken)
 
 loop-again : tie.Need-loop-again Inv-loop μ-loop
 loop-again c =
-      (omega (arith, size-in _ _ ((c .before .before .before .before .before .before .before .before .size-at) .ensures) ((c .before .before .before .before .before .before .before .if1) .left)), ap length ((c .before .before .put-line) .ensures .1) ∙ placed-length _ _ _ ∙ (c .before .before .before .before .before .before .before .before .before .before .loop) .inv .1, writing-next (versionLine (program (records (now ((c .before .before .before .before .before .before .before .before .before .before .before .before .before) .args .image)))) (versionAt (now ((c .before .before .before .before .before .before .before .before .before .before .before .before .before) .args .image)) ((c .before .before .before .before .before .before .before .before .before .before .loop) .p))) (linesAhead (program (records (now ((c .before .before .before .before .before .before .before .before .before .before .before .before .before) .args .image)))) (now ((c .before .before .before .before .before .before .before .before .before .before .before .before .before) .args .image)) ((c .before .before .before .before .before .before .before .before .before .before .loop) .p + (c .before .before .before .before .before .before .before .before .size-at) .result)) (writing-as (line-left (program (records (now ((c .before .before .before .before .before .before .before .before .before .before .before .before .before) .args .image)))) (record { inside = (c .before .before .before .before .before .before .before .before .before .loop-test) .taken; size = (c .before .before .before .before .before .before .before .before .size-at) .ensures; whole = (c .before .before .before .before .before .before .before .if1) .left; kind = (c .before .before .before .before .before .before .kind-at) .ensures }) ((c .before .before .before .before .before .if2) .taken)) ((c .before .before .before .before .before .before .before .before .before .before .loop) .inv .2)) ((c .before .before .before .before .before .before .before .before .before .before .before .before .before) .pre) (record { writes = rw ((c .before .before .before .line-at) .ensures) at ((c .before .before .put-line) .ensures .1); ends = rw ((c .before .before .before .line-at) .ensures) at ((c .before .before .put-line) .ensures .0) }))
+    (omega (arith, size-in _ _ ((c .before .before .before .before .before .before .before .before .size-at) .ensures) ((c .before .before .before .before .before .before .before .if1) .left)), ap length ((c .before .before .put-line) .ensures .1) ∙ placed-length _ _ _ ∙ (c .before .before .before .before .before .before .before .before .before .before .loop) .inv .1, writing-next (versionLine (program (records (now ((c .before .before .before .before .before .before .before .before .before .before .before .before .before) .args .image)))) (versionAt (now ((c .before .before .before .before .before .before .before .before .before .before .before .before .before) .args .image)) ((c .before .before .before .before .before .before .before .before .before .before .loop) .p))) (linesAhead (program (records (now ((c .before .before .before .before .before .before .before .before .before .before .before .before .before) .args .image)))) (now ((c .before .before .before .before .before .before .before .before .before .before .before .before .before) .args .image)) ((c .before .before .before .before .before .before .before .before .before .before .loop) .p + (c .before .before .before .before .before .before .before .before .size-at) .result)) (writing-as (line-left (program (records (now ((c .before .before .before .before .before .before .before .before .before .before .before .before .before) .args .image)))) (record { inside = (c .before .before .before .before .before .before .before .before .before .loop-test) .taken; size = (c .before .before .before .before .before .before .before .before .size-at) .ensures; whole = (c .before .before .before .before .before .before .before .if1) .left; kind = (c .before .before .before .before .before .before .kind-at) .ensures }) ((c .before .before .before .before .before .if2) .taken)) ((c .before .before .before .before .before .before .before .before .before .before .loop) .inv .2)) ((c .before .before .before .before .before .before .before .before .before .before .before .before .before) .pre) (record { writes = rw ((c .before .before .before .line-at) .ensures) at ((c .before .before .put-line) .ensures .1); ends = rw ((c .before .before .before .line-at) .ensures) at ((c .before .before .put-line) .ensures .0) }))
 
 add-p-2 : tie.Need-add-p-2 Inv-loop μ-loop
 add-p-2 c =
-      omega (arith, size-in _ _ ((c .before .before .before .size-at) .ensures) ((c .before .before .if1) .left))
+    omega (arith, size-in _ _ ((c .before .before .before .size-at) .ensures) ((c .before .before .if1) .left))
 
 loop-less-2 : tie.Need-loop-less-2 Inv-loop μ-loop
 loop-less-2 c =
-      omega (arith, (c .before .before .if1) .left, (c .before .before .before .before .loop-test) .taken)
+    omega (arith, (c .before .before .if1) .left, (c .before .before .before .before .loop-test) .taken)
 
 loop-again-2 : tie.Need-loop-again-2 Inv-loop μ-loop
 loop-again-2 c =
-      (omega (arith, size-in _ _ ((c .before .before .before .size-at) .ensures) ((c .before .before .if1) .left)), (c .before .before .before .before .before .loop) .inv .1, writing-as (same-left (program (records (now ((c .before .before .before .before .before .before .before .before) .args .image)))) (record { inside = (c .before .before .before .before .loop-test) .taken; size = (c .before .before .before .size-at) .ensures; whole = (c .before .before .if1) .left; kind = (c .before .kind-at) .ensures }) ((c .if2) .left)) ((c .before .before .before .before .before .loop) .inv .2))
+    (omega (arith, size-in _ _ ((c .before .before .before .size-at) .ensures) ((c .before .before .if1) .left)), (c .before .before .before .before .before .loop) .inv .1, writing-as (same-left (program (records (now ((c .before .before .before .before .before .before .before .before) .args .image)))) (record { inside = (c .before .before .before .before .loop-test) .taken; size = (c .before .before .before .size-at) .ensures; whole = (c .before .before .if1) .left; kind = (c .before .kind-at) .ensures }) ((c .if2) .left)) ((c .before .before .before .before .before .loop) .inv .2))
 
 same-length-2 : tie.Need-same-length-2 Inv-loop μ-loop
 same-length-2 c =
-      (c .before .loop) .inv .1
+    (c .before .loop) .inv .1
 
 returns-2 : tie.Need-returns-2 Inv-loop μ-loop
 returns-2 c =
-      let w = writing-last (writing-as (none-left (program (records (now ((c .before .before .before .before) .args .image)))) _ _ (view-end _ _ ((c .loop-test) .left))) ((c .before .loop) .inv .2)) in
-      (w .ends ∙ zero-add _, w .writes)
+    let w = writing-last (writing-as (none-left (program (records (now ((c .before .before .before .before) .args .image)))) _ _ (view-end _ _ ((c .loop-test) .left))) ((c .before .loop) .inv .2)) in
+    (w .ends ∙ zero-add _, w .writes)
 
 pub put-lines-spec : {M : Type 1} → statement M
 put-lines-spec =

@@ -14,7 +14,7 @@ enum-known-n c = search needs
 
 report-accepted-requires : tie.Need-report-accepted-requires
 report-accepted-requires c κs =
-      accepted-short _ _ (sym ((c .before .before .before .before .verdict) .ensures) ∙ (c .before .before .n) .given .1)
+    accepted-short _ _ (sym ((c .before .before .before .before .verdict) .ensures) ∙ (c .before .before .n) .given .1)
 
 enum-known-n-2 : tie.Need-enum-known-n-2
 enum-known-n-2 c = search needs
@@ -27,14 +27,14 @@ same-length c = search needs
 
 returns : tie.Need-returns
 returns c =
-      told-accepted _ _ (sym ((c .before .before .before .before .before .before .before .verdict) .ensures) ∙ (c .before .before .before .before .before .n) .given .1) ((c .before .before .report-accepted) .ensures)
+    told-accepted _ _ (sym ((c .before .before .before .before .before .before .before .verdict) .ensures) ∙ (c .before .before .before .before .before .n) .given .1) ((c .before .before .report-accepted) .ensures)
 
 same-length-2 : tie.Need-same-length-2
 same-length-2 c = search needs
 
 returns-2 : tie.Need-returns-2
 returns-2 c =
-      told-refused _ _ _ (sym ((c .before .before .before .before .before .before .before .verdict) .ensures) ∙ (c .before .before .before .before .before .n2) .given .1) ((c .before .before .report-refused) .ensures)
+    told-refused _ _ _ (sym ((c .before .before .before .before .before .before .before .verdict) .ensures) ∙ (c .before .before .before .before .before .n2) .given .1) ((c .before .before .report-refused) .ensures)
 
 pub report-spec : {M : Type 1} → statement M
 report-spec =
