@@ -168,7 +168,7 @@ fn dispatching(image: &[u8], p: usize) -> Flowed
 }
 
 /// What the instruction at `p` does, where `entered` is what the block does that a PROM names. The table is the image's.
-pub fn instruction(image: &[u8], table: &[usize; 128], p: usize, entered: Flowed) -> Flowed
+pub(crate) fn instruction(image: &[u8], table: &[usize; 128], p: usize, entered: Flowed) -> Flowed
     requires { ⌜ now table ≡ tableOf (now image) ⌝ }
     ensures { λ r. ⌜ flowed r ≡ actionOf (λ block. flowed entered) (touch (program (records (now (image .entry)))) (instrAt (now (image .entry)) p)) ⌝ }
 {

@@ -73,7 +73,7 @@ fn walk_instruction(image: &[u8], table: &[usize; 128], v: usize, b: usize, p: u
 
 /// What the body of the version at `v` does. The table is the image's: its callers make it once for many versions.
 /// A block is walked as often as it is named: once, where question 7 holds.
-pub fn body_action(image: &[u8], table: &[usize; 128], v: usize) -> Flowed
+pub(crate) fn body_action(image: &[u8], table: &[usize; 128], v: usize) -> Flowed
     requires { ⌜ now table ≡ tableOf (now image) ⌝ }
     ensures { λ r. ⌜ flowed r ≡ bodyAction (program (records (now (image .entry)))) (versionAt (now (image .entry)) v) ⌝ }
 {

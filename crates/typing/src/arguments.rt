@@ -150,7 +150,7 @@ fn return_fits(image: &[u8], v: usize, p: usize, t: usize) -> bool
 }
 
 /// Do the types of the call at `p` in the block `b` fit, where it returns the type `t`?
-pub fn call_fits(image: &[u8], v: usize, b: usize, p: usize, call: Call, t: usize) -> bool
+pub(crate) fn call_fits(image: &[u8], v: usize, b: usize, p: usize, call: Call, t: usize) -> bool
     requires { ⌜ Small call ⌝ }
     ensures { λ r. ⌜ r ≡ fitsCall (versionAt (now (image .entry)) v) b (bodyAt (now (image .entry)) p ! 0) (argumentsAt (now (image .entry)) p call) t ⌝ }
 {

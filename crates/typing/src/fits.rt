@@ -248,7 +248,13 @@ fn dispatch_fits(image: &[u8], v: usize, b: usize, p: usize) -> bool
 }
 
 /// Do the types of the instruction fit?
-pub fn instruction_fits(image: &[u8], table: &[usize; 128], v: usize, b: usize, p: usize) -> bool
+pub(crate) fn instruction_fits(
+    image: &[u8],
+    table: &[usize; 128],
+    v: usize,
+    b: usize,
+    p: usize,
+) -> bool
     requires { ⌜ now table ≡ tableOf (now image) ⌝ }
     ensures { λ r. ⌜ r ≡ fits (program (records (now (image .entry)))) (versionAt (now (image .entry)) v) b (instrAt (now (image .entry)) p) ⌝ }
 {
