@@ -1,0 +1,129 @@
+-- Questions 11 to 13 behind the ten, and the state of a begun run before its first step.
+use mathlib.Core.List.{List, [], _∷_}
+use mathlib.Core.Option.{Option, bind as _>>=_, none, some}
+use mathlib.Core.Bool.{_&&_, true, false}
+use Prim.Native.Nat.{ℕ, zero, suc}
+use lib.IntN.{ℤ, pos, negsuc}
+use lib.ListN.{length, drop, replicate, take}
+use lib.Dec.{leb}
+use Rattle.layout.specs.Records.{records}
+use Rattle.program.specs.Program.{Version, Program, program, findVersion, parameterTypes}
+use Rattle.typing.specs.Types.{kindOf, within}
+use Rattle.checker.specs.Verdicts.{verdictOf}
+use Rattle.checker.specs.declared.Verdict.{Verdict}
+use Rattle.machine.specs.States.{ACTIVATIONS, ITEMS, PROMISES, VECTORS, newFrame, newVector, over}
+use Rattle.machine.specs.Calls.{frameFor}
+use Rattle.machine.specs.Runs.{longEnough, budgetOf}
+use Rattle.machine.specs.declared.Answer.{Answer}
+use Rattle.machine.specs.declared.Begun.{Begun}
+use Rattle.machine.specs.declared.Cache.{Cache}
+use Rattle.machine.specs.declared.Entry.{Entry}
+use Rattle.machine.specs.declared.Frame.{Frame}
+use Rattle.machine.specs.declared.Opener.{Opener}
+use Rattle.machine.specs.declared.Ran.{Ran}
+use Rattle.machine.specs.declared.State.{State}
+use Rattle.machine.specs.declared.Status.{Status}
+use Rattle.machine.specs.declared.Value.{Value}
+use Rattle.machine.specs.declared.Vector.{Vector}
+
+-- ---- 12: arguments
+
+pub data Given : Type 0 where
+  integer : ℤ → Given
+  vector : List ℤ → Given
+
+-- −1 and an integer, or 0..16 and that many integers: the argument, and the words behind it
+unfoldable pub first : List ℤ → Option (Given × List ℤ)
+first [] = none
+first (pos n ∷ ws) = elim (leb n ITEMS && leb n (length ws)) [ true ↦ some (vector (take n ws), drop n ws) | false ↦ none ]
+first (negsuc zero ∷ []) = none
+first (negsuc zero ∷ z ∷ ws) = some (integer z, ws)
+first (negsuc (suc n) ∷ ws) = none
+
+unfoldable pub givenKind : Given → ℕ
+givenKind (integer z) = 2
+givenKind (vector xs) = 3
+
+-- an argument matches its parameter's kind; a promise parameter never matches
+unfoldable pub matched : ℕ → Given × List ℤ → Option (Given × List ℤ)
+matched t p = elim (within (givenKind (p .0)) (kindOf t)) [ true ↦ some p | false ↦ none ]
+
+-- the arguments for parameters of these types, where the words use up exactly
+unfoldable pub arguments : List ℕ → List ℤ → Option (List Given)
+arguments [] [] = some []
+arguments [] (w ∷ ws) = none
+arguments (t ∷ ts) ws = do
+  p ← first ws
+  q ← matched t p
+  xs ← arguments ts (q .1)
+  some (q .0 ∷ xs)
+
+-- ---- the first state
+
+-- vector arguments take the places from n on
+unfoldable pub valuesOf : List Given → ℕ → List Value
+valuesOf [] n = []
+valuesOf (integer z ∷ xs) n = Value.Integer z ∷ valuesOf xs n
+valuesOf (vector ys ∷ xs) n = Value.Vector n ∷ valuesOf xs (suc n)
+
+unfoldable pub vectorsOf : List Given → List Vector
+vectorsOf [] = []
+vectorsOf (integer z ∷ xs) = vectorsOf xs
+vectorsOf (vector ys ∷ xs) = newVector ys ∷ vectorsOf xs
+
+-- these frames' calls at the start of their bodies, and these vectors
+unfoldable pub firstState : List Frame → List Vector → State
+firstState fs ws = record {
+  frames = over fs (replicate ACTIVATIONS (newFrame 0 0));
+  calls = length fs;
+  activations = replicate ACTIVATIONS (record { opener = Opener.Call; d = 0; frame = 0; block = 0; next = 0 });
+  depth = length fs;
+  vectors = over ws (replicate VECTORS (newVector []));
+  promises = replicate PROMISES (record { frame = 0; block = 0; cache = Cache.Unforced });
+  result = replicate ITEMS (pos 0);
+  status = Status.Running;
+}
+
+-- ---- the questions
+
+-- a refusal; no call is live
+unfoldable pub refused : ℕ → ℕ → Begun
+refused q p = record { state = firstState [] []; entry = Entry.Refused q p }
+
+-- 11 to 13, each with offset 0
+unfoldable pub question13 : State → List ℤ → Begun
+question13 s buffer = elim (longEnough buffer) [ true ↦ record { state = s; entry = Entry.Begun } | false ↦ refused 13 0 ]
+
+unfoldable pub question12 : Version → Option (List Given) → List ℤ → Begun
+question12 W none buffer = refused 12 0
+question12 W (some xs) buffer = question13 (firstState (frameFor W (valuesOf xs 0) ∷ []) (vectorsOf xs)) buffer
+
+unfoldable pub question11 : Option Version → List ℤ → List ℤ → Begun
+question11 none words buffer = refused 11 0
+question11 (some W) words buffer = question12 W (arguments (parameterTypes W) words) buffer
+
+-- a run of the version v of the function f of a program
+unfoldable pub enteredOf : Program → ℕ → ℕ → List ℤ → List ℤ → Begun
+enteredOf P f v words buffer = question11 (findVersion P f v) words buffer
+
+-- after the ten questions to its image
+unfoldable pub beginAfter : Verdict → Program → ℕ → ℕ → List ℤ → List ℤ → Begun
+beginAfter (Verdict.Refused q p) P f v words buffer = refused q p
+beginAfter (Verdict.Accepted n) P f v words buffer = enteredOf P f v words buffer
+
+-- the program of an image
+abbrev pub programOf : List ℕ → Program
+programOf image = program (records image)
+
+unfoldable pub beginOf : List ℕ → ℕ → ℕ → List ℤ → List ℤ → Begun
+beginOf image f v words buffer = beginAfter (verdictOf image) (programOf image) f v words buffer
+
+-- ---- from the start
+
+-- a budget given at the start counts as the first; a refusal takes no step
+unfoldable pub runAfter : Entry → Program → State → ℕ → List ℤ → Ran
+runAfter (Entry.Refused q p) P s n buffer = record { state = s; answer = Answer.Refused q p; steps = 0 }
+runAfter Entry.Begun P s n buffer = budgetOf P s n buffer
+
+unfoldable pub runOf : List ℕ → ℕ → ℕ → List ℤ → ℕ → List ℤ → Ran
+runOf image f v words n buffer = let b = beginOf image f v words buffer in runAfter (b .entry) (programOf image) (b .state) n buffer

@@ -1,0 +1,164 @@
+-- Steps: one instruction or one block end is one step; one clause for each kind of instruction.
+use mathlib.Core.List.{List, [], _∷_, map}
+use mathlib.Core.Bool.{cond, not}
+use Prim.Native.Nat.{ℕ, zero, suc, _-_}
+use lib.IntN.{pos}
+use lib.ListN.{length, getD, set}
+use Rattle.program.specs.Program.{Argument, Instr, LIT, MOVE, USE, DUP, VEC, LEN, GET, SET, ARITH, SELECT, CAST, NAMED, STORE, PROM, FORCE, PEEK, POKE, CALL, DISPATCH, Line, Block, Version, Program, findVersion, parameterTypes}
+use Rattle.typing.specs.Types.{kindOf, within}
+use Rattle.machine.specs.Try.{Try, got, stuck, _>>=_, _>>_, stuckUnless, endUnless, orStuck, at, each}
+use Rattle.machine.specs.Values.{arith, index, isZero}
+use Rattle.machine.specs.States.{assign, freePromise, freeVector, integer, itemsOf, kindIn, liveActivations, liveFrames, name, newVector, plain, promise, store, value, vector, vectorCounts, withPromise, withVector}
+use Rattle.machine.specs.Calls.{enter, finish, force, matching, passed, picked}
+use Rattle.machine.specs.declared.Activation.{Activation}
+use Rattle.machine.specs.declared.Cache.{Cache}
+use Rattle.machine.specs.declared.End.{End}
+use Rattle.machine.specs.declared.Frame.{Frame}
+use Rattle.machine.specs.declared.State.{State}
+use Rattle.machine.specs.declared.Value.{Value}
+
+-- ---- instructions
+
+-- Stuck: SET on a vector that another register or name holds; it counts even with the register a emptied
+unfoldable pub alone : State → ℕ → ℕ → ℕ → Try (Unit {0})
+alone s k a v = do
+  t ← assign s k a Value.Empty
+  stuckUnless (not (vectorCounts t v))
+
+-- the registers of a DISPATCH's pairs
+abbrev pub registersOf : List Argument → List ℕ
+registersOf pairs = map (λ (a : Argument). a .register) pairs
+
+-- in the frame f, which stands at the place k and is of the version W; s already stands at the next instruction
+unfoldable pub execute : Program → State → ℕ → Frame → Version → Instr → Try State
+execute P s k f W (LIT d i) = assign s k d (Value.Integer i)
+execute P s k f W (MOVE d a) = do
+  v ← value f a
+  assign s k d v
+execute P s k f W (USE d a) = do
+  v ← vector f a
+  t ← assign s k a Value.Empty
+  assign t k d (Value.Vector v)
+execute P s k f W (DUP d a) = do
+  v ← vector f a
+  w ← at (s .vectors) v
+  n ← freeVector s
+  assign (withVector s n w) k d (Value.Vector n)
+execute P s k f W (VEC d rs) = do
+  xs ← each (integer f) rs
+  n ← freeVector s
+  assign (withVector s n (newVector xs)) k d (Value.Vector n)
+execute P s k f W (LEN d a) = do
+  v ← vector f a
+  w ← at (s .vectors) v
+  assign s k d (Value.Integer (pos (length (itemsOf w))))
+execute P s k f W (GET d a i) = do
+  v ← vector f a
+  w ← at (s .vectors) v
+  z ← integer f i
+  j ← index z (length (itemsOf w))
+  assign s k d (Value.Integer (getD (itemsOf w) j (pos 0)))
+execute P s k f W (SET a i e) = do
+  v ← vector f a
+  w ← at (s .vectors) v
+  z ← integer f i
+  x ← integer f e
+  alone s k a v
+  j ← index z (length (itemsOf w))
+  got (withVector s v (record { length = w .length; items = set (w .items) j x }))
+execute P s k f W (ARITH d op a b) = do
+  x ← integer f a
+  y ← integer f b
+  z ← arith op x y
+  assign s k d (Value.Integer z)
+execute P s k f W (SELECT d c a b) = do
+  z ← integer f c
+  x ← integer f a
+  y ← integer f b
+  assign s k d (Value.Integer (cond (isZero z) y x))
+execute P s k f W (CAST d a) = do
+  v ← value f a
+  m ← kindIn P s v
+  t ← at (W .types) d
+  endUnless End.Undef (within m (kindOf t))
+  assign s k d v
+execute P s k f W (NAMED d x) = do
+  v ← name f x
+  assign s k d v
+execute P s k f W (STORE x a) = do
+  v ← plain f a
+  store s k x v
+execute P s k f W (PROM d block) = do
+  at (W .blocks) block
+  n ← freePromise s
+  assign (withPromise s n (record { frame = k; block = block; cache = Cache.Unforced })) k d (Value.Promise n)
+execute P s k f W (FORCE d a) = do
+  p ← promise f a
+  q ← at (s .promises) p
+  force s k d p q (q .cache)
+execute P s k f W (PEEK d a x) = do
+  p ← promise f a
+  q ← at (s .promises) p
+  g ← at (liveFrames s) (q .frame)
+  v ← name g x
+  assign s k d v
+execute P s k f W (POKE a x e) = do
+  p ← promise f a
+  q ← at (s .promises) p
+  v ← plain f e
+  store s (q .frame) x v
+execute P s k f W (CALL d g w rs) = do
+  X ← orStuck (findVersion P g w)
+  vs ← each (value f) rs
+  ks ← each (kindIn P s) vs
+  stuckUnless (matching ks (parameterTypes X))
+  enter s k d X rs vs
+execute P s k f W (DISPATCH d g mark ret pairs) = do
+  vs ← each (value f) (registersOf pairs)
+  ks ← each (kindIn P s) vs
+  X ← picked P g mark ret pairs ks
+  enter s k d X (registersOf pairs) vs
+
+-- ---- the step
+
+-- where a run stands: the activation on top, its frame, version and block
+pub record Here : Type 0 where
+  pub activation : Activation
+  pub frame : Frame
+  pub version : Version
+  pub block : Block
+
+unfoldable pub here : Program → State → Try Here
+here P s = do
+  a ← at (liveActivations s) (s .depth - 1)
+  f ← at (liveFrames s) (a .frame)
+  W ← orStuck (findVersion P (f .function) (f .version))
+  B ← at (W .blocks) (a .block)
+  got (record { activation = a; frame = f; version = W; block = B })
+
+-- at an instruction, at the block end, or (stuck) at neither
+pub data Position : Type 0 where
+  instruction : Instr → Position
+  blockEnd outside : Position
+
+unfoldable pub position : List Line → ℕ → Position
+position [] zero = blockEnd
+position [] (suc n) = outside
+position (l ∷ ls) zero = instruction (l .does)
+position (l ∷ ls) (suc n) = position ls n
+
+unfoldable pub positionOf : Here → Position
+positionOf h = position (h .block .code) (h .activation .next)
+
+unfoldable pub proceed : Program → State → Here → Position → Try State
+proceed P s h (instruction i) = execute P (passed s (h .activation)) (h .activation .frame) (h .frame) (h .version) i
+proceed P s h blockEnd = do
+  v ← value (h .frame) (h .block .result)
+  finish P s (h .activation) (h .version) v (h .activation .opener)
+proceed P s h outside = stuck
+
+-- what one step of a run that goes on comes to
+unfoldable pub advance : Program → State → Try State
+advance P s = do
+  h ← here P s
+  proceed P s h (positionOf h)

@@ -1,0 +1,42 @@
+-- Steps: what the operations on integers give.
+use mathlib.Core.List.{[], _∷_}
+use mathlib.Core.Bool.{Bool, false, cond, not}
+use Prim.Native.Nat.{ℕ}
+use lib.IntN.{ℤ, pos, negsuc, _+ℤ_, _-ℤ_, _*ℤ_}
+use lib.Signed.{ltZ, mag, quotZ}
+use lib.Dec.{eqb, ltb}
+use Rattle.layout.specs.Records.{choose}
+use Rattle.machine.specs.Try.{Try, got, stuck, stop, _>>_, endUnless}
+use Rattle.machine.specs.declared.End.{End}
+
+-- UNDEF: integer result out of range; `mag` is n both for n and for −(n + 1)
+unfoldable pub ranged : ℤ → Try ℤ
+ranged z = do
+  endUnless End.Undef (ltb (mag z) 2147483648)
+  got z
+
+unfoldable pub isZero : ℤ → Bool
+isZero (pos n) = eqb n 0
+isZero (negsuc n) = false
+
+-- UNDEF: divide by 0. Division rounds toward zero
+unfoldable pub divided : ℤ → ℤ → Try ℤ
+divided x y = do
+  endUnless End.Undef (not (isZero y))
+  ranged (quotZ x y)
+
+-- op 0 add, 1 subtract, 2 multiply, 3 divide, 4 less, which gives 1 or 0; there is no other
+unfoldable pub arith : ℕ → ℤ → ℤ → Try ℤ
+arith op x y = choose op stuck (
+    (0, ranged (x +ℤ y)) ∷
+    (1, ranged (x -ℤ y)) ∷
+    (2, ranged (x *ℤ y)) ∷
+    (3, divided x y) ∷
+    (4, got (cond (ltZ x y) (pos 1) (pos 0))) ∷ [])
+
+-- UNDEF: GET or SET index outside a vector of n items
+unfoldable pub index : ℤ → ℕ → Try ℕ
+index (pos i) n = do
+  endUnless End.Undef (ltb i n)
+  got i
+index (negsuc i) n = stop End.Undef

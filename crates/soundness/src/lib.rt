@@ -1,0 +1,1 @@
+//! Demand 3: the statement in `specs/Claim.antt`, its proof in `proofs/`. No code.
