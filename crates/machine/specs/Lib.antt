@@ -6,3 +6,4 @@ pub mod Steps
 pub mod Runs
 pub mod Begin
 pub mod Events
+pub mod Frames

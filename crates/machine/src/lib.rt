@@ -1,4 +1,7 @@
 //! The abstract machine of paper 01: the state of a run and the answers to those who drive it.
+ghost use mathlib.Core.Path.{_≡_};
+ghost use Rattle.machine.specs.States.{newFrame, register, named, withRegister, withName, refers, isVector, isPromise};
+ghost use Rattle.machine.specs.Frames.{readOf, writtenOf, isAt, holds};
 
 /// What a register or a name holds: nothing, an integer, or the place of a vector or a promise.
 pub enum Value {
@@ -124,9 +127,29 @@ pub struct Begun {
     pub entry: Entry,
 }
 
+/// What reading a register or a name finds: its value, or that the frame has no such place.
+pub enum Read {
+    Outside,
+    Holds(Value),
+}
+
+/// What writing a register or a name leaves: the frame, as it was where it has no such place, and whether it has one.
+pub struct Written {
+    pub frame: Frame,
+    pub inside: bool,
+}
+
+/// What a value may refer to: the vector or the promise at a place.
+enum Referent {
+    Vector(u8),
+    Promise(u8),
+}
+
 impl Frame {
+    /// How many registers a frame has.
     pub const REGISTERS: usize = 16;
 
+    /// How many names a frame has.
     pub const NAMES: usize = 8;
 
     /// A frame with empty registers and unset names.
@@ -144,7 +167,162 @@ impl Frame {
             }; 8],
         }
     }
+
+    /// Reads the register `r`.
+    pub fn register(self, r: u8) -> Read
+        ensures { λ x. ⌜ x ≡ readOf (register self r) ⌝ }
+    {
+        let i = r as usize;
+        if i < Frame::REGISTERS {
+            let place = self.registers[i];
+            let value = place.value;
+            Read::Holds(value)
+        } else {
+            Read::Outside
+        }
+    }
+
+    /// Reads the name `x`.
+    pub fn name(self, x: u8) -> Read
+        ensures { λ r. ⌜ r ≡ readOf (named self x) ⌝ }
+    {
+        let i = x as usize;
+        if i < Frame::NAMES {
+            let place = self.names[i];
+            let value = place.value;
+            Read::Holds(value)
+        } else {
+            Read::Outside
+        }
+    }
+
+    /// Puts the register `d` to the value.
+    pub fn with_register(mut self, d: u8, value: Value) -> Written
+        ensures { λ r. ⌜ r ≡ writtenOf self (withRegister self d value) ⌝ }
+    {
+        let i = d as usize;
+        if i < Frame::REGISTERS {
+            self.registers[i] = Place { value: value };
+            Written {
+                frame: self,
+                inside: true,
+            }
+        } else {
+            Written {
+                frame: self,
+                inside: false,
+            }
+        }
+    }
+
+    /// Puts the name `x` to the value.
+    pub fn with_name(mut self, x: u8, value: Value) -> Written
+        ensures { λ r. ⌜ r ≡ writtenOf self (withName self x value) ⌝ }
+    {
+        let i = x as usize;
+        if i < Frame::NAMES {
+            self.names[i] = Place { value: value };
+            Written {
+                frame: self,
+                inside: true,
+            }
+        } else {
+            Written {
+                frame: self,
+                inside: false,
+            }
+        }
+    }
+
+    /// Does a register or a name hold the vector at the place `v`?
+    pub fn refers_to_vector(self, v: u8) -> bool
+        ensures { λ r. ⌜ r ≡ refers (isVector v) self ⌝ }
+    {
+        self.refers_to(Referent::Vector(v))
+    }
+
+    /// Does a register or a name hold the promise at the place `p`?
+    pub fn refers_to_promise(self, p: u8) -> bool
+        ensures { λ r. ⌜ r ≡ refers (isPromise p) self ⌝ }
+    {
+        self.refers_to(Referent::Promise(p))
+    }
+
+    /// Does a register or a name refer to it?
+    fn refers_to(self, what: Referent) -> bool
+        ensures { λ r. ⌜ r ≡ refers (isAt what) self ⌝ }
+    {
+        let registers = self.registers;
+        if a_register_holds(registers, what) {
+            return true;
+        }
+        let names = self.names;
+        a_name_holds(names, what)
+    }
 }
 
-ghost use Rattle.machine.specs.States.{newFrame};
-ghost use mathlib.Core.Path.{_≡_};
+/// Does the value refer to it?
+fn is_at(value: Value, what: Referent) -> bool
+    ensures { λ r. ⌜ r ≡ isAt what value ⌝ }
+{
+    match what {
+        Referent::Vector(v) => is_vector(value, v),
+        Referent::Promise(p) => is_promise(value, p),
+    }
+}
+
+/// Is the value the vector at the place `v`?
+fn is_vector(value: Value, v: u8) -> bool
+    ensures { λ r. ⌜ r ≡ isVector v value ⌝ }
+{
+    match value {
+        Value::Empty => false,
+        Value::Integer(_) => false,
+        Value::Vector(w) => v == w,
+        Value::Promise(_) => false,
+    }
+}
+
+/// Is the value the promise at the place `p`?
+fn is_promise(value: Value, p: u8) -> bool
+    ensures { λ r. ⌜ r ≡ isPromise p value ⌝ }
+{
+    match value {
+        Value::Empty => false,
+        Value::Integer(_) => false,
+        Value::Vector(_) => false,
+        Value::Promise(q) => p == q,
+    }
+}
+
+/// Does one of the registers refer to it?
+fn a_register_holds(registers: [Place; 16], what: Referent) -> bool
+    ensures { λ r. ⌜ r ≡ holds (isAt what) registers ⌝ }
+{
+    let mut i: usize = 0;
+    while i < Frame::REGISTERS {
+        let place = registers[i];
+        let value = place.value;
+        if is_at(value, what) {
+            return true;
+        }
+        i += 1;
+    }
+    false
+}
+
+/// Does one of the names refer to it?
+fn a_name_holds(names: [Place; 8], what: Referent) -> bool
+    ensures { λ r. ⌜ r ≡ holds (isAt what) names ⌝ }
+{
+    let mut i: usize = 0;
+    while i < Frame::NAMES {
+        let place = names[i];
+        let value = place.value;
+        if is_at(value, what) {
+            return true;
+        }
+        i += 1;
+    }
+    false
+}

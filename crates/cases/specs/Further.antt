@@ -1,0 +1,264 @@
+-- Further cases that the paper decides, in a table of their own.
+use mathlib.Core.List.{List, [], _∷_, _++_}
+use Prim.Native.Nat.{ℕ}
+use lib.IntN.{pos}
+use lib.ListN.{set}
+use Rattle.layout.specs.Kinds as kind
+use Rattle.machine.specs.declared.Answer.{Answer}
+use Rattle.machine.specs.declared.End.{End}
+use Rattle.cases.specs.Table.{Row, row, neg, lentFrom, lent, refused_at_, integer, vector, undef, rec, I, setOn, quotient, endless}
+
+-- ---- images
+
+-- a promise parameter, forced
+abbrev pub forcing : List ℕ
+forcing =
+    rec kind.VERSION (0 ∷ 0 ∷ 1 ∷ 2 ∷ 2 ∷ 1 ∷ 4 ∷ 2 ∷ []) ++
+    rec kind.BLOCK (0 ∷ 1 ∷ 1 ∷ []) ++
+    rec kind.FORCE (1 ∷ 0 ∷ [])
+
+-- the parameter is stored as the name 3, then the name x is read
+abbrev pub storing : ℕ → List ℕ
+storing x =
+    rec kind.VERSION (0 ∷ 0 ∷ 1 ∷ 2 ∷ 1 ∷ 1 ∷ 2 ∷ 1 ∷ []) ++
+    rec kind.BLOCK (0 ∷ 1 ∷ 2 ∷ []) ++
+    rec kind.STORE (3 ∷ 0 ∷ []) ++
+    rec kind.NAMED (1 ∷ x ∷ [])
+
+-- a value cast to a vector
+abbrev pub casting : List ℕ
+casting =
+    rec kind.VERSION (0 ∷ 0 ∷ 1 ∷ 2 ∷ 3 ∷ 1 ∷ 1 ∷ 3 ∷ []) ++
+    rec kind.BLOCK (0 ∷ 1 ∷ 1 ∷ []) ++
+    rec kind.CAST (1 ∷ 0 ∷ [])
+
+-- the second parameter or the third, by the first
+abbrev pub selecting : List ℕ
+selecting =
+    rec kind.VERSION (0 ∷ 0 ∷ 3 ∷ 4 ∷ 2 ∷ 1 ∷ 2 ∷ 2 ∷ 2 ∷ 2 ∷ []) ++
+    rec kind.BLOCK (0 ∷ 3 ∷ 1 ∷ []) ++
+    rec kind.SELECT (3 ∷ 0 ∷ 1 ∷ 2 ∷ [])
+
+-- a copy of the parameter, used, returned owned
+abbrev pub emptying : List ℕ
+emptying =
+    rec kind.VERSION (0 ∷ 0 ∷ 1 ∷ 3 ∷ 0x13 ∷ 1 ∷ 0x03 ∷ 0x13 ∷ 0x13 ∷ []) ++
+    rec kind.BLOCK (0 ∷ 2 ∷ 2 ∷ []) ++
+    rec kind.DUP (1 ∷ 0 ∷ []) ++
+    rec kind.USE (2 ∷ 1 ∷ [])
+
+-- the item of a vector that the second parameter says
+abbrev pub getting : List ℕ
+getting =
+    rec kind.VERSION (0 ∷ 0 ∷ 2 ∷ 3 ∷ 2 ∷ 1 ∷ 3 ∷ 2 ∷ 2 ∷ []) ++
+    rec kind.BLOCK (0 ∷ 2 ∷ 1 ∷ []) ++
+    rec kind.GET (2 ∷ 0 ∷ 1 ∷ [])
+
+-- 0.0 stores 5 as its name 1 and gives 1.0 a promise of its frame; 1.0 copies that name to the name 2, which 0.0 returns
+abbrev pub peeking : List ℕ
+peeking =
+    rec kind.VERSION (0 ∷ 0 ∷ 0 ∷ 3 ∷ 1 ∷ 2 ∷ 2 ∷ 4 ∷ 1 ∷ []) ++
+    rec kind.BLOCK (1 ∷ 2 ∷ 5 ∷ []) ++
+    rec kind.LIT (0 ∷ 5 ∷ 0 ∷ 0 ∷ 0 ∷ []) ++
+    rec kind.STORE (1 ∷ 0 ∷ []) ++
+    rec kind.PROM (1 ∷ 1 ∷ []) ++
+    rec kind.CALL (2 ∷ 1 ∷ 0 ∷ 1 ∷ 1 ∷ []) ++
+    rec kind.NAMED (2 ∷ 2 ∷ []) ++
+    rec kind.BLOCK (0 ∷ 0 ∷ 0 ∷ []) ++
+    rec kind.VERSION (1 ∷ 0 ∷ 1 ∷ 2 ∷ 1 ∷ 1 ∷ 4 ∷ 1 ∷ []) ++
+    rec kind.BLOCK (1 ∷ 1 ∷ 2 ∷ []) ++
+    rec kind.PEEK (1 ∷ 0 ∷ 1 ∷ []) ++
+    rec kind.POKE (0 ∷ 2 ∷ 1 ∷ [])
+
+-- a promise of n + (a promise of n × n), forced twice
+abbrev pub nested : List ℕ
+nested =
+    rec kind.VERSION (0 ∷ 0 ∷ 1 ∷ 4 ∷ 2 ∷ 3 ∷ 2 ∷ 2 ∷ 4 ∷ 4 ∷ []) ++
+    rec kind.BLOCK (0 ∷ 1 ∷ 4 ∷ []) ++
+    rec kind.PROM (2 ∷ 1 ∷ []) ++
+    rec kind.PROM (3 ∷ 2 ∷ []) ++
+    rec kind.FORCE (1 ∷ 3 ∷ []) ++
+    rec kind.FORCE (1 ∷ 3 ∷ []) ++
+    rec kind.BLOCK (0 ∷ 1 ∷ 1 ∷ []) ++
+    rec kind.ARITH (1 ∷ 2 ∷ 0 ∷ 0 ∷ []) ++
+    rec kind.BLOCK (0 ∷ 1 ∷ 2 ∷ []) ++
+    rec kind.FORCE (1 ∷ 2 ∷ []) ++
+    rec kind.ARITH (1 ∷ 0 ∷ 1 ∷ 0 ∷ [])
+
+-- two promises that force each other
+abbrev pub circle : List ℕ
+circle =
+    rec kind.VERSION (0 ∷ 0 ∷ 0 ∷ 3 ∷ 2 ∷ 4 ∷ 2 ∷ 4 ∷ 4 ∷ []) ++
+    rec kind.BLOCK (0 ∷ 0 ∷ 5 ∷ []) ++
+    rec kind.LIT (0 ∷ 1 ∷ 0 ∷ 0 ∷ 0 ∷ []) ++
+    rec kind.PROM (1 ∷ 1 ∷ []) ++
+    rec kind.PROM (2 ∷ 2 ∷ []) ++
+    rec kind.PROM (1 ∷ 3 ∷ []) ++
+    rec kind.FORCE (0 ∷ 1 ∷ []) ++
+    rec kind.BLOCK (0 ∷ 0 ∷ 0 ∷ []) ++
+    rec kind.BLOCK (0 ∷ 0 ∷ 1 ∷ []) ++
+    rec kind.FORCE (0 ∷ 1 ∷ []) ++
+    rec kind.BLOCK (0 ∷ 0 ∷ 1 ∷ []) ++
+    rec kind.FORCE (0 ∷ 2 ∷ [])
+
+-- a quiet DISPATCH of the function 1, which has a version for vectors, a reflective one for integers, and a quiet one for integers that returns kind r
+abbrev pub dispatching : ℕ → List ℕ
+dispatching r =
+    rec kind.VERSION (0 ∷ 0 ∷ 1 ∷ 2 ∷ 2 ∷ 1 ∷ 0 ∷ 2 ∷ []) ++
+    rec kind.BLOCK (0 ∷ 1 ∷ 1 ∷ []) ++
+    rec kind.DISPATCH (1 ∷ 1 ∷ 0 ∷ 2 ∷ 1 ∷ 0 ∷ 0 ∷ []) ++
+    rec kind.VERSION (1 ∷ 0 ∷ 1 ∷ 2 ∷ 2 ∷ 1 ∷ 3 ∷ 2 ∷ []) ++
+    rec kind.BLOCK (0 ∷ 1 ∷ 1 ∷ []) ++
+    rec kind.LEN (1 ∷ 0 ∷ []) ++
+    rec kind.VERSION (1 ∷ 1 ∷ 1 ∷ 1 ∷ 2 ∷ 1 ∷ 2 ∷ []) ++
+    rec kind.BLOCK (1 ∷ 0 ∷ 0 ∷ []) ++
+    rec kind.VERSION (1 ∷ 2 ∷ 1 ∷ 2 ∷ r ∷ 1 ∷ 2 ∷ 2 ∷ []) ++
+    rec kind.BLOCK (0 ∷ 1 ∷ 1 ∷ []) ++
+    rec kind.ARITH (1 ∷ 0 ∷ 0 ∷ 0 ∷ [])
+
+-- 1.0 borrows a vector twice and gives its length, 1.1 owns it, sets place 1 to −3 and returns it
+abbrev pub owning : List ℕ
+owning =
+    rec kind.VERSION (0 ∷ 0 ∷ 1 ∷ 4 ∷ 0x13 ∷ 1 ∷ 0x03 ∷ 0x13 ∷ 0x13 ∷ 0x02 ∷ []) ++
+    rec kind.BLOCK (0 ∷ 2 ∷ 3 ∷ []) ++
+    rec kind.DUP (1 ∷ 0 ∷ []) ++
+    rec kind.CALL (3 ∷ 1 ∷ 0 ∷ 2 ∷ 1 ∷ 1 ∷ []) ++
+    rec kind.CALL (2 ∷ 1 ∷ 1 ∷ 1 ∷ 1 ∷ []) ++
+    rec kind.VERSION (1 ∷ 0 ∷ 2 ∷ 3 ∷ 2 ∷ 1 ∷ 0x23 ∷ 0x23 ∷ 2 ∷ []) ++
+    rec kind.BLOCK (0 ∷ 2 ∷ 1 ∷ []) ++
+    rec kind.LEN (2 ∷ 1 ∷ []) ++
+    rec kind.VERSION (1 ∷ 1 ∷ 1 ∷ 3 ∷ 0x13 ∷ 1 ∷ 0x13 ∷ 2 ∷ 2 ∷ []) ++
+    rec kind.BLOCK (0 ∷ 0 ∷ 3 ∷ []) ++
+    rec kind.LIT (1 ∷ 1 ∷ 0 ∷ 0 ∷ 0 ∷ []) ++
+    rec kind.LIT (2 ∷ 0xFD ∷ 0xFF ∷ 0xFF ∷ 0xFF ∷ []) ++
+    rec kind.SET (0 ∷ 1 ∷ 2 ∷ [])
+
+-- four vectors in four registers, one more into the register 0, then the body calls itself
+abbrev pub vectors : List ℕ
+vectors =
+    rec kind.VERSION (0 ∷ 0 ∷ 0 ∷ 4 ∷ 1 ∷ 1 ∷ 1 ∷ 1 ∷ 1 ∷ 1 ∷ []) ++
+    rec kind.BLOCK (0 ∷ 0 ∷ 6 ∷ []) ++
+    rec kind.VEC (0 ∷ 0 ∷ []) ++
+    rec kind.VEC (1 ∷ 0 ∷ []) ++
+    rec kind.VEC (2 ∷ 0 ∷ []) ++
+    rec kind.VEC (3 ∷ 0 ∷ []) ++
+    rec kind.VEC (0 ∷ 0 ∷ []) ++
+    rec kind.CALL (0 ∷ 0 ∷ 0 ∷ 0 ∷ [])
+
+-- seven promises, then the body calls itself
+abbrev pub promises : List ℕ
+promises =
+    rec kind.VERSION (0 ∷ 0 ∷ 0 ∷ 8 ∷ 2 ∷ 8 ∷ 2 ∷ 4 ∷ 4 ∷ 4 ∷ 4 ∷ 4 ∷ 4 ∷ 4 ∷ []) ++
+    rec kind.BLOCK (0 ∷ 0 ∷ 9 ∷ []) ++
+    rec kind.LIT (0 ∷ 1 ∷ 0 ∷ 0 ∷ 0 ∷ []) ++
+    rec kind.PROM (1 ∷ 1 ∷ []) ++
+    rec kind.PROM (2 ∷ 2 ∷ []) ++
+    rec kind.PROM (3 ∷ 3 ∷ []) ++
+    rec kind.PROM (4 ∷ 4 ∷ []) ++
+    rec kind.PROM (5 ∷ 5 ∷ []) ++
+    rec kind.PROM (6 ∷ 6 ∷ []) ++
+    rec kind.PROM (7 ∷ 7 ∷ []) ++
+    rec kind.CALL (0 ∷ 0 ∷ 0 ∷ 0 ∷ []) ++
+    rec kind.BLOCK (0 ∷ 0 ∷ 0 ∷ []) ++
+    rec kind.BLOCK (0 ∷ 0 ∷ 0 ∷ []) ++
+    rec kind.BLOCK (0 ∷ 0 ∷ 0 ∷ []) ++
+    rec kind.BLOCK (0 ∷ 0 ∷ 0 ∷ []) ++
+    rec kind.BLOCK (0 ∷ 0 ∷ 0 ∷ []) ++
+    rec kind.BLOCK (0 ∷ 0 ∷ 0 ∷ []) ++
+    rec kind.BLOCK (0 ∷ 0 ∷ 0 ∷ [])
+
+-- one owned register given as owned and borrowed in one call
+abbrev pub twice : List ℕ
+twice =
+    rec kind.VERSION (0 ∷ 0 ∷ 1 ∷ 3 ∷ 2 ∷ 1 ∷ 0x03 ∷ 0x13 ∷ 0x02 ∷ []) ++
+    rec kind.BLOCK (0 ∷ 2 ∷ 2 ∷ []) ++
+    rec kind.DUP (1 ∷ 0 ∷ []) ++
+    rec kind.CALL (2 ∷ 1 ∷ 0 ∷ 2 ∷ 1 ∷ 1 ∷ []) ++
+    rec kind.VERSION (1 ∷ 0 ∷ 2 ∷ 3 ∷ 2 ∷ 1 ∷ 0x13 ∷ 0x23 ∷ 0x02 ∷ []) ++
+    rec kind.BLOCK (0 ∷ 2 ∷ 1 ∷ []) ++
+    rec kind.LEN (2 ∷ 0 ∷ [])
+
+-- a register that only a forced block assigned is read
+abbrev pub assignedByForce : List ℕ
+assignedByForce =
+    rec kind.VERSION (0 ∷ 0 ∷ 0 ∷ 3 ∷ 2 ∷ 2 ∷ 2 ∷ 4 ∷ 2 ∷ []) ++
+    rec kind.BLOCK (0 ∷ 2 ∷ 2 ∷ []) ++
+    rec kind.PROM (1 ∷ 1 ∷ []) ++
+    rec kind.FORCE (0 ∷ 1 ∷ []) ++
+    rec kind.BLOCK (0 ∷ 2 ∷ 1 ∷ []) ++
+    rec kind.LIT (2 ∷ 5 ∷ 0 ∷ 0 ∷ 0 ∷ [])
+
+-- a register is emptied after a promise captured it
+abbrev pub captured : List ℕ
+captured =
+    rec kind.VERSION (0 ∷ 0 ∷ 1 ∷ 4 ∷ 0x13 ∷ 2 ∷ 0x13 ∷ 4 ∷ 2 ∷ 0x13 ∷ []) ++
+    rec kind.BLOCK (0 ∷ 3 ∷ 2 ∷ []) ++
+    rec kind.PROM (1 ∷ 1 ∷ []) ++
+    rec kind.USE (3 ∷ 0 ∷ []) ++
+    rec kind.BLOCK (0 ∷ 2 ∷ 1 ∷ []) ++
+    rec kind.LEN (2 ∷ 0 ∷ [])
+
+-- ---- the table
+
+unfoldable pub further : List Row
+further =
+    -- 11 comes before 12 and 13
+    row I 1 0 [] 1 (lent 15) (refused 11 at 0) 0 (lent 15) ∷
+    -- 12: no word; an integer missing; a vector for an integer; a word left over; neither −1 nor a length
+    row I 0 0 [] 1 (lent 15) (refused 12 at 0) 0 (lent 15) ∷
+    row I 0 0 (neg 1 ∷ []) 1 (lent 16) (refused 12 at 0) 0 (lent 16) ∷
+    row I 0 0 (pos 1 ∷ pos 7 ∷ []) 1 (lent 16) (refused 12 at 0) 0 (lent 16) ∷
+    row I 0 0 (neg 1 ∷ pos 7 ∷ pos 8 ∷ []) 1 (lent 16) (refused 12 at 0) 0 (lent 16) ∷
+    row I 0 0 (neg 2 ∷ pos 7 ∷ []) 1 (lent 16) (refused 12 at 0) 0 (lent 16) ∷
+    -- 12: a promise parameter never matches
+    row forcing 0 0 (neg 1 ∷ pos 7 ∷ []) 1 (lent 16) (refused 12 at 0) 0 (lent 16) ∷
+    -- 13: has the result buffer at least 16 places?
+    row I 0 0 (neg 1 ∷ pos 7 ∷ []) 1 (lent 15) (refused 13 at 0) 0 (lent 15) ∷
+    -- names; UNDEF: unset name
+    row (storing 3) 0 0 (neg 1 ∷ pos 7 ∷ []) 9 (lent 16) (integer (pos 7)) 3 (lent 16) ∷
+    row (storing 4) 0 0 (neg 1 ∷ pos 7 ∷ []) 9 (lent 16) undef 2 (lent 16) ∷
+    -- a CAST that goes well, and UNDEF: failed CAST
+    row casting 0 0 (pos 2 ∷ pos 5 ∷ neg 6 ∷ []) 9 (lent 16) (vector 2) 2 (pos 5 ∷ neg 6 ∷ lentFrom 2 14) ∷
+    row casting 0 0 (neg 1 ∷ pos 5 ∷ []) 9 (lent 16) undef 1 (lent 16) ∷
+    -- SELECT gives a if c is not 0, else b
+    row selecting 0 0 (neg 1 ∷ neg 9 ∷ neg 1 ∷ pos 4 ∷ neg 1 ∷ pos 5 ∷ []) 9 (lent 16) (integer (pos 4)) 2 (lent 16) ∷
+    row selecting 0 0 (neg 1 ∷ pos 0 ∷ neg 1 ∷ pos 4 ∷ neg 1 ∷ pos 5 ∷ []) 9 (lent 16) (integer (pos 5)) 2 (lent 16) ∷
+    -- USE; 16 items are written, all else in the buffer stays
+    row emptying 0 0 (pos 16 ∷ lentFrom 50 16) 9 (lent 18) (vector 16) 3 (lentFrom 50 16 ++ lentFrom 16 2) ∷
+    -- UNDEF: GET index outside, on both sides
+    row getting 0 0 (pos 2 ∷ pos 5 ∷ pos 6 ∷ neg 1 ∷ pos 1 ∷ []) 9 (lent 16) (integer (pos 6)) 2 (lent 16) ∷
+    row getting 0 0 (pos 2 ∷ pos 5 ∷ pos 6 ∷ neg 1 ∷ pos 2 ∷ []) 9 (lent 16) undef 1 (lent 16) ∷
+    row getting 0 0 (pos 2 ∷ pos 5 ∷ pos 6 ∷ neg 1 ∷ neg 1 ∷ []) 9 (lent 16) undef 1 (lent 16) ∷
+    -- division rounds toward zero; UNDEF: divide by 0, integer result out of range
+    row quotient 0 0 (neg 1 ∷ pos 7 ∷ neg 1 ∷ neg 2 ∷ []) 9 (lent 16) (integer (neg 3)) 2 (lent 16) ∷
+    row quotient 0 0 (neg 1 ∷ pos 7 ∷ neg 1 ∷ pos 0 ∷ []) 9 (lent 16) undef 1 (lent 16) ∷
+    row quotient 0 0 (neg 1 ∷ neg 2147483648 ∷ neg 1 ∷ neg 1 ∷ []) 9 (lent 16) undef 1 (lent 16) ∷
+    -- PEEK and POKE act on the names of the promise's frame
+    row peeking 0 0 [] 99 (lent 16) (integer (pos 5)) 9 (lent 16) ∷
+    -- a force within a force; a force caches its integer
+    row nested 0 0 (neg 1 ∷ pos 7 ∷ []) 99 (lent 16) (integer (pos 56)) 10 (lent 16) ∷
+    -- STEPS: budget used before DONE or UNDEF
+    row nested 0 0 (neg 1 ∷ pos 7 ∷ []) 9 (lent 16) Answer.Steps 9 (lent 16) ∷
+    -- UNDEF: force of a promise being forced
+    row circle 0 0 [] 99 (lent 16) undef 7 (lent 16) ∷
+    -- DISPATCH picks the lowest version that fits: arguments matching; mark no greater; return within, else UNDEF: DISPATCH with no fit
+    row (dispatching 2) 0 0 (pos 2 ∷ pos 5 ∷ pos 6 ∷ []) 9 (lent 16) (integer (pos 2)) 4 (lent 16) ∷
+    row (dispatching 2) 0 0 (neg 1 ∷ pos 5 ∷ []) 9 (lent 16) (integer (pos 10)) 4 (lent 16) ∷
+    row (dispatching 1) 0 0 (neg 1 ∷ pos 5 ∷ []) 9 (lent 16) undef 1 (lent 16) ∷
+    -- an owned parameter empties its register, a borrowed one does not
+    row owning 0 0 (pos 3 ∷ pos 7 ∷ pos 8 ∷ pos 9 ∷ []) 99 (lent 17) (vector 3) 10 (pos 7 ∷ neg 3 ∷ pos 9 ∷ lentFrom 3 14) ∷
+    -- VECTORS: 65th needed while 64 count, before d is overwritten
+    row vectors 0 0 [] 999 (lent 16) (Answer.Ended End.Vectors) 94 (lent 16) ∷
+    -- PROMISES
+    row promises 0 0 [] 999 (lent 16) (Answer.Ended End.Promises) 83 (lent 16) ∷
+    -- budget is looked at first
+    row endless 0 0 [] 31 (lent 16) Answer.Steps 31 (lent 16) ∷
+    -- one owned register given as owned and borrowed in one call: 8
+    row twice 0 0 (pos 0 ∷ []) 9 (lent 16) (refused 8 at 26) 0 (lent 16) ∷
+    -- reading a register that only a forced block assigned: 10
+    row assignedByForce 0 0 [] 9 (lent 16) (refused 10 at 0) 0 (lent 16) ∷
+    -- emptying a register after a promise captured it
+    row captured 0 0 (pos 0 ∷ []) 9 (lent 16) (refused 10 at 0) 0 (lent 16) ∷
+    -- returning kind 0, which could carry a promise out of its frame
+    row (set I 8 0) 0 0 (neg 1 ∷ pos 7 ∷ []) 9 (lent 16) (refused 6 at 0) 0 (lent 16) ∷
+    []

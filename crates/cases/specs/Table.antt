@@ -1,0 +1,148 @@
+-- Proved cases, P1 to P11: one table of runs and what each gives.
+use mathlib.Core.Path.{_≡_}
+use mathlib.Core.List.{List, [], _∷_, _++_}
+use Prim.Native.Nat.{ℕ, zero, suc, _+_}
+use lib.IntN.{ℤ, pos, negℤ}
+use lib.ListN.{length, set, take}
+use Rattle.layout.specs.Kinds as kind
+use Rattle.machine.specs.Runs.{bufferOf}
+use Rattle.machine.specs.Begin.{runOf}
+use Rattle.machine.specs.declared.Answer.{Answer}
+use Rattle.machine.specs.declared.End.{End}
+use Rattle.machine.specs.declared.Ran.{Ran}
+
+-- ---- rows
+
+-- a run from the start: the image, the function and version entered, the argument words, the budget and the lent buffer; then what it gives: the answer, the steps taken and the buffer after it
+pub record Row : Type 0 where
+  pub image : List ℕ
+  pub function : ℕ
+  pub version : ℕ
+  pub words : List ℤ
+  pub budget : ℕ
+  pub buffer : List ℤ
+  pub answer : Answer
+  pub steps : ℕ
+  pub after : List ℤ
+
+-- its run, and what it says of that
+abbrev pub ran : Row → Ran
+ran r = runOf (r .image) (r .function) (r .version) (r .words) (r .budget) (r .buffer)
+
+abbrev pub Gives : Row → Type 0
+Gives r = (ran r .answer ≡ r .answer) × (ran r .steps ≡ r .steps) × (bufferOf (ran r) (r .buffer) ≡ r .after)
+
+-- ---- how rows are written
+
+-- a row by its fields in that order
+abbrev pub row : List ℕ → ℕ → ℕ → List ℤ → ℕ → List ℤ → Answer → ℕ → List ℤ → Row
+row image f v words n buffer answer steps after = record {
+  image = image;
+  function = f;
+  version = v;
+  words = words;
+  budget = n;
+  buffer = buffer;
+  answer = answer;
+  steps = steps;
+  after = after;
+}
+
+-- the number −n
+abbrev pub neg : ℕ → ℤ
+neg n = negℤ (pos n)
+
+-- n places from the place i on, and a lent buffer of n places: the place i holds −1000 − i
+abbrev pub lentFrom : ℕ → ℕ → List ℤ
+lentFrom i zero = []
+lentFrom i (suc n) = neg (1000 + i) ∷ lentFrom (i + 1) n
+
+abbrev pub lent : ℕ → List ℤ
+lent n = lentFrom 0 n
+
+-- the answers: refused by the question q at the offset p; DONE with an integer, with a vector of n items; UNDEF; DEEP
+infix 20 refused_at_
+abbrev pub refused_at_ : ℕ → ℕ → Answer
+refused q at p = Answer.Refused q p
+
+abbrev pub integer : ℤ → Answer
+integer z = Answer.Ended (End.Integer z)
+
+abbrev pub vector : ℕ → Answer
+vector n = Answer.Ended (End.Vector n)
+
+abbrev pub undef : Answer
+undef = Answer.Ended End.Undef
+
+abbrev pub deep : Answer
+deep = Answer.Ended End.Deep
+
+-- ---- images
+
+-- a record shorter than 256 bytes, by its kind and its body: u16 whole length, u16 kind, body, little-endian
+abbrev pub rec : ℕ → List ℕ → List ℕ
+rec k body = (4 + length body) ∷ 0 ∷ k ∷ 0 ∷ body
+
+-- image I, identity, as the paper writes it: a VERSION and its BLOCK
+abbrev pub I : List ℕ
+I =
+    0x0B ∷ 0x00 ∷ 0x01 ∷ 0x00 ∷ 0x00 ∷ 0x00 ∷ 0x01 ∷ 0x01 ∷ 0x02 ∷ 0x01 ∷ 0x02 ∷
+    0x07 ∷ 0x00 ∷ 0x02 ∷ 0x00 ∷ 0x00 ∷ 0x00 ∷ 0x00 ∷ []
+
+-- two integer registers, one parameter, result register 1, no instruction
+abbrev pub unassigned : List ℕ
+unassigned =
+    rec kind.VERSION (0 ∷ 0 ∷ 1 ∷ 2 ∷ 2 ∷ 1 ∷ 2 ∷ 2 ∷ []) ++
+    rec kind.BLOCK (0 ∷ 1 ∷ 0 ∷ [])
+
+-- DUP of the shared parameter 0 into the owned register 1, SET place 0 of the register a to 42, register 1 returned owned
+abbrev pub setOn : ℕ → List ℕ
+setOn a =
+    rec kind.VERSION (0 ∷ 0 ∷ 1 ∷ 4 ∷ 0x13 ∷ 1 ∷ 0x03 ∷ 0x13 ∷ 0x02 ∷ 0x02 ∷ []) ++
+    rec kind.BLOCK (0 ∷ 1 ∷ 4 ∷ []) ++
+    rec kind.DUP (1 ∷ 0 ∷ []) ++
+    rec kind.LIT (2 ∷ 0 ∷ 0 ∷ 0 ∷ 0 ∷ []) ++
+    rec kind.LIT (3 ∷ 42 ∷ 0 ∷ 0 ∷ 0 ∷ []) ++
+    rec kind.SET (a ∷ 2 ∷ 3 ∷ [])
+
+-- the first parameter divided by the second
+abbrev pub quotient : List ℕ
+quotient =
+    rec kind.VERSION (0 ∷ 0 ∷ 2 ∷ 3 ∷ 2 ∷ 1 ∷ 2 ∷ 2 ∷ 2 ∷ []) ++
+    rec kind.BLOCK (0 ∷ 2 ∷ 1 ∷ []) ++
+    rec kind.ARITH (2 ∷ 3 ∷ 0 ∷ 1 ∷ [])
+
+-- a body that calls itself
+abbrev pub endless : List ℕ
+endless =
+    rec kind.VERSION (0 ∷ 0 ∷ 0 ∷ 1 ∷ 2 ∷ 1 ∷ 2 ∷ []) ++
+    rec kind.BLOCK (0 ∷ 0 ∷ 1 ∷ []) ++
+    rec kind.CALL (0 ∷ 0 ∷ 0 ∷ 0 ∷ [])
+
+-- ---- the table
+
+unfoldable pub cases : List Row
+cases =
+    -- P1 empty image: 1 at 0
+    row [] 0 0 [] 1 (lent 16) (refused 1 at 0) 0 (lent 16) ∷
+    -- P2 I with −1, 7: budget 1 gives DONE 7, 1 step
+    row I 0 0 (neg 1 ∷ pos 7 ∷ []) 1 (lent 16) (integer (pos 7)) 1 (lent 16) ∷
+    -- P3 budget 0 gives STEPS, 0
+    row I 0 0 (neg 1 ∷ pos 7 ∷ []) 0 (lent 16) Answer.Steps 0 (lent 16) ∷
+    -- P4 I without its last byte: 2 at 11
+    row (take 17 I) 0 0 (neg 1 ∷ pos 7 ∷ []) 1 (lent 16) (refused 2 at 11) 0 (lent 16) ∷
+    -- P5 I with type 0x12: 6 at 0
+    row (set I 10 0x12) 0 0 (neg 1 ∷ pos 7 ∷ []) 1 (lent 16) (refused 6 at 0) 0 (lent 16) ∷
+    -- P6 two integer registers, one parameter, result register 1, no instruction: 10 at 0
+    row unassigned 0 0 (neg 1 ∷ pos 7 ∷ []) 1 (lent 16) (refused 10 at 0) 0 (lent 16) ∷
+    -- P7 DUP of a shared vector [1], SET place 0 to 42, returned owned: DONE [42]
+    row (setOn 1) 0 0 (pos 1 ∷ pos 1 ∷ []) 100 (lent 18) (vector 1) 5 (pos 42 ∷ lentFrom 1 17) ∷
+    -- P8 on an empty vector UNDEF
+    row (setOn 1) 0 0 (pos 0 ∷ []) 100 (lent 16) undef 4 (lent 16) ∷
+    -- P9 SET on the shared one: 8
+    row (setOn 0) 0 0 (pos 1 ∷ pos 1 ∷ []) 100 (lent 16) (refused 8 at 45) 0 (lent 16) ∷
+    -- P10 −7 divided by 2 is −3
+    row quotient 0 0 (neg 1 ∷ neg 7 ∷ neg 1 ∷ pos 2 ∷ []) 100 (lent 17) (integer (neg 3)) 2 (lent 17) ∷
+    -- P11 a body that calls itself, budget 32: DEEP after 31 steps
+    row endless 0 0 [] 32 (lent 16) deep 31 (lent 16) ∷
+    []

@@ -1,0 +1,23 @@
+-- `machine::Frame::name`: a place inside gives its value.
+use Rattle.machine.proofs.Frame.name.Statement.{statement}
+use Rattle.machine.proofs.Frame.name.Tie as tie
+use Rattle.machine.proofs.Places.{length-mapped, read-inside, read-outside}
+use Rattle.machine.specs.States.{named}
+use borrow.Author.Needs.{needs}
+
+mul-place : tie.Need-mul-place
+mul-place c = search needs
+
+element-copy-out-place : tie.Need-element-copy-out-place
+element-copy-out-place c = search needs
+
+returns : tie.Need-returns
+unfolding named
+returns c = read-inside _ _ _ (search (needs, length-mapped)) _ (c .before .if1 .taken)
+
+returns-2 : tie.Need-returns-2
+unfolding named
+returns-2 c = read-outside _ _ _ (search (needs, length-mapped)) (c .if1 .left)
+
+pub name-spec : {M : Type 1} → statement M
+name-spec = tie.close (tie.spec mul-place element-copy-out-place returns returns-2)
