@@ -123,11 +123,12 @@ back s n d v = do
   b ← at (s .activations) (s .depth - 2)
   assign (withStack s (s .frames) n (s .activations) (s .depth - 1)) (b .frame) d v
 
--- the activation a ends with the result v: a call goes back to its caller, the first call is DONE, a force caches its integer
+-- the activation a ends with the result v: a call, which works in the newest frame and ends with its block 0, goes back to its caller, the lowest activation is DONE, a force caches its integer
 unfoldable pub finish : Program → State → Activation → Version → Value → Opener → Try State
 finish P s a W v Opener.Call = do
   k ← kindIn P s v
   stuckUnless (within k (kindOf (W .return)))
+  stuckUnless (eqb (a .block) 0 and eqb (a .frame + 1) (s .calls))
   elim (eqb (s .depth) 1) [ true ↦ done s v | false ↦ back s (a .frame) (a .d) v ]
 finish P s a W v (Opener.Force p) = do
   z ← anInteger v

@@ -9,7 +9,7 @@ use Rattle.layout.specs.Bounds.{REGISTERS, NAMES}
 use Rattle.layout.specs.Tests.{any}
 use Rattle.program.specs.Program.{Program, findVersion}
 use Rattle.typing.specs.Fits.{promiseKind}
-use Rattle.machine.specs.Try.{Try, got, stuck, stop, _>>=_, orStuck, at, put}
+use Rattle.machine.specs.Try.{Try, got, stuck, stop, _>>=_, _>>_, orStuck, at, put}
 use Rattle.machine.specs.declared.Activation.{Activation}
 use Rattle.machine.specs.declared.End.{End}
 use Rattle.machine.specs.declared.Frame.{Frame}
@@ -149,11 +149,13 @@ name f x = do
   v ← named f x
   isSet v
 
--- the kind of a value: integer 2, vector 3, promise 4 or 5 by its block's mark
+-- the kind of a value that is there: integer 2, vector 3, promise 4 or 5 by its block's mark
 unfoldable pub kindIn : Program → State → Value → Try ℕ
 kindIn P s Value.Empty = stuck
 kindIn P s (Value.Integer z) = got 2
-kindIn P s (Value.Vector v) = got 3
+kindIn P s (Value.Vector v) = do
+  at (s .vectors) v
+  got 3
 kindIn P s (Value.Promise p) = do
   q ← at (s .promises) p
   f ← at (liveFrames s) (q .frame)

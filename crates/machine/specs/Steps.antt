@@ -3,7 +3,8 @@ use mathlib.Core.List.{List, [], _∷_, map}
 use mathlib.Core.Bool.{cond, not}
 use Prim.Native.Nat.{ℕ, zero, suc, _-_}
 use lib.IntN.{pos}
-use lib.ListN.{length, getD, set}
+use lib.ListN.{length, getD, set, take}
+use Rattle.layout.specs.Bounds.{INSTRUCTIONS}
 use Rattle.program.specs.Program.{Argument, Instr, LIT, MOVE, USE, DUP, VEC, LEN, GET, SET, ARITH, SELECT, CAST, NAMED, STORE, PROM, FORCE, PEEK, POKE, CALL, DISPATCH, Line, Block, Version, Program, findVersion, parameterTypes}
 use Rattle.typing.specs.Types.{kindOf, within}
 use Rattle.machine.specs.Try.{Try, got, stuck, _>>=_, _>>_, stuckUnless, endUnless, orStuck, at, each}
@@ -147,8 +148,9 @@ position [] (suc n) = outside
 position (l ∷ ls) zero = instruction (l .does)
 position (l ∷ ls) (suc n) = position ls n
 
+-- a block has at most 48 instructions
 unfoldable pub positionOf : Here → Position
-positionOf h = position (h .block .code) (h .activation .next)
+positionOf h = position (take INSTRUCTIONS (h .block .code)) (h .activation .next)
 
 unfoldable pub proceed : Program → State → Here → Position → Try State
 proceed P s h (instruction i) = execute P (passed s (h .activation)) (h .activation .frame) (h .frame) (h .version) i

@@ -7,7 +7,7 @@ use lib.ListN.{length, getElem?, set}
 use lib.Dec.{ltb}
 use Rattle.machine.specs.declared.End.{End}
 
--- a result, stuck, or the end that the run comes to there; the latter two leave the state as it was
+-- a result, stuck, or a stop: UNDEF, DEEP, VECTORS or PROMISES; neither of the latter two has a state of its own
 pub data Try (A : Type 0) : Type 0 where
   got : A → Try A
   stuck : Try A
@@ -40,7 +40,7 @@ unfoldable pub orStuck : {A : Type 0} → Option A → Try A
 orStuck none = stuck
 orStuck (some a) = got a
 
--- Stuck: points outside itself or its image. Every look-up by number is this one
+-- Stuck: points outside itself or its image. Places of a state, registers, types and blocks are looked up by number so
 unfoldable pub at : {A : Type 0} → List A → ℕ → Try A
 at xs i = orStuck (getElem? xs i)
 

@@ -1,0 +1,131 @@
+-- New frames: what is put over a blank list, and the cells of a frame that a call opens.
+use mathlib.Core.Path.{_≡_, refl, sym, ap, _∙_}
+use mathlib.Core.List.{List, [], _∷_, map}
+use mathlib.Core.Logic.{inr}
+use mathlib.Core.Option.{some}
+use mathlib.Core.Bool.{Bool, true, false, cond}
+use Prim.Native.Nat.{ℕ, zero, suc, _-_, _≤_, _<_}
+use native.Mathlib.Nat.{le-of-suc-le-suc, not-suc-le-zero}
+use native.Mathlib.Omega.{arith}
+use lib.ListN.{length, getD, replicate, length-replicate, List·getD-eq-default}
+use lib.Dec.{ltb, eqb}
+use borrow.Author.Tests.{ltb-false, eqb-true}
+use Rattle.layout.specs.Bounds.{REGISTERS, NAMES}
+use Rattle.layout.specs.Tests.{_and_}
+use Rattle.layout.proofs.Bools.{and-both}
+use Rattle.program.specs.Program.{Version, Program, findVersion}
+use Rattle.flow.proofs.Suffixes.{Does, Begun, begun}
+use Rattle.flow.proofs.Touches.{Flowing, flows-body}
+use Rattle.checker.proofs.Accepted.{Checked}
+use Rattle.machine.specs.States.{place, over}
+use Rattle.machine.specs.Calls.{frameFor}
+use Rattle.machine.specs.declared.Frame.{Frame}
+use Rattle.machine.specs.declared.Place.{Place}
+use Rattle.machine.specs.declared.Value.{Value}
+use Rattle.soundness.proofs.Cells.{Whole, cell, cellAt, get-some}
+use Rattle.soundness.proofs.Invariant.{noBlock, versionAt, blockAt, isFull, captures, keep, top, Gets, Stands}
+use Rattle.soundness.proofs.Limits.{limited}
+
+-- ---- a list put over another
+
+-- the length stays
+pub over-length : {A : Type 0} (xs ys : List A) → length (over xs ys) ≡ length ys
+unfolding over
+over-length [] ys = refl
+over-length (x ∷ xs) [] = refl
+over-length (x ∷ xs) (y ∷ ys) = ap suc (over-length xs ys)
+
+-- n times d is d everywhere
+pub blank-get : {A : Type 0} (n i : ℕ) (d : A) → getD (replicate n d) i d ≡ d
+blank-get zero i d = refl
+blank-get (suc n) zero d = refl
+blank-get (suc n) (suc i) d = blank-get n i d
+
+-- put over n times d, a list is what it is
+pub over-blank : {A : Type 0} (xs : List A) (n i : ℕ) (d : A) → length xs ≤ n → getD (over xs (replicate n d)) i d ≡ getD xs i d
+unfolding over
+over-blank [] n i d h = blank-get n i d
+over-blank (x ∷ xs) zero i d h = absurd (not-suc-le-zero h)
+over-blank (x ∷ xs) (suc n) zero d h = refl
+over-blank (x ∷ xs) (suc n) (suc i) d h = over-blank xs n i d (le-of-suc-le-suc h)
+
+-- ---- values put into places
+
+-- there are as many places as values
+places-length : (vs : List Value) → length (map place vs) ≡ length vs
+places-length [] = refl
+places-length (v ∷ vs) = ap suc (places-length vs)
+
+-- each holds its value
+places-get : (vs : List Value) (i : ℕ) → getD (map place vs) i (place Value.Empty) ≡ place (getD vs i Value.Empty)
+places-get [] i = refl
+places-get (v ∷ vs) zero = refl
+places-get (v ∷ vs) (suc i) = places-get vs i
+
+-- ---- the frame of a call of W with the values vs
+
+-- it has the numbers of W
+pub frame-function : (W : Version) (vs : List Value) → frameFor W vs .function ≡ W .function
+unfolding frameFor
+frame-function W vs = refl
+
+-- both of them
+pub frame-version : (W : Version) (vs : List Value) → frameFor W vs .version ≡ W .version
+unfolding frameFor
+frame-version W vs = refl
+
+-- it has all its places
+pub frame-whole : (W : Version) (vs : List Value) → Whole (frameFor W vs)
+unfolding frameFor
+frame-whole W vs = record { registers = over-length (map place vs) (replicate REGISTERS (place Value.Empty)) ∙ length-replicate REGISTERS (place Value.Empty); names = length-replicate NAMES (place Value.Empty) }
+
+-- its cells hold the values, and the others nothing
+pub frame-cell : (W : Version) (vs : List Value) (c : ℕ) → length vs ≤ REGISTERS → cell (frameFor W vs) c ≡ getD vs c Value.Empty
+unfolding frameFor cell
+frame-cell W vs c h = go (ltb c REGISTERS) refl
+  where
+    go : (b : Bool) → ltb c REGISTERS ≡ b → cell (frameFor W vs) c ≡ getD vs c Value.Empty
+    go true e = rw e (ap (λ (p : Place). p .value) (over-blank (map place vs) REGISTERS c (place Value.Empty) (omega (arith, places-length vs)) ∙ places-get vs c))
+    go false e = rw e (ap (λ (p : Place). p .value) (blank-get NAMES (c - REGISTERS) (place Value.Empty)) ∙ sym (List·getD-eq-default vs Value.Empty {n = c} (omega (arith, ltb-false c REGISTERS e))))
+
+-- ---- a version that is found, and its body at the first instruction
+
+-- it has the numbers that it was looked up by
+pub find-numbers : (P : Program) (f w : ℕ) (W : Version) → findVersion P f w ≡ some W → (W .function ≡ f) × (W .version ≡ w)
+unfolding findVersion
+find-numbers [] f w W h = let z : _≡_ {A = ℕ} 0 1 = cc in absurd (omega arith)
+find-numbers (x ∷ P) f w W h = go (eqb (x .function) f and eqb (x .version) w) refl h (λ g. find-numbers P f w W g)
+  where
+    go : (b : Bool) → (eqb (x .function) f and eqb (x .version) w) ≡ b → cond b (some x) (findVersion P f w) ≡ some W → (findVersion P f w ≡ some W → (W .function ≡ f) × (W .version ≡ w)) → (W .function ≡ f) × (W .version ≡ w)
+    go true e g ih =
+        let y : x ≡ W = cc in
+        let t = and-both (eqb (x .function) f) (eqb (x .version) w) e in
+        (rw y at (eqb-true (x .function) f (t .0)), rw y at (eqb-true (x .version) w (t .1)))
+    go false e g ih = ih g
+
+-- so it is found by its own
+pub find-own : (P : Program) (f w : ℕ) (W : Version) → findVersion P f w ≡ some W → findVersion P (W .function) (W .version) ≡ some W
+find-own P f w W h = let n = find-numbers P f w W h in ap (λ (k : ℕ). findVersion P k (W .version)) (n .0) ∙ ap (λ (k : ℕ). findVersion P f k) (n .1) ∙ h
+
+-- a call stands at the start of its body, where its parameters are full
+pub body-stands : (P : Program) (fs : List Frame) (f : ℕ) → Checked P (versionAt P fs f) → ((r : ℕ) → r < versionAt P fs f .parameters → isFull (cellAt fs f r) ≡ true) → Stands P fs top f 0 0
+unfolding blockAt keep captures Gets
+body-stands P fs f ck full = record {
+  action = a .body;
+  does = d;
+  inside = omega arith;
+  rest = b .rest;
+  is-rest = b .is-rest;
+  ready = λ r h. inr (full r (a .within r (sym (b .is-R r) ∙ h)));
+  captured = λ r h. rw (a .is-body) h;
+  gets = tt;
+}
+  where
+    a : Flowing P (versionAt P fs f)
+    a = flows-body P (versionAt P fs f) (ck .flow .ofVersion)
+
+    d : Does P (versionAt P fs f) 0 (blockAt (versionAt P fs f) 0) (a .body)
+    d = record { there = get-some (versionAt P fs f .blocks) 0 noBlock (limited P (versionAt P fs f) ck .body); does = a .is-body }
+
+    b : Begun P (versionAt P fs f) 0 (blockAt (versionAt P fs f) 0) (a .body)
+    b = begun d

@@ -1,0 +1,226 @@
+-- Promises: PROM and FORCE.
+use mathlib.Core.Path.{_≡_, refl, sym, ap, _∙_}
+use mathlib.Core.Logic.{_≢_, _⊎_, inl, inr}
+use mathlib.Core.List.{List, [], _∷_}
+use mathlib.Core.Option.{Option, none, some}
+use mathlib.Core.Bool.{Bool, true, false, cond, not, _||_}
+use Prim.Native.Nat.{ℕ, zero, suc, _+_, _≤_, _<_}
+use native.Mathlib.Decide.{ℕ-discrete}
+use native.Mathlib.Omega.{arith}
+use native.Mathlib.Numerals.{add-one}
+use lib.ListN.{length, getD, getElem?, set, length-set}
+use lib.Seq.{getD-set-same, getD-set-other}
+use lib.Dec.{eqb, ltb}
+use borrow.Author.Tests.{eqb-true, ltb-true, eq-eqb, lt-ltb}
+use Rattle.layout.specs.Bounds.{REGISTERS}
+use Rattle.layout.specs.Tests.{_and_, found}
+use Rattle.layout.proofs.Bools.{and-both, found-some}
+use Rattle.sets.specs.Sets.{has, those}
+use Rattle.program.specs.Program.{Instr, PROM, FORCE, Line, Block, Version, Program}
+use Rattle.program.specs.Questions.{registerExists, exists}
+use Rattle.typing.specs.Types.{kindOf, isOwned, within}
+use Rattle.typing.specs.Fits.{typeOf, declaredKind, promise, plain, promiseKind, fitsReturn, fits}
+use Rattle.typing.specs.Effects.{reflective}
+use Rattle.flow.specs.Actions.{Action, touch, actionOf}
+use Rattle.flow.specs.Walks.{entered, blockAction}
+use Rattle.flow.proofs.Suffixes.{Does, Begun, begun}
+use Rattle.flow.proofs.Touches.{Promises, promises-by}
+use Rattle.machine.specs.Try.{Try, got, _>>=_, _>>_, endUnless, at}
+use Rattle.machine.specs.States.{ACTIVATIONS, PROMISES, promiseCounts, freePromise, pending, withPromise, withStack, assign}
+use Rattle.machine.specs.Calls.{opened, force}
+use Rattle.machine.specs.Steps.{execute}
+use Rattle.machine.specs.declared.Activation.{Activation}
+use Rattle.machine.specs.declared.Cache.{Cache}
+use Rattle.machine.specs.declared.End.{End}
+use Rattle.machine.specs.declared.Frame.{Frame}
+use Rattle.machine.specs.declared.Opener.{Opener}
+use Rattle.machine.specs.declared.Promise.{Promise}
+use Rattle.machine.specs.declared.State.{State}
+use Rattle.machine.specs.declared.Value.{Value}
+use Rattle.soundness.proofs.Cells.{frameAt, cellAt, at-some, get-some, get-in}
+use Rattle.soundness.proofs.Invariant.{Sure, versionAt, blockAt, noBlock, promiseAt, noPromise, typeAt, isFull, keep, touches, Alive, kindAt, PromiseFits, Fits, Lone, Heap, Ext, every, Pend, top, waits, isPend, Gets, Stands, Opened, below, gives, awaited, Stack, stackOf, Inv}
+use Rattle.soundness.proofs.Progress.{Good, good, good-then, good-got, good-next, good-end}
+use Rattle.soundness.proofs.Types.{In, itself, any, value, promise as quiet-promise, within-in, promise-kind, plain-kind, force-kind, force-owned, eqb-same}
+use Rattle.soundness.proofs.Heap.{heap-promises, lone-unless, ext-same, touches-captured}
+use Rattle.soundness.proofs.Versions.{mark-low}
+use Rattle.soundness.proofs.Stacks.{stack-top}
+use Rattle.soundness.proofs.Counting.{promise-free, free-ok}
+use Rattle.soundness.proofs.KindsOf.{promise-is}
+use Rattle.soundness.proofs.Standing.{At, moved, live, checked-version, there, place-in, meets, operand, kept-now, onward, writes-register}
+use Rattle.soundness.proofs.Operands.{only-one, fits-i, exists-i, marked-i, full-at, assigned-in, promise-got}
+use Rattle.soundness.proofs.Plain.{Stepped, gives-integer}
+
+-- ---- the pool of promises
+
+pub promise-same : (ps : List Promise) (p : ℕ) (q : Promise) → p < length ps → promiseAt (set ps p q) p ≡ q
+unfolding promiseAt
+promise-same ps p q h = getD-set-same ps p q noPromise h
+
+pub promise-other : (ps : List Promise) (p p′ : ℕ) (q : Promise) → p′ ≢ p → promiseAt (set ps p q) p′ ≡ promiseAt ps p′
+unfolding promiseAt
+promise-other ps p p′ q h = getD-set-other ps p p′ q noPromise h
+
+-- a promise that no cell refers to is replaced
+at-promise : (P : Program) (s : State) (a : Activation) (rest : List Activation) (l : Line) (p : ℕ) (q : Promise) → promiseCounts s p ≡ false → At P s a rest l → At P (withPromise s p q) a rest l
+unfolding withPromise
+at-promise P s a rest l p q free W = record {
+  heap = heap-promises P (s .frames) (s .calls) (s .promises) (set (s .promises) p q) (λ p′ k c h e. other p′ (λ z. promise-free s (W .heap .sized) (W .heap .bound) p free k c h (rw z at e))) (length-set (s .promises) p q ∙ W .heap .pool) (W .heap);
+  vectors = W .vectors;
+  room = W .room;
+  deep = W .deep;
+  stacked = W .stacked;
+  stands = W .stands;
+  opened = W .opened;
+  under = W .under;
+  line = W .line;
+}
+  where
+    other : (p′ : ℕ) → p′ ≢ p → (promiseAt (set (s .promises) p q) p′ .frame ≡ promiseAt (s .promises) p′ .frame) × (promiseAt (set (s .promises) p q) p′ .block ≡ promiseAt (s .promises) p′ .block)
+    other p′ z = rw (promise-other (s .promises) p p′ q z) (refl, refl)
+
+-- ---- one more activation
+
+pub stack-push : (l : List Activation) (h : ℕ) (a : Activation) → h < length l → stackOf (set l h a) (h + 1) ≡ a ∷ stackOf l h
+stack-push l h a e = rw add-one (stack-top l h a e)
+
+-- the block of a promise at its start
+alive-stands : (P : Program) (fs : List Frame) (f b : ℕ) → Alive P fs f b → Stands P fs top f b 0
+unfolding Gets
+alive-stands P fs f b a = record {
+  action = a .action;
+  does = a .does;
+  inside = omega arith;
+  rest = g .rest;
+  is-rest = g .is-rest;
+  ready = λ r h. inr (a .ready r (sym (g .is-R r) ∙ h));
+  captured = λ r h. a .kept r (touches-captured (a .action) r h);
+  gets = tt;
+}
+  where
+    g : Begun P (versionAt P fs f) b (blockAt (versionAt P fs f) b) (a .action)
+    g = begun (a .does)
+
+module _ (P : Program) (sure : Sure P) (s : State) (a : Activation) (rest : List Activation) (l : Line) (W : At P s a rest l) where
+  abbrev X : Version
+  X = versionAt P (s .frames) (a .frame)
+
+  -- ---- PROM
+
+  module _ (d b : ℕ) (is : l .does ≡ PROM d b) where
+    ed : registerExists X d ≡ true
+    unfolding exists
+    ed = and-both _ _ (exists-i P sure s a rest l W _ is) .0
+
+    above : a .block < b
+    unfolding exists
+    above = ltb-true (a .block) b (and-both _ _ (and-both _ _ (exists-i P sure s a rest l W _ is) .1) .0)
+
+    block-there : getElem? (X .blocks) b ≡ some (blockAt X b)
+    unfolding exists blockAt
+    block-there = get-some (X .blocks) b noBlock (ltb-true b _ (and-both _ _ (and-both _ _ (exists-i P sure s a rest l W _ is) .1) .1))
+
+    promises : Promises (entered P X (a .block)) b (d ∷ []) (meets P sure s a rest l W .now)
+    unfolding touch
+    promises =
+        let E = entered P X (a .block) in
+        promises-by E b (d ∷ []) (meets P sure s a rest l W .now) (sym (ap (λ (x : Instr). actionOf E (touch P x)) is) ∙ meets P sure s a rest l W .is-now)
+
+    does-inner : blockAction P X b ≡ some (promises .inner)
+    does-inner = rw (lt-ltb (a .block) b above) at (promises .is-inner)
+
+    alive : Alive P (s .frames) (a .frame) b
+    unfolding touches
+    alive = record {
+      positive = omega (arith, above);
+      action = promises .inner;
+      does = record { there = block-there; does = does-inner };
+      ready = λ r h. operand P sure s a rest l W r (promises .is-R r ∙ h);
+      kept = λ r h. kept-now P sure s a rest l W r (promises .is-C r ∙ h);
+    }
+
+    kind : within (promiseKind (blockAt X b .mark)) (kindOf (typeOf X d)) ≡ true
+    unfolding fits
+    kind = plain-kind X d _ (sym (found-some (λ (x : Block). plain X d (promiseKind (x .mark))) block-there) ∙ fits-i P sure s a rest l W _ is)
+
+-- a new promise at a free place p enters d
+made : (P : Program) (sure : Sure P) (s : State) (a : Activation) (rest : List Activation) (l : Line) (W : At P s a rest l) (d b : ℕ) (is : l .does ≡ PROM d b) (p : ℕ) → (promiseCounts s p ≡ false) × (p < 0 + PROMISES)
+    → Good (Inv P) (assign (withPromise s p (record { frame = a .frame; block = b; cache = Cache.Unforced })) (a .frame) d (Value.Promise p))
+unfolding withPromise Fits isFull kindAt
+made P sure s a rest l W d b is p h =
+    let q : Promise = record { frame = a .frame; block = b; cache = Cache.Unforced } in
+    let W′ = at-promise P s a rest l p q (h .0) W in
+    writes-register P sure (withPromise s p q) a rest l W′ d (Value.Promise p) (ed P sure s a rest l W d b is)
+    (λ r g. only-one d r (sym (promises P sure (withPromise s p q) a rest l W′ d b is .is-W r) ∙ g)) refl
+    (omega (arith, h .1), rw (promise-same (s .promises) p q (omega (arith, h .1, W .heap .pool))) (record { kind = kind P sure s a rest l W d b is; older = omega arith; alive = alive P sure s a rest l W d b is }))
+    (lone-unless P (s .frames) (s .calls) (a .frame) d (Value.Promise p) (λ v e. let z : _≡_ {A = ℕ} 0 1 = cc in omega arith))
+
+pub prom : (P : Program) (sure : Sure P) (s : State) (a : Activation) (rest : List Activation) (l : Line) (W : At P s a rest l) (d b : ℕ) → l .does ≡ PROM d b → Stepped P sure s a rest l W (PROM d b)
+unfolding execute freePromise
+prom P sure s a rest l W d b is =
+    good-next (Inv P) _ (blockAt (versionAt P (s .frames) (a .frame)) b) _ (at-some _ b _ (block-there P sure s a rest l W d b is))
+    (good-then (Inv P) _ _ _ (free-ok _ (promiseCounts s) PROMISES 0) (made P sure s a rest l W d b is))
+
+-- ---- FORCE
+
+module _ (P : Program) (sure : Sure P) (s : State) (a : Activation) (rest : List Activation) (l : Line) (W : At P s a rest l) (d r : ℕ) (is : l .does ≡ FORCE d r) where
+  abbrev Y : Version
+  Y = versionAt P (s .frames) (a .frame)
+
+  d-exists : registerExists Y d ≡ true
+  unfolding exists
+  d-exists = and-both _ _ (exists-i P sure s a rest l W _ is) .0
+
+  d-fits : plain Y d 2 ≡ true
+  unfolding fits
+  d-fits = and-both _ _ (fits-i P sure s a rest l W _ is) .1
+
+  -- the mark of the promise's block is no greater than that of the forcing block
+  mark-covers : (q : Promise) → PromiseFits P (s .frames) q (a .frame) (typeOf Y r) → blockAt (versionAt P (s .frames) (q .frame)) (q .block) .mark ≤ blockAt Y (a .block) .mark
+  unfolding kindAt fits reflective
+  mark-covers q f = go (promise-kind (typeOf Y r) (and-both _ _ (fits-i P sure s a rest l W _ is) .0)) (within-in _ _ (f .kind))
+    where
+      low : blockAt (versionAt P (s .frames) (q .frame)) (q .block) .mark < 2
+      low = mark-low P _ (sure _ _ _ (W .heap .known (q .frame) (omega (arith, f .older, live P sure s a rest l W)))) (q .block) _ (f .alive .does .there)
+
+      go : (kindOf (typeOf Y r) ≡ 4) ⊎ (kindOf (typeOf Y r) ≡ 5) → In (promiseKind (blockAt (versionAt P (s .frames) (q .frame)) (q .block) .mark)) (kindOf (typeOf Y r)) → blockAt (versionAt P (s .frames) (q .frame)) (q .block) .mark ≤ blockAt Y (a .block) .mark
+      go (inl k) (itself e) = omega arith
+      go (inl k) (any e) = absurd (omega arith)
+      go (inl k) (value e g) = absurd (omega arith)
+      go (inl k) (quiet-promise e g) = absurd (omega arith)
+      go (inr k) i = omega (arith, low, marked-i P sure s a rest l W _ is (eq-eqb _ 5 k))
+
+  -- the promise's block begins above the others
+  opens : (p : ℕ) (q : Promise) → p < PROMISES → PromiseFits P (s .frames) q (a .frame) (typeOf Y r)
+      → Good (Inv P) (opened s (record { opener = Opener.Force p; d = d; frame = q .frame; block = q .block; next = 0 }))
+  unfolding opened withStack Stack Opened awaited gives below Gets fitsReturn isPend touch
+  opens p q hp f = good-end (Inv P) _ _ _ (λ h. good (Inv P) _ _ refl (record {
+    heap = W .heap;
+    vectors = W .vectors;
+    room = length-set (s .activations) (s .depth) _ ∙ W .room;
+    deep = omega (arith, ltb-true (s .depth) ACTIVATIONS h);
+    stack = λ _. rw (stack-push (s .activations) (s .depth) _ (omega (arith, ltb-true (s .depth) ACTIVATIONS h, W .room)), W .stacked) (
+      alive-stands P (s .frames) (q .frame) (q .block) (f .alive),
+      (omega (arith, f .older, live P sure s a rest l W), f .alive .positive, hp),
+      (
+        onward P sure s a rest l W (s .frames) (waits d 2 (blockAt (versionAt P (s .frames) (q .frame)) (q .block) .mark)) refl
+            (d-exists, rw (force-owned, force-kind) d-fits, mark-covers q f)
+            (λ c g. inl (rw (only-one d c (assigned-in P sure s a rest l W _ is (r ∷ []) [] (d ∷ []) refl c g)) (eqb-same d)))
+            (λ c _ g. g),
+        W .opened,
+        W .under,
+      ),
+    );
+  }))
+
+  forces : (p : ℕ) (q : Promise) (x : Cache) → p < PROMISES → PromiseFits P (s .frames) q (a .frame) (typeOf Y r) → Good (Inv P) (force s (a .frame) d p q x)
+  unfolding force touch
+  forces p q (Cache.Forced z) hp f = gives-integer P sure s a rest l W (FORCE d r) is (r ∷ []) d refl d-exists d-fits z
+  forces p q Cache.Unforced hp f = good-end (Inv P) _ _ _ (λ _. opens p q hp f)
+
+  pub force-step : Stepped P sure s a rest l W (FORCE d r)
+  unfolding execute exists fits touch
+  force-step =
+      let er = and-both _ _ (exists-i P sure s a rest l W _ is) .1 in
+      let p = promise-got P sure s a rest l W _ is r er (full-at P sure s a rest l W _ is (r ∷ []) [] (d ∷ []) refl 0 r refl er) (and-both _ _ (fits-i P sure s a rest l W _ is) .0) in
+      good-got (Inv P) _ (p .0) _ (p .1) (good-got (Inv P) _ (promiseAt (s .promises) (p .0)) _ (promise-is s (p .0) (omega (arith, p .2, W .heap .pool)))
+      (forces (p .0) (promiseAt (s .promises) (p .0)) (promiseAt (s .promises) (p .0) .cache) (p .2) (p .3)))
