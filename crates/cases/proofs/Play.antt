@@ -13,12 +13,12 @@ use Rattle.layout.specs.Questions.{question1, question2, lengthOf, question3, v
 use Rattle.program.specs.Program.{instrOf, put as putRecord, view, findVersion, firstMark, beside, arguments as pairsOf}
 use Rattle.program.specs.Search.{firstLine, firstBlock, first as firstNo}
 use Rattle.program.specs.Questions.{exists, namesBlock, namings, blockNamed}
-use Rattle.typing.specs.Types.{kindOf, ownershipOf, isShared, isOwned, isBorrowed, isInteger, isVector as vectorType, isPromise as promiseType, within, parameterType, registerType, returnType}
-use Rattle.typing.specs.Fits.{fresh, fitsArgument, fitsReturn, fitsCall, fits, fitsResult}
-use Rattle.typing.specs.Effects.{reflective, covered}
-use Rattle.typing.specs.Questions.{typeAllowed, versionTypes, typesAllowed}
-use Rattle.flow.specs.Actions.{clash, joined, _then_, promised, emptied as emptiedBy, touch, actionOf, along, enter as entersBlock, actions}
-use Rattle.flow.specs.Questions.{flows}
+use Rattle.rules.specs.Types.{kindOf, ownershipOf, isShared, isOwned, isBorrowed, isInteger, isVector as vectorType, isPromise as promiseType, within, parameterType, registerType, returnType}
+use Rattle.rules.specs.Fits.{fresh, fitsArgument, fitsReturn, fitsCall, fits, fitsResult}
+use Rattle.rules.specs.Effects.{reflective, covered}
+use Rattle.rules.specs.Questions.{typeAllowed, versionTypes, typesAllowed}
+use Rattle.rules.specs.Actions.{clash, joined, _then_, promised, emptied as emptiedBy, touch, actionOf, along, enter as entersBlock, actions}
+use Rattle.rules.specs.Flows.{flows}
 use Rattle.checker.specs.Verdicts.{ask, verdictOf}
 use Rattle.machine.specs.Try.{_>>=_, _>>_, stuckUnless, endUnless, orStuck, at, put, each}
 use Rattle.machine.specs.Values.{ranged, isZero, divided, arith, index}

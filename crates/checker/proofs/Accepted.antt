@@ -12,8 +12,8 @@ use Rattle.program.specs.Search.{first}
 use Rattle.program.specs.Questions.{question7}
 use Rattle.program.proofs.Held.{Held, holds}
 use Rattle.program.proofs.Laid.{bounds, in-bounds}
-use Rattle.typing.specs.Questions.{question6, question8, question9}
-use Rattle.flow.specs.Questions.{question10}
+use Rattle.rules.specs.Questions.{question6, question8, question9}
+use Rattle.rules.specs.Flows.{question10}
 use Rattle.checker.specs.Verdicts.{verdictOf}
 use Rattle.checker.specs.declared.Verdict.{Verdict}
 use Rattle.checker.specs.declared.Verdict.the-variants.{Accepted, Refused}

@@ -11,7 +11,7 @@ use Rattle.sets.specs.Sets.{size, setOf}
 use Rattle.program.specs.Program.{Version, Program, nowhere}
 use Rattle.program.specs.Places.{viewAt, versionAt}
 use Rattle.program.proofs.Views.{Whole, at-version}
-use Rattle.flow.specs.Actions.{bodyAction}
+use Rattle.rules.specs.Actions.{bodyAction}
 use Rattle.flow.specs.Masks.{flowed}
 use Rattle.flow.specs.declared.Action.{Action}
 use Rattle.flow.specs.declared.Flowed.{Flowed}

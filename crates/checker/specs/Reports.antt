@@ -8,7 +8,7 @@ use lib.Dec.{leb}
 use Rattle.layout.specs.Records.{records}
 use Rattle.sets.specs.Sets.{size}
 use Rattle.program.specs.Program.{Version, Program, program}
-use Rattle.flow.specs.Actions.{bodyAction}
+use Rattle.rules.specs.Actions.{bodyAction}
 use mathlib.Core.Path.{_≡_}
 use Rattle.writer.specs.Text.{text, decimal, placed}
 use Rattle.checker.specs.Verdicts.{verdictOf}

@@ -9,8 +9,8 @@ use Rattle.layout.specs.declared.Found.the-variants.{Nothing, At}
 use Rattle.program.specs.Program.{program}
 use Rattle.program.specs.Search.{first}
 use Rattle.program.specs.Questions.{question7}
-use Rattle.typing.specs.Questions.{question6, question8, question9}
-use Rattle.flow.specs.Questions.{question10}
+use Rattle.rules.specs.Questions.{question6, question8, question9}
+use Rattle.rules.specs.Flows.{question10}
 use Rattle.checker.specs.declared.Verdict.{Verdict}
 use Rattle.checker.specs.declared.Verdict.the-variants.{Accepted, Refused}
 

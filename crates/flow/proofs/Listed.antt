@@ -16,27 +16,13 @@ use Rattle.program.proofs.Lookups.{version-found, version-missing}
 use mathlib.Core.Option.{none, some}
 use Rattle.sets.specs.Sets.{Set, empty, only, those, both, _∪_, setOf}
 use Rattle.sets.proofs.Masks.{set-empty}
+use Rattle.sets.proofs.Members.{union-assoc}
 use Rattle.program.specs.Program.{Argument, Version, arguments, parameterTypes, beside, program, findVersion}
-use Rattle.typing.specs.Types.{ownershipOf, isOwned}
-use Rattle.flow.specs.Actions.{_then_, reading, emptying, assigning, emptied}
+use Rattle.rules.specs.Types.{ownershipOf, isOwned}
+use Rattle.rules.specs.Actions.{_then_, reading, emptying, assigning, emptied}
 use Rattle.flow.specs.Masks.{masked}
 
 -- ---- unions
-
-none-left : (t : Set) → map (_||_ false) t ≡ t
-none-left [] = refl
-none-left (b ∷ t) = ap (λ (l : Set). b ∷ l) (none-left t)
-
-none-right : (s : Set) → map (λ x. x || false) s ≡ s
-none-right [] = refl
-none-right (a ∷ s) = ap₂ _∷_ (or-false a) (none-right s)
-
-pub union-assoc : (s t u : Set) → (s ∪ t) ∪ u ≡ s ∪ (t ∪ u)
-unfolding both
-union-assoc [] t u = rw (none-left t, none-left (t ∪ u))
-union-assoc (a ∷ s) [] u = rw (none-left u) (ap (λ (l : Set). l ∪ u) (none-right (a ∷ s)))
-union-assoc (a ∷ s) (b ∷ t) [] = none-right ((a || b) ∷ (s ∪ t)) ∙ ap (λ (l : Set). (a ∷ s) ∪ l) (sym (none-right (b ∷ t)))
-union-assoc (a ∷ s) (b ∷ t) (c ∷ u) = ap₂ _∷_ (or-assoc a b c) (union-assoc s t u)
 
 -- no register, and some
 pub union-empty : (k m : ℕ) → setOf k m ∪ empty k ≡ setOf k m

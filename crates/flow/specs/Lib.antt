@@ -1,4 +1,1 @@
-pub mod Actions
 pub mod Masks
-pub mod Walks
-pub mod Questions

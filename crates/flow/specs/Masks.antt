@@ -4,7 +4,7 @@ use Prim.Native.Nat.{ℕ}
 use Rattle.layout.specs.Bounds.{REGISTERS}
 use Rattle.sets.specs.Sets.{setOf}
 use Rattle.program.specs.Program.{Instr, Program}
-use Rattle.flow.specs.Actions.{Action, touch, actionOf}
+use Rattle.rules.specs.Actions.{Action, touch, actionOf}
 use Rattle.flow.specs.declared.Action.{Action as Masks}
 use Rattle.flow.specs.declared.Flowed.{Flowed}
 use Rattle.flow.specs.declared.Flowed.the-variants.{Allowed, Refused}

@@ -1,7 +1,7 @@
 //! Actions, one then another.
 ghost use mathlib.Core.Path.{_≡_};
 ghost use mathlib.Core.Option.{some};
-ghost use Rattle.flow.specs.Actions.{_then_};
+ghost use Rattle.rules.specs.Actions.{_then_};
 ghost use Rattle.flow.specs.Masks.{masked, act, flowed};
 use crate::Action;
 use crate::Flowed;

@@ -3,7 +3,7 @@ ghost use mathlib.Core.Path.{_≡_};
 ghost use Rattle.layout.specs.Records.{records};
 ghost use Rattle.program.specs.Program.{program};
 ghost use Rattle.program.specs.Places.{versionAt};
-ghost use Rattle.flow.specs.Actions.{bodyAction};
+ghost use Rattle.rules.specs.Actions.{bodyAction};
 ghost use Rattle.flow.specs.Masks.{flowed};
 use crate::Flowed;
 use crate::walk;

@@ -9,7 +9,7 @@ ghost use Rattle.layout.specs.Kinds as kind;
 ghost use Rattle.sets.specs.Sets.{setOf, those};
 ghost use Rattle.program.specs.Program.{program, instrOf, arguments, given, findVersion};
 ghost use Rattle.program.specs.Places.{versionAt, instrAt, tableOf};
-ghost use Rattle.flow.specs.Actions.{_then_, reading, emptying, assigning, emptied, promised, touch, actionOf};
+ghost use Rattle.rules.specs.Actions.{_then_, reading, emptying, assigning, emptied, promised, touch, actionOf};
 ghost use Rattle.flow.specs.Masks.{flowed, alone};
 use crate::Action;
 use crate::Flowed;

@@ -4,7 +4,7 @@ ghost use Rattle.layout.specs.Records.{records};
 ghost use Rattle.program.specs.Program.{program};
 ghost use Rattle.program.specs.Search.{first};
 ghost use Rattle.program.specs.Places.{versionAt, tableOf, asked};
-ghost use Rattle.flow.specs.Questions.{flows, question10};
+ghost use Rattle.rules.specs.Flows.{flows, question10};
 use crate::Flowed;
 use crate::walk;
 use layout::Found;

@@ -8,7 +8,7 @@ use lib.ListN.{length, drop, replicate, take}
 use lib.Dec.{leb}
 use Rattle.layout.specs.Records.{records}
 use Rattle.program.specs.Program.{Version, Program, program, findVersion, parameterTypes}
-use Rattle.typing.specs.Types.{kindOf, within}
+use Rattle.rules.specs.Types.{kindOf, within}
 use Rattle.checker.specs.Verdicts.{verdictOf}
 use Rattle.checker.specs.declared.Verdict.{Verdict}
 use Rattle.machine.specs.States.{ACTIVATIONS, ITEMS, PROMISES, VECTORS, newFrame, newVector, over}

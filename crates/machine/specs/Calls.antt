@@ -7,7 +7,7 @@ use lib.Dec.{eqb, leb, ltb}
 use Rattle.layout.specs.Bounds.{VERSIONS}
 use Rattle.layout.specs.Tests.{_and_, found}
 use Rattle.program.specs.Program.{Argument, Version, Program, findVersion, markOf, parameterTypes}
-use Rattle.typing.specs.Types.{kindOf, ownershipOf, isOwned, within}
+use Rattle.rules.specs.Types.{kindOf, ownershipOf, isOwned, within}
 use Rattle.machine.specs.Try.{Try, got, stuck, stop, _>>=_, _>>_, stuckUnless, endUnless, orStuck, at, put}
 use Rattle.machine.specs.States.{ACTIVATIONS, place, over, newFrame, itemsOf, anInteger, kindIn, pending, withStack, withPromise, withEnd, assign}
 use Rattle.machine.specs.declared.Activation.{Activation}

@@ -8,7 +8,7 @@ use lib.Dec.{eqb}
 use Rattle.layout.specs.Bounds.{REGISTERS, NAMES}
 use Rattle.layout.specs.Tests.{any}
 use Rattle.program.specs.Program.{Program, findVersion}
-use Rattle.typing.specs.Fits.{promiseKind}
+use Rattle.rules.specs.Fits.{promiseKind}
 use Rattle.machine.specs.Try.{Try, got, stuck, stop, _>>=_, _>>_, orStuck, at, put}
 use Rattle.machine.specs.declared.Activation.{Activation}
 use Rattle.machine.specs.declared.End.{End}

@@ -6,7 +6,7 @@ use lib.IntN.{pos}
 use lib.ListN.{length, getD, set, take}
 use Rattle.layout.specs.Bounds.{INSTRUCTIONS}
 use Rattle.program.specs.Program.{Argument, Instr, LIT, MOVE, USE, DUP, VEC, LEN, GET, SET, ARITH, SELECT, CAST, NAMED, STORE, PROM, FORCE, PEEK, POKE, CALL, DISPATCH, Line, Block, Version, Program, findVersion, parameterTypes}
-use Rattle.typing.specs.Types.{kindOf, within}
+use Rattle.rules.specs.Types.{kindOf, within}
 use Rattle.machine.specs.Try.{Try, got, stuck, _>>=_, _>>_, stuckUnless, endUnless, orStuck, at, each}
 use Rattle.machine.specs.Values.{arith, index, isZero}
 use Rattle.machine.specs.States.{assign, freePromise, freeVector, integer, itemsOf, kindIn, liveActivations, liveFrames, name, newVector, plain, promise, store, value, vector, vectorCounts, withPromise, withVector}

@@ -18,15 +18,16 @@ use Rattle.sets.specs.Sets.{has, those}
 use Rattle.program.specs.Program.{Argument, Instr, CALL, DISPATCH, Line, Block, Version, Program, findVersion, markOf, parameterTypes, beside, given}
 use Rattle.program.specs.Questions.{registerExists, exists}
 use Rattle.program.proofs.Laid.{instrBounded}
-use Rattle.typing.specs.Types.{kindOf, ownershipOf, isShared, isOwned, isBorrowed, within, parameterType}
-use Rattle.typing.specs.Fits.{typeOf, declaredKind, owned, vector, shared, fresh, plain, fitsArgument, empties as emptying, fitsReturn, fitsCall, fits}
-use Rattle.typing.specs.Effects.{reflective}
-use Rattle.flow.specs.Actions.{touch, reads_empties_assigns_, emptied as freed}
-use Rattle.flow.proofs.Follows.{or-either, or-left, or-right}
-use Rattle.flow.proofs.Touches.{emptied-owned}
+use Rattle.rules.specs.Types.{kindOf, ownershipOf, isShared, isOwned, isBorrowed, within, parameterType}
+use Rattle.rules.specs.Fits.{typeOf, declaredKind, owned, vector, shared, fresh, plain, fitsArgument, empties as emptying, fitsReturn, fitsCall, fits}
+use Rattle.rules.specs.Effects.{reflective}
+use Rattle.rules.specs.Actions.{touch, reads_empties_assigns_, emptied as freed}
+use Rattle.rules.proofs.Follows.{or-either, or-left, or-right}
+use Rattle.rules.proofs.Touches.{emptied-owned}
 use Rattle.checker.proofs.Accepted.{Checked}
 use Rattle.machine.specs.Try.{Try, got, stop, _>>=_, _>>_, stuckUnless, orStuck, each}
 use Rattle.machine.specs.States as states
+use Rattle.machine.proofs.Matching.{matching-all, matching-at, same-length, same-at, same-freed, same-beside}
 use Rattle.machine.specs.Calls.{matching, sameOwnerships, dispatches, lowest, picked, enter}
 use Rattle.machine.specs.Steps.{execute, registersOf}
 use Rattle.machine.specs.declared.Activation.{Activation}
@@ -34,112 +35,25 @@ use Rattle.machine.specs.declared.Frame.{Frame}
 use Rattle.machine.specs.declared.Promise.{Promise}
 use Rattle.machine.specs.declared.State.{State}
 use Rattle.machine.specs.declared.Value.{Value}
-use Rattle.soundness.proofs.Cells.{frameAt, cellAt, get-some, get-in, get-take, take-in}
+use Rattle.soundness.proofs.Cells.{frameAt, cellAt}
 use Rattle.soundness.proofs.Invariant.{Sure, versionAt, blockAt, noBlock, isFull, Inv}
 use Rattle.soundness.proofs.Progress.{Good, good, good-then, good-got, good-test}
 use Rattle.soundness.proofs.Types.{clash, eqb-same, vector-kind, owned-kind, owned-owned, within-same, within-trans}
-use Rattle.soundness.proofs.Versions.{not-false, any-at, parameter-vector, type-allowed, mark-low}
-use Rattle.soundness.proofs.Limits.{limited, mark-is}
+use Rattle.soundness.proofs.Versions.{parameter-vector, type-allowed}
+use Rattle.soundness.proofs.Limits.{limited, mark-is, mark-bound}
 use Rattle.soundness.proofs.NewFrames.{find-own}
-use Rattle.soundness.proofs.Counting.{all-at, each-map}
+use Rattle.soundness.proofs.Counting.{each-map}
 use Rattle.soundness.proofs.KindsOf.{valueKind, kind-got, kind-within}
 use Rattle.soundness.proofs.Clearing.{isIn, at-in-list, those-in}
 use Rattle.soundness.proofs.Standing.{At, live, place-in, typed, meets}
 use Rattle.soundness.proofs.Operands.{only-one, fits-i, exists-i, bounded-i, marked-i, touched, full-at, assigned-in, value-got}
 use Rattle.soundness.proofs.Plain.{Stepped}
 use Rattle.soundness.proofs.Entering.{Enters, enters}
-
--- ---- lists
-
-get-map : {A B : Type 0} (f : A → B) (l : List A) (i : ℕ) (y : B) → getElem? (map f l) i ≡ some y → (x : A) × (getElem? l i ≡ some x) × (f x ≡ y)
-get-map f [] i y e = let z : _≡_ {A = ℕ} 0 1 = cc in absurd (omega arith)
-get-map f (x ∷ l) zero y e = (x, refl, cc)
-get-map f (x ∷ l) (suc i) y e = get-map f l i y e
-
-map-get : {A B : Type 0} (f : A → B) (l : List A) (i : ℕ) (x : A) → getElem? l i ≡ some x → getElem? (map f l) i ≡ some (f x)
-map-get f [] i x e = let z : _≡_ {A = ℕ} 0 1 = cc in absurd (omega arith)
-map-get f (y ∷ l) zero x e = let q : y ≡ x = cc in ap (λ z. some (f z)) q
-map-get f (y ∷ l) (suc i) x e = map-get f l i x e
-
-map-length : {A B : Type 0} (f : A → B) (l : List A) → length (map f l) ≡ length l
-map-length f [] = refl
-map-length f (x ∷ l) = ap suc (map-length f l)
-
-none-counted : {A : Type 0} (p : A → Bool) (l : List A) → count p l ≡ 0 → (i : ℕ) (x : A) → getElem? l i ≡ some x → p x ≡ true → ⊥
-unfolding count
-none-counted p [] h i x e q = let z : _≡_ {A = ℕ} 0 1 = cc in omega arith
-none-counted p (y ∷ l) h zero x e q = let g : y ≡ x = cc in let n : p y ≡ true = rw g q in let m : 1 + count p l ≡ 0 = rw n at h in omega arith
-none-counted p (y ∷ l) h (suc i) x e q = go (p y) h (λ g. none-counted p l g i x e q)
-  where
-    go : (b : Bool) → cond b 1 0 + count p l ≡ 0 → (count p l ≡ 0 → ⊥) → ⊥
-    go true g ih = omega arith
-    go false g ih = ih (omega arith)
-
--- what passes only once stands at one place
-counted-once : {A : Type 0} (p : A → Bool) (l : List A) → count p l ≡ 1 → (i : ℕ) (x : A) → getElem? l i ≡ some x → p x ≡ true → (j : ℕ) (y : A) → getElem? l j ≡ some y → p y ≡ true → j ≡ i
-unfolding count
-counted-once p [] h i x e q j y f g = let z : _≡_ {A = ℕ} 0 1 = cc in absurd (omega arith)
-counted-once p (z ∷ l) h zero x e q zero y f g = refl
-counted-once p (z ∷ l) h zero x e q (suc j) y f g = let n : p z ≡ true = rw (let w : z ≡ x = cc in w) q in let m : 1 + count p l ≡ 1 = rw n at h in absurd (none-counted p l (omega arith) j y f g)
-counted-once p (z ∷ l) h (suc i) x e q zero y f g = let n : p z ≡ true = rw (let w : z ≡ y = cc in w) g in let m : 1 + count p l ≡ 1 = rw n at h in absurd (none-counted p l (omega arith) i x e q)
-counted-once p (z ∷ l) h (suc i) x e q (suc j) y f g = ap suc (go (p z) h (λ m. counted-once p l m i x e q j y f g))
-  where
-    go : (b : Bool) → cond b 1 0 + count p l ≡ 1 → (count p l ≡ 1 → j ≡ i) → j ≡ i
-    go true m ih = absurd (none-counted p l (omega arith) i x e q)
-    go false m ih = ih (omega arith)
+use Rattle.soundness.proofs.Lists.{get-some, get-in, get-take, take-in, any-at, all-at, get-map, map-get, map-length, counted-once}
 
 both-hold : {b c : Bool} → b ≡ true → c ≡ true → (b and c) ≡ true
 unfolding _and_
 both-hold p q = rw (p, q) refl
-
--- ---- arguments against parameters
-
-matching-all : (ks ts : List ℕ) → length ks ≡ length ts → ((j k t : ℕ) → getElem? ks j ≡ some k → getElem? ts j ≡ some t → within k (kindOf t) ≡ true) → matching ks ts ≡ true
-unfolding matching _and_
-matching-all [] [] e h = refl
-matching-all [] (t ∷ ts) e h = absurd (omega arith)
-matching-all (k ∷ ks) [] e h = absurd (omega arith)
-matching-all (k ∷ ks) (t ∷ ts) e h = rw (h 0 k t refl refl) (matching-all ks ts (omega arith) (λ j x y f g. h (suc j) x y f g))
-
-matching-at : (ks ts : List ℕ) → matching ks ts ≡ true → (j k t : ℕ) → getElem? ks j ≡ some k → getElem? ts j ≡ some t → within k (kindOf t) ≡ true
-unfolding matching
-matching-at [] [] h j k t e f = let z : _≡_ {A = ℕ} 0 1 = cc in absurd (omega arith)
-matching-at [] (u ∷ ts) h j k t e f = absurd (false≢true h)
-matching-at (x ∷ ks) [] h j k t e f = absurd (false≢true h)
-matching-at (x ∷ ks) (u ∷ ts) h zero k t e f = let p : x ≡ k = cc in let q : u ≡ t = cc in rw (← p, ← q) (and-both _ _ h .0)
-matching-at (x ∷ ks) (u ∷ ts) h (suc j) k t e f = matching-at ks ts (and-both _ _ h .1) j k t e f
-
--- the same ownerships, place by place
-same-length : (call : List Argument) (ts : List ℕ) → sameOwnerships call ts ≡ true → length call ≡ length ts
-unfolding sameOwnerships
-same-length [] [] h = refl
-same-length [] (t ∷ ts) h = absurd (false≢true h)
-same-length (x ∷ call) [] h = absurd (false≢true h)
-same-length (x ∷ call) (t ∷ ts) h = ap suc (same-length call ts (and-both _ _ h .1))
-
-same-at : (call : List Argument) (ts : List ℕ) → sameOwnerships call ts ≡ true → (j : ℕ) (x : Argument) (t : ℕ) → getElem? call j ≡ some x → getElem? ts j ≡ some t → ownershipOf (x .type) ≡ ownershipOf t
-unfolding sameOwnerships
-same-at [] [] h j x t e f = let z : _≡_ {A = ℕ} 0 1 = cc in absurd (omega arith)
-same-at [] (u ∷ ts) h j x t e f = absurd (false≢true h)
-same-at (y ∷ call) [] h j x t e f = absurd (false≢true h)
-same-at (y ∷ call) (u ∷ ts) h zero x t e f = let p : y ≡ x = cc in let q : u ≡ t = cc in rw (← p, ← q) (eqb-true _ _ (and-both _ _ h .0))
-same-at (y ∷ call) (u ∷ ts) h (suc j) x t e f = same-at call ts (and-both _ _ h .1) j x t e f
-
--- and the same registers are emptied
-same-freed : (call : List Argument) (ts : List ℕ) → sameOwnerships call ts ≡ true → freed call ≡ freed (beside ts (registersOf call))
-unfolding sameOwnerships freed beside isOwned
-same-freed [] [] h = refl
-same-freed [] (t ∷ ts) h = absurd (false≢true h)
-same-freed (x ∷ call) [] h = absurd (false≢true h)
-same-freed (x ∷ call) (t ∷ ts) h = rw (eqb-true (ownershipOf (x .type)) (ownershipOf t) (and-both _ _ h .0), same-freed call ts (and-both _ _ h .1)) refl
-
--- a call's own types have their own ownerships
-same-beside : (ts rs : List ℕ) → length rs ≡ length ts → (sameOwnerships (beside ts rs) ts ≡ true) × (registersOf (beside ts rs) ≡ rs)
-unfolding sameOwnerships beside _and_
-same-beside [] [] e = (refl, refl)
-same-beside [] (r ∷ rs) e = absurd (omega arith)
-same-beside (t ∷ ts) [] e = absurd (omega arith)
-same-beside (t ∷ ts) (r ∷ rs) e = let i = same-beside ts rs (omega arith) in (rw (eqb-same (ownershipOf t)) (i .0), ap (λ z. r ∷ z) (i .1))
 
 -- ---- a call by its arguments and the version that it enters
 
@@ -263,7 +177,7 @@ mark-zero : (P : Program) (C : Version) → Checked P C → eqb (markOf C) 1 ≡
 unfolding blockAt
 mark-zero P C ck h =
     let b = limited P C ck .body in
-    omega (arith, eqb-false (markOf C) 1 h, sym (mark-is C b), mark-low P C ck 0 _ (get-some (C .blocks) 0 noBlock b))
+    omega (arith, eqb-false (markOf C) 1 h, sym (mark-is C b), mark-bound P C ck 0 _ (get-some (C .blocks) 0 noBlock b))
 
 beside-at : (ts rs : List ℕ) (j t r : ℕ) → getElem? ts j ≡ some t → getElem? rs j ≡ some r → getElem? (beside ts rs) j ≡ some (record { type = t; register = r })
 unfolding beside

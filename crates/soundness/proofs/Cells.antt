@@ -14,13 +14,14 @@ use lib.Dec.{ltb}
 use borrow.Author.Tests.{lt-ltb, le-ltb, ltb-true, ltb-false}
 use Rattle.layout.specs.Bounds.{REGISTERS, NAMES}
 use Rattle.program.specs.Program.{Version, Program, findVersion}
-use Rattle.typing.specs.Fits.{typeOf}
+use Rattle.rules.specs.Fits.{typeOf}
 use Rattle.machine.specs.Try.{Try, got, stuck, _>>=_, _>>_, stuckUnless, orStuck, at, put}
 use Rattle.machine.specs.States.{ACTIVATIONS, place, newFrame, liveFrames, register, named, withStack, withFrame, withRegister, withName, assign, store}
 use Rattle.machine.specs.declared.Frame.{Frame}
 use Rattle.machine.specs.declared.Place.{Place}
 use Rattle.machine.specs.declared.State.{State}
 use Rattle.machine.specs.declared.Value.{Value}
+use Rattle.soundness.proofs.Lists.{get-some, get-take}
 
 -- how many cells a frame has
 abbrev pub CELLS : ℕ
@@ -62,30 +63,6 @@ pub record Sized (fs : List Frame) : Type 0 where
   pub whole : (k : ℕ) → k < ACTIVATIONS → Whole (frameAt fs k)
 
 -- ---- look-ups
-
-pub get-some : {A : Type 0} (xs : List A) (i : ℕ) (d : A) → i < length xs → getElem? xs i ≡ some (getD xs i d)
-get-some [] i d h = absurd (not-suc-le-zero h)
-get-some (x ∷ xs) zero d h = refl
-get-some (x ∷ xs) (suc i) d h = get-some xs i d (le-of-suc-le-suc h)
-
-pub get-in : {A : Type 0} (xs : List A) (i : ℕ) (d x : A) → getElem? xs i ≡ some x → (i < length xs) × (getD xs i d ≡ x)
-get-in [] i d x h = let z : _≡_ {A = ℕ} 0 1 = cc in absurd (omega arith)
-get-in (y ∷ xs) zero d x h = (omega arith, cc)
-get-in (y ∷ xs) (suc i) d x h = let t = get-in xs i d x h in (omega (arith, t .0), t .1)
-
-pub get-take : {A : Type 0} (xs : List A) (n i : ℕ) → i < n → getElem? (take n xs) i ≡ getElem? xs i
-get-take [] zero i h = absurd (not-suc-le-zero h)
-get-take [] (suc n) i h = refl
-get-take (x ∷ xs) zero i h = absurd (not-suc-le-zero h)
-get-take (x ∷ xs) (suc n) zero h = refl
-get-take (x ∷ xs) (suc n) (suc i) h = get-take xs n i (le-of-suc-le-suc h)
-
-pub take-in : {A : Type 0} (xs : List A) (n i : ℕ) (x : A) → getElem? (take n xs) i ≡ some x → i < n
-take-in [] zero i x h = let z : _≡_ {A = ℕ} 0 1 = cc in absurd (omega arith)
-take-in [] (suc n) i x h = let z : _≡_ {A = ℕ} 0 1 = cc in absurd (omega arith)
-take-in (y ∷ xs) zero i x h = let z : _≡_ {A = ℕ} 0 1 = cc in absurd (omega arith)
-take-in (y ∷ xs) (suc n) zero x h = omega arith
-take-in (y ∷ xs) (suc n) (suc i) x h = omega (arith, take-in xs n i x h)
 
 pub at-in : {A : Type 0} (xs : List A) (i : ℕ) (d : A) → i < length xs → at xs i ≡ got (getD xs i d)
 unfolding at orStuck

@@ -13,10 +13,10 @@ use borrow.Author.Tests.{eqb-true}
 use Rattle.layout.specs.Bounds.{REGISTERS}
 use Rattle.sets.specs.Sets.{has, those}
 use Rattle.program.specs.Program.{Argument, Version, Program, findVersion, beside}
-use Rattle.typing.specs.Types.{isOwned, isBorrowed}
-use Rattle.flow.specs.Actions.{emptied as freed}
-use Rattle.flow.proofs.Follows.{or-either, or-left, or-right}
-use Rattle.flow.proofs.Touches.{has-those, those-has}
+use Rattle.rules.specs.Types.{isOwned, isBorrowed}
+use Rattle.rules.specs.Actions.{emptied as freed}
+use Rattle.rules.proofs.Follows.{or-either, or-left, or-right}
+use Rattle.rules.proofs.Touches.{has-those, those-has}
 use Rattle.machine.specs.Try.{Try, got, _>>=_}
 use Rattle.machine.specs.States.{ACTIVATIONS, withStack, assign}
 use Rattle.machine.specs.Calls.{emptyIf, emptied}

@@ -12,8 +12,8 @@ use lib.ListN.{length, getElem?, List·getD-eq-default}
 use borrow.Author.Tests.{lt-ltb, le-ltb}
 use Rattle.layout.specs.Bounds.{REGISTERS, NAMES}
 use Rattle.program.specs.Program.{Version, Program, findVersion}
-use Rattle.typing.specs.Types.{ownershipOf, isOwned, isBorrowed}
-use Rattle.typing.specs.Fits.{typeOf}
+use Rattle.rules.specs.Types.{ownershipOf, isOwned, isBorrowed}
+use Rattle.rules.specs.Fits.{typeOf}
 use Rattle.machine.specs.Try.{Try, got, stuck, stop, _>>=_, orStuck, at}
 use Rattle.machine.specs.States.{register, named, withEnd}
 use Rattle.machine.specs.Steps.{advance}
@@ -27,13 +27,13 @@ use Rattle.machine.specs.declared.State.{State}
 use Rattle.machine.specs.declared.Status.{Status}
 use Rattle.machine.specs.declared.Value.{Value}
 use Rattle.soundness.specs.Claim.{onward, triedUnder, triedIn, tried, history, Live, entered, Declared, OfType, nothing, ofKind, Owns, Borrows, Safe}
-use Rattle.soundness.proofs.Cells.{Whole, cell, cellAt, frameAt, get-some, get-in, register-is, named-is}
+use Rattle.soundness.proofs.Cells.{Whole, cell, cellAt, frameAt, register-is, named-is}
 use Rattle.soundness.proofs.Invariant.{Sure, versionAt, cellType, typeAt, isFull, Fits, Unshared, Inv}
 use Rattle.soundness.proofs.Progress.{Good}
-use Rattle.soundness.proofs.Stacks.{get-end}
 use Rattle.soundness.proofs.Limits.{limited, live-frame}
 use Rattle.soundness.proofs.KindsOf.{valueKind, kind-got, kind-within}
 use Rattle.soundness.proofs.Quiet.{reflective-runs, none-quiet}
+use Rattle.soundness.proofs.Lists.{get-some, get-in, get-end}
 
 -- a step of a run that goes on is not stuck and keeps the invariant
 abbrev pub StepSafe : Program → Type 0

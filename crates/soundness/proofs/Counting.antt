@@ -12,7 +12,7 @@ use borrow.Author.Tests.{eqb-true, lt-ltb, le-ltb, ltb-true, ltb-false}
 use Rattle.layout.specs.Bounds.{REGISTERS, NAMES}
 use Rattle.layout.specs.Tests.{_and_, any, all}
 use Rattle.layout.proofs.Bools.{and-both}
-use Rattle.flow.proofs.Follows.{or-either, or-left, or-right}
+use Rattle.rules.proofs.Follows.{or-either, or-left, or-right, not-true as not-false}
 use Rattle.machine.specs.Try.{Try, got, stop, _>>=_, each}
 use Rattle.machine.specs.States.{place, VECTORS, PROMISES, liveFrames, isVector, isPromise, refers, held, pending, vectorCounts, promiseCounts, free}
 use Rattle.machine.specs.declared.End.{End}
@@ -20,27 +20,12 @@ use Rattle.machine.specs.declared.Frame.{Frame}
 use Rattle.machine.specs.declared.Place.{Place}
 use Rattle.machine.specs.declared.State.{State}
 use Rattle.machine.specs.declared.Value.{Value}
-use Rattle.soundness.proofs.Cells.{CELLS, Sized, Whole, noFrame, frameAt, cell, cellAt, at-out, get-some, get-in, get-take, take-in}
+use Rattle.soundness.proofs.Cells.{CELLS, Sized, Whole, noFrame, frameAt, cell, cellAt, at-out}
 use Rattle.soundness.proofs.Progress.{Good}
 use Rattle.soundness.proofs.Types.{clash, eqb-same}
-use Rattle.soundness.proofs.Versions.{any-at, not-false}
+use Rattle.soundness.proofs.Lists.{get-some, get-in, get-take, take-in, any-at, any-find}
 
 -- ---- lists
-
-pub any-find : {A : Type 0} (p : A → Bool) (l : List A) → any p l ≡ true → (i : ℕ) × (x : A) × (getElem? l i ≡ some x) × (p x ≡ true)
-unfolding any
-any-find p [] h = absurd (false≢true h)
-any-find {A} p (y ∷ l) h = go (or-either (p y) (any p l) h) (any-find p l)
-  where
-    go : (p y ≡ true) ⊎ (any p l ≡ true) → (any p l ≡ true → (i : ℕ) × (x : A) × (getElem? l i ≡ some x) × (p x ≡ true)) → (i : ℕ) × (x : A) × (getElem? (y ∷ l) i ≡ some x) × (p x ≡ true)
-    go (inl e) ih = (0, y, refl, e)
-    go (inr e) ih = let t = ih e in (suc (t .0), t .1, t .2, t .3)
-
-pub all-at : {A : Type 0} (p : A → Bool) (l : List A) → all p l ≡ true → (i : ℕ) (x : A) → getElem? l i ≡ some x → p x ≡ true
-unfolding all
-all-at p [] h i x e = let z : _≡_ {A = ℕ} 0 1 = cc in absurd (omega arith)
-all-at p (y ∷ l) h zero x e = let q : y ≡ x = cc in rw (← q) (and-both _ _ h .0)
-all-at p (y ∷ l) h (suc i) x e = all-at p l (and-both _ _ h .1) i x e
 
 -- one after the other, each with a result
 pub each-some : {A B : Type 0} (g : A → Try B) (l : List A) → ((i : ℕ) (x : A) → getElem? l i ≡ some x → (y : B) × (g x ≡ got y)) → (ys : List B) × (each g l ≡ got ys)

@@ -17,11 +17,12 @@ use Rattle.layout.proofs.Bools.{and-both}
 use Rattle.sets.specs.Sets.{has, those}
 use Rattle.program.specs.Program.{Block, Version, Program}
 use Rattle.program.specs.Questions.{registerExists}
-use Rattle.typing.specs.Types.{kindOf, isShared, isOwned, isBorrowed, within}
-use Rattle.typing.specs.Fits.{typeOf, declaredKind, owned, plain, fresh, fitsReturn}
-use Rattle.flow.specs.Actions.{Action, reading}
-use Rattle.flow.proofs.Suffixes.{met-end}
-use Rattle.flow.proofs.Touches.{has-those}
+use Rattle.rules.specs.Types.{kindOf, isShared, isOwned, isBorrowed, within}
+use Rattle.rules.specs.Fits.{typeOf, declaredKind, owned, plain, fresh, fitsReturn}
+use Rattle.rules.specs.Actions.{Action, reading}
+use Rattle.rules.proofs.Suffixes.{met-end}
+use Rattle.rules.proofs.Touches.{has-those}
+use Rattle.rules.proofs.Rules.{Yields}
 use Rattle.checker.proofs.Accepted.{Checked}
 use Rattle.machine.specs.Try.{Try, got, stop, _>>=_, _>>_, stuckUnless, at}
 use Rattle.machine.specs.States.{ACTIVATIONS, VECTORS, PROMISES, newVector, anInteger, full, value, withStack, withPromise, withEnd, assign}
@@ -40,12 +41,13 @@ use Rattle.soundness.proofs.Invariant.{Sure, versionAt, blockAt, promis
 use Rattle.soundness.proofs.Progress.{Good, good, good-then, good-got, good-test}
 use Rattle.soundness.proofs.Types.{clash, eqb-same, register-type, shared-owned, shared-borrowed, owned-borrowed, owned-owned, owned-kind, plain-shared, plain-kind, fresh-kind, integer-kind, force-kind, force-owned, within-trans, fits-within, fits-down, fits-promise, an-integer}
 use Rattle.soundness.proofs.Heap.{same-version, ext-every, ext-full, heap-write, heap-pop, heap-promises, lone-unless, stack-ext}
-use Rattle.soundness.proofs.Versions.{not-false, return-kind, promise-result, body-result, result-exists, register-in}
+use Rattle.soundness.proofs.Versions.{return-kind, promise-result, body-result, result-exists, register-in}
 use Rattle.soundness.proofs.Stacks.{opened-live, stack-suc}
 use Rattle.soundness.proofs.KindsOf.{valueKind, kind-got, kind-within, kind-fits, promise-is}
 use Rattle.soundness.proofs.Operands.{full-value}
 use Rattle.soundness.proofs.Plain.{no-vector}
 use Rattle.soundness.proofs.Promises.{promise-same, promise-other}
+use Rattle.rules.proofs.Follows.{not-true as not-false}
 
 -- ---- a result enters the register d of the activation b that waits for it
 
@@ -181,11 +183,11 @@ module _ (P : Program) (sure : Sure P) (s : State) (h : ℕ) (a : Activation) (W
 
   module _ (newest : suc (a .frame) ≡ s .calls) (body : a .block ≡ 0) where
     -- what question 8 found of the result register
-    result-fits : (within (kindOf (typeOf X (blockAt X (a .block) .result))) (kindOf (X .return)) ≡ true) × (cond (isOwned (X .return)) (owned X (blockAt X (a .block) .result)) (not (isBorrowed (typeOf X (blockAt X (a .block) .result)))) ≡ true)
-    result-fits = and-both _ _ (body-result P X own (blockAt X (a .block)) (ap (getElem? (X .blocks)) (sym body) ∙ there))
+    yields : Yields (versionAt P (s .frames) (a .frame)) (blockAt (versionAt P (s .frames) (a .frame)) (a .block))
+    yields = body-result P X own (blockAt X (a .block)) (ap (getElem? (X .blocks)) (sym body) ∙ there)
 
     fits-return : Fits P (s .frames) (s .promises) (a .frame) (X .return) (cellAt (s .frames) (a .frame) (blockAt X (a .block) .result))
-    fits-return = fits-within P (s .frames) (s .promises) (a .frame) _ _ (result-fits .0) _ res-typed
+    fits-return = fits-within P (s .frames) (s .promises) (a .frame) _ _ (yields .kind) _ res-typed
 
     kind-fits-return : within (valueKind P (s .frames) (s .promises) (cellAt (s .frames) (a .frame) (blockAt X (a .block) .result))) (kindOf (X .return)) ≡ true
     kind-fits-return = kind-within P (s .frames) (s .promises) (a .frame) (X .return) _ res-full fits-return
@@ -206,19 +208,16 @@ module _ (P : Program) (sure : Sure P) (s : State) (h : ℕ) (a : Activation) (W
 
       fits-d : Fits P (s .frames) (s .promises) (b .frame) (typeOf (versionAt P (s .frames) (b .frame)) d) (cellAt (s .frames) (a .frame) (blockAt X (a .block) .result))
       unfolding fitsReturn
-      fits-d = kind-fits P (s .frames) (s .promises) (b .frame) (X .return) (typeOf B d) _ (fits-down P (s .frames) (s .promises) (a .frame) (b .frame) (X .return) (return-kind P X own) _ fits-return) (go (isOwned (X .return)) fr (result-fits .1))
+      fits-d = kind-fits P (s .frames) (s .promises) (b .frame) (X .return) (typeOf B d) _ (fits-down P (s .frames) (s .promises) (a .frame) (b .frame) (X .return) (return-kind P X own) _ fits-return) (go (isOwned (X .return)) refl fr)
         where
-          go : (o : Bool) → cond o (fresh B d) (plain B d (kindOf (X .return))) ≡ true → cond o (owned X res) (not (isBorrowed (typeOf X res))) ≡ true → within (valueKind P (s .frames) (s .promises) (cellAt (s .frames) (a .frame) res)) (kindOf (typeOf B d)) ≡ true
-          go true f r = within-trans _ 3 _ (rw (owned-kind X res r) at (kind-within P (s .frames) (s .promises) (a .frame) (typeOf X res) _ res-full res-typed)) (fresh-kind B d f)
-          go false f r = within-trans _ (kindOf (X .return)) _ kind-fits-return (plain-kind B d _ f)
+          go : (o : Bool) → isOwned (X .return) ≡ o → cond o (fresh B d) (plain B d (kindOf (X .return))) ≡ true → within (valueKind P (s .frames) (s .promises) (cellAt (s .frames) (a .frame) res)) (kindOf (typeOf B d)) ≡ true
+          go true r f = within-trans _ 3 _ (rw (owned-kind X res (yields .own r)) at (kind-within P (s .frames) (s .promises) (a .frame) (typeOf X res) _ res-full res-typed)) (fresh-kind B d f)
+          go false r f = within-trans _ (kindOf (X .return)) _ kind-fits-return (plain-kind B d _ f)
 
       lone-d : Lone P (s .frames) (a .frame) (b .frame) d (cellAt (s .frames) (a .frame) (blockAt X (a .block) .result))
       unfolding Lone Unshared typeAt fitsReturn
-      lone-d w k c e hk q _ = go (isOwned (X .return)) fr (result-fits .1)
+      lone-d w k c e hk q _ = go (isOwned (X .return)) refl fr
         where
-          tr : ℕ
-          tr = typeOf X res
-
           apart : (k ≡ a .frame) × (c ≡ res) → ⊥
           apart y = omega (arith, y .0)
 
@@ -230,9 +229,9 @@ module _ (P : Program) (sure : Sure P) (s : State) (h : ℕ) (a : Activation) (W
           unowned n (inl y) = omega (arith, y .0)
           unowned n (inr y) = clash (rw (register-type X res res-in) at (y .0)) n
 
-          go : (o : Bool) → cond o (fresh B d) (plain B d (kindOf (X .return))) ≡ true → cond o (owned X res) (not (isBorrowed (typeOf X res))) ≡ true → (isOwned (typeAt P (s .frames) (b .frame) d) ≡ false) × (isOwned (typeAt P (s .frames) k c) ≡ false)
-          go true f r = let o = owned-owned X res r in absurd (not-above o (W .inv .heap .own (a .frame) res k c w hf (omega (arith, hk, hf)) e q (rw (register-type X res res-in) o)))
-          go false f r = (rw (register-type B d hd) (shared-owned _ (plain-shared B d _ f)), not-false _ (λ o. unowned (not-true _ r) (W .inv .heap .own k c (a .frame) res w (omega (arith, hk, hf)) hf q e o)))
+          go : (o : Bool) → isOwned (X .return) ≡ o → cond o (fresh B d) (plain B d (kindOf (X .return))) ≡ true → (isOwned (typeAt P (s .frames) (b .frame) d) ≡ false) × (isOwned (typeAt P (s .frames) k c) ≡ false)
+          go true r f = let o = owned-owned X res (yields .own r) in absurd (not-above o (W .inv .heap .own (a .frame) res k c w hf (omega (arith, hk, hf)) e q (rw (register-type X res res-in) o)))
+          go false r f = (rw (register-type B d hd) (shared-owned _ (plain-shared B d _ f)), not-false _ (λ o. unowned (yields .lent r) (W .inv .heap .own k c (a .frame) res w (omega (arith, hk, hf)) hf q e o)))
 
     call-under : Stack P (s .frames) (waits (a .d) (X .return) (blockAt X (a .block) .mark)) (a .frame) (stackOf (s .activations) h) → (h′ : ℕ) → h ≡ suc h′ → Good (Inv P) (back s (a .frame) (a .d) (cellAt (s .frames) (a .frame) (blockAt X (a .block) .result)))
     unfolding stackOf

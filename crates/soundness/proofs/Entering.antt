@@ -14,10 +14,10 @@ use Rattle.layout.specs.Bounds.{REGISTERS}
 use Rattle.sets.specs.Sets.{has}
 use Rattle.program.specs.Program.{Argument, Line, Version, Program, findVersion, markOf, parameterTypes, beside}
 use Rattle.program.specs.Questions.{registerExists}
-use Rattle.typing.specs.Types.{kindOf, isShared, isOwned, isBorrowed, within}
-use Rattle.typing.specs.Fits.{typeOf, fitsReturn}
-use Rattle.flow.specs.Actions.{emptied as freed}
-use Rattle.flow.proofs.Follows.{or-left, or-right}
+use Rattle.rules.specs.Types.{kindOf, isShared, isOwned, isBorrowed, within}
+use Rattle.rules.specs.Fits.{typeOf, fitsReturn}
+use Rattle.rules.specs.Actions.{emptied as freed}
+use Rattle.rules.proofs.Follows.{or-left, or-right, not-true as not-false}
 use Rattle.checker.proofs.Accepted.{Checked}
 use Rattle.machine.specs.Try.{Try, got, stop, _>>=_, _>>_, endUnless, put}
 use Rattle.machine.specs.States.{ACTIVATIONS, withStack}
@@ -29,12 +29,11 @@ use Rattle.machine.specs.declared.Opener.{Opener}
 use Rattle.machine.specs.declared.Promise.{Promise}
 use Rattle.machine.specs.declared.State.{State}
 use Rattle.machine.specs.declared.Value.{Value}
-use Rattle.soundness.proofs.Cells.{Sized, frameAt, cell, cellAt, get-some, get-in, get-take, put-in, Apart, place?}
+use Rattle.soundness.proofs.Cells.{Sized, frameAt, cell, cellAt, put-in, Apart, place?}
 use Rattle.soundness.proofs.Invariant.{Sure, versionAt, blockAt, cellType, typeAt, isFull, keep, kept, Fits, Unshared, Heap, Ext, every, Pend, top, waits, isPend, Gets, Stands, Opened, below, gives, awaited, Base, Stack, stackOf, Inv}
 use Rattle.soundness.proofs.Progress.{Good, good, good-then, good-got}
 use Rattle.soundness.proofs.Types.{clash, eqb-same, register-type, borrowed-owned}
 use Rattle.soundness.proofs.Heap.{same-version, same-type, ext-less, ext-both, ext-every, fits-ext, stack-ext, ext-push, version-new, cell-new, cell-old, heap-push}
-use Rattle.soundness.proofs.Versions.{not-false}
 use Rattle.soundness.proofs.Limits.{limited, mark-is}
 use Rattle.soundness.proofs.NewFrames.{frame-function, frame-version, frame-whole, frame-cell, body-stands}
 use Rattle.soundness.proofs.KindsOf.{valueKind, kind-fits}
@@ -42,6 +41,7 @@ use Rattle.soundness.proofs.Clearing.{isIn, Cleared, still, full-still,
 use Rattle.soundness.proofs.Standing.{At, moved, live, inside, place-in, type-is, typed, meets, onward, under-le, spare, not-owned}
 use Rattle.soundness.proofs.Vectors.{sole, under-body}
 use Rattle.soundness.proofs.Promises.{stack-push}
+use Rattle.soundness.proofs.Lists.{get-some, get-in, get-take, map-length}
 
 -- ---- arguments
 
@@ -55,10 +55,6 @@ pub argument-in : (f : ℕ → Value) (rs : List ℕ) (c r : ℕ) → getElem? r
 argument-in f [] c r e = let z : _≡_ {A = ℕ} 0 1 = cc in absurd (omega arith)
 argument-in f (q ∷ rs) zero r e = let y : q ≡ r = cc in ap f y
 argument-in f (q ∷ rs) (suc c) r e = argument-in f rs c r e
-
-pub length-map : (f : ℕ → Value) (rs : List ℕ) → length (map f rs) ≡ length rs
-length-map f [] = refl
-length-map f (r ∷ rs) = ap suc (length-map f rs)
 
 -- the register of an owned parameter is emptied
 freed-owned : (ts rs : List ℕ) (c t r : ℕ) → getElem? ts c ≡ some t → getElem? rs c ≡ some r → isOwned t ≡ true → isIn (freed (beside ts rs)) r ≡ true
@@ -134,7 +130,7 @@ module _ (P : Program) (sure : Sure P) (s : State) (a : Activation) (rest : List
   callee = sure _ _ C (K .known)
 
   few : length (map (cellAt (s .frames) (a .frame)) rs) ≤ REGISTERS
-  few = omega (arith, length-map (cellAt (s .frames) (a .frame)) rs, K .count, limited P C callee .parameters)
+  few = omega (arith, map-length (cellAt (s .frames) (a .frame)) rs, K .count, limited P C callee .parameters)
 
   -- the type of a parameter
   parameter : (j r : ℕ) → getElem? rs j ≡ some r → (j < REGISTERS) × (cellType C j ≡ typeOf C j) × (getElem? (parameterTypes C) j ≡ some (typeOf C j))

@@ -10,9 +10,9 @@ use native.Mathlib.Omega.{arith}
 use lib.ListN.{length, set, getD}
 use Rattle.sets.specs.Sets.{has}
 use Rattle.program.specs.Program.{Version, Program, findVersion}
-use Rattle.typing.specs.Types.{isOwned, isBorrowed}
-use Rattle.flow.specs.Actions.{Action}
-use Rattle.flow.proofs.Follows.{or-left, or-right}
+use Rattle.rules.specs.Types.{isOwned, isBorrowed}
+use Rattle.rules.specs.Actions.{Action}
+use Rattle.rules.proofs.Follows.{or-left, or-right}
 use Rattle.machine.specs.States.{ACTIVATIONS, PROMISES}
 use Rattle.machine.specs.declared.Activation.{Activation}
 use Rattle.machine.specs.declared.Frame.{Frame}
@@ -22,6 +22,7 @@ use Rattle.machine.specs.declared.Value.{Value}
 use Rattle.soundness.proofs.Cells.{CELLS, Sized, Whole, Apart, place?, frameAt, cell, cellAt, writeAt, at-same, at-other, at-function, at-version, write-sized, write-all, set-same, set-other, set-sized}
 use Rattle.soundness.proofs.Invariant.{orNone, versionAt, blockAt, promiseAt, cellType, typeAt, isFull, keep, touches, Alive, kindAt, PromiseFits, Fits, Unshared, Lone, Heap, Ext, every, kept, Pend, top, waits, isPend, Gets, Stands, Opened, below, gives, awaited, Stack}
 use Rattle.soundness.proofs.Types.{clash}
+use Rattle.soundness.proofs.Stacks.{opened-live, below-le}
 
 -- ---- versions
 
@@ -111,16 +112,6 @@ module _ (P : Program) where
       go : (r : ℕ) → (isPend pend r ≡ true) ⊎ (isFull (cellAt fs f r) ≡ true) → (isPend pend r ≡ true) ⊎ (isFull (cellAt fs′ f r) ≡ true)
       go r (inl p) = inl p
       go r (inr p) = inr (e .grow f r h refl p)
-
-  pub opened-live : (n f b : ℕ) (o : Opener) → Opened n f b o → f < n
-  unfolding Opened
-  opened-live n f b Opener.Call a = omega arith
-  opened-live n f b (Opener.Force p) a = a .0
-
-  pub below-le : (n f b : ℕ) (o : Opener) → Opened n f b o → below n f o ≤ n
-  unfolding Opened below
-  below-le n f b Opener.Call a = omega arith
-  below-le n f b (Opener.Force p) a = omega arith
 
   pub same-awaited : (fs fs′ : List Frame) (a : Activation) → versionAt P fs′ (a .frame) ≡ versionAt P fs (a .frame) → awaited P fs′ a ≡ awaited P fs a
   unfolding awaited

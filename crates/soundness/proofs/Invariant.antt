@@ -11,11 +11,11 @@ use Rattle.layout.specs.Bounds.{REGISTERS}
 use Rattle.sets.specs.Sets.{has}
 use Rattle.program.specs.Program.{Block, Version, Program, findVersion}
 use Rattle.program.specs.Questions.{registerExists}
-use Rattle.typing.specs.Types.{kindOf, isOwned, isBorrowed, within}
-use Rattle.typing.specs.Fits.{typeOf, promiseKind, fitsReturn}
-use Rattle.flow.specs.Actions.{Action, bodyAction}
-use Rattle.flow.specs.Walks.{acts, after}
-use Rattle.flow.proofs.Suffixes.{Does}
+use Rattle.rules.specs.Types.{kindOf, isOwned, isBorrowed, within}
+use Rattle.rules.specs.Fits.{typeOf, promiseKind, fitsReturn}
+use Rattle.rules.specs.Actions.{Action, bodyAction}
+use Rattle.rules.specs.Walks.{acts, after}
+use Rattle.rules.proofs.Suffixes.{Does}
 use Rattle.checker.proofs.Accepted.{Checked}
 use Rattle.machine.specs.States.{ACTIVATIONS, VECTORS, PROMISES}
 use Rattle.machine.specs.declared.Activation.{Activation}

@@ -7,7 +7,7 @@ use Prim.Native.Nat.{ℕ, _<_}
 use native.Mathlib.Omega.{arith}
 use lib.ListN.{length}
 use Rattle.program.specs.Program.{Version, Program, findVersion}
-use Rattle.typing.specs.Types.{kindOf, within}
+use Rattle.rules.specs.Types.{kindOf, within}
 use Rattle.machine.specs.Try.{Try, got, _>>=_, _>>_, orStuck, at}
 use Rattle.machine.specs.States.{VECTORS, newVector, liveFrames, kindIn}
 use Rattle.machine.specs.declared.Frame.{Frame}

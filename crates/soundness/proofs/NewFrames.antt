@@ -14,17 +14,18 @@ use Rattle.layout.specs.Bounds.{REGISTERS, NAMES}
 use Rattle.layout.specs.Tests.{_and_}
 use Rattle.layout.proofs.Bools.{and-both}
 use Rattle.program.specs.Program.{Version, Program, findVersion}
-use Rattle.flow.proofs.Suffixes.{Does, Begun, begun}
-use Rattle.flow.proofs.Touches.{Flowing, flows-body}
+use Rattle.rules.proofs.Suffixes.{Does, Begun, begun}
+use Rattle.rules.proofs.Touches.{Flowing, flows-body}
 use Rattle.checker.proofs.Accepted.{Checked}
 use Rattle.machine.specs.States.{place, over}
 use Rattle.machine.specs.Calls.{frameFor}
 use Rattle.machine.specs.declared.Frame.{Frame}
 use Rattle.machine.specs.declared.Place.{Place}
 use Rattle.machine.specs.declared.Value.{Value}
-use Rattle.soundness.proofs.Cells.{Whole, cell, cellAt, get-some}
+use Rattle.soundness.proofs.Cells.{Whole, cell, cellAt}
 use Rattle.soundness.proofs.Invariant.{noBlock, versionAt, blockAt, isFull, captures, keep, top, Gets, Stands}
 use Rattle.soundness.proofs.Limits.{limited}
+use Rattle.soundness.proofs.Lists.{get-some}
 
 -- ---- a list put over another
 

@@ -16,12 +16,12 @@ use Rattle.sets.specs.Sets.{has, those}
 use Rattle.program.specs.Program.{Instr, Line, Version, Program}
 use Rattle.program.specs.Questions.{registerExists, exists}
 use Rattle.program.proofs.Laid.{instrBounded}
-use Rattle.typing.specs.Types.{kindOf, isShared, isOwned}
-use Rattle.typing.specs.Fits.{typeOf, integer, vector, promise, value, fits}
-use Rattle.typing.specs.Effects.{reflective}
-use Rattle.flow.specs.Actions.{reads_empties_assigns_, touch, actionOf}
-use Rattle.flow.specs.Walks.{entered}
-use Rattle.flow.proofs.Touches.{Touched, touched-by, has-those, those-has}
+use Rattle.rules.specs.Types.{kindOf, isShared, isOwned}
+use Rattle.rules.specs.Fits.{typeOf, integer, vector, promise, value, fits}
+use Rattle.rules.specs.Effects.{reflective}
+use Rattle.rules.specs.Actions.{reads_empties_assigns_, touch, actionOf}
+use Rattle.rules.specs.Walks.{entered}
+use Rattle.rules.proofs.Touches.{Touched, touched-by, has-those, those-has}
 use Rattle.machine.specs.Try.{Try, got, stuck, _>>=_, each}
 use Rattle.machine.specs.States.{VECTORS, PROMISES, anInteger, aVector, aPromise, full, noPromise}
 use Rattle.machine.specs.States as states
@@ -29,7 +29,7 @@ use Rattle.machine.specs.declared.Activation.{Activation}
 use Rattle.machine.specs.declared.Frame.{Frame}
 use Rattle.machine.specs.declared.State.{State}
 use Rattle.machine.specs.declared.Value.{Value}
-use Rattle.soundness.proofs.Cells.{frameAt, cellAt, get-in}
+use Rattle.soundness.proofs.Cells.{frameAt, cellAt}
 use Rattle.soundness.proofs.Invariant.{Sure, versionAt, blockAt, promiseAt, isFull, typeAt, Fits, PromiseFits}
 use Rattle.soundness.proofs.Types.{name-kind, integer-kind, vector-kind, promise-kind, fits-within, fits-promise, an-integer, a-vector, a-promise}
 use Rattle.soundness.proofs.Standing.{At, live, exist, fit, bounded, marked, meets, operand, typed, register-got, place-in}

@@ -18,9 +18,10 @@ use Rattle.layout.proofs.Rows.{Rows, choose-each}
 use Rattle.program.specs.Program.{Instr, LIT, MOVE, USE, DUP, VEC, LEN, GET, SET, ARITH, SELECT, CAST, NAMED, STORE, PROM, FORCE, PEEK, POKE, CALL, DISPATCH, Line, Version, Program}
 use Rattle.program.specs.Questions.{registerExists, nameExists, exists}
 use Rattle.program.proofs.Laid.{instrBounded}
-use Rattle.typing.specs.Types.{kindOf, isShared, within}
-use Rattle.typing.specs.Fits.{typeOf, declaredKind, shared, integer, vector, promise, value, plain, fits}
-use Rattle.flow.specs.Actions.{touch, reads_empties_assigns_}
+use Rattle.rules.specs.Types.{kindOf, isShared, within}
+use Rattle.rules.specs.Fits.{typeOf, declaredKind, shared, integer, vector, promise, value, plain, fits}
+use Rattle.rules.specs.Actions.{touch, reads_empties_assigns_}
+use Rattle.rules.proofs.Rules.{move-shared}
 use Rattle.machine.specs.Try.{Try, got, stuck, stop, _>>=_, _>>_, endUnless, at}
 use Rattle.machine.specs.Values.{ranged, isZero, divided, arith as arithmetic, index}
 use Rattle.machine.specs.States.{VECTORS, newVector, itemsOf, kindIn, name, named, isSet, assign, store}
@@ -31,7 +32,7 @@ use Rattle.machine.specs.declared.Promise.{Promise}
 use Rattle.machine.specs.declared.State.{State}
 use Rattle.machine.specs.declared.Value.{Value}
 use Rattle.machine.specs.declared.Vector.{Vector}
-use Rattle.soundness.proofs.Cells.{CELLS, frameAt, cellAt, wrote, at-in, at-some, get-some, frame-is, store-is, named-is}
+use Rattle.soundness.proofs.Cells.{CELLS, frameAt, cellAt, wrote, at-in, at-some, frame-is, store-is, named-is}
 use Rattle.soundness.proofs.Invariant.{Sure, versionAt, typeAt, promiseAt, isFull, Fits, PromiseFits, Lone, Inv}
 use Rattle.soundness.proofs.Progress.{Good, good, good-then, good-got, good-end, good-test}
 use Rattle.soundness.proofs.Types.{register-type, name-type, name-shared, name-kind, plain-shared, plain-kind, fits-within, fits-promise, fits-down}

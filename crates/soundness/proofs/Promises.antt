@@ -18,13 +18,14 @@ use Rattle.layout.proofs.Bools.{and-both, found-some}
 use Rattle.sets.specs.Sets.{has, those}
 use Rattle.program.specs.Program.{Instr, PROM, FORCE, Line, Block, Version, Program}
 use Rattle.program.specs.Questions.{registerExists, exists}
-use Rattle.typing.specs.Types.{kindOf, isOwned, within}
-use Rattle.typing.specs.Fits.{typeOf, declaredKind, promise, plain, promiseKind, fitsReturn, fits}
-use Rattle.typing.specs.Effects.{reflective}
-use Rattle.flow.specs.Actions.{Action, touch, actionOf}
-use Rattle.flow.specs.Walks.{entered, blockAction}
-use Rattle.flow.proofs.Suffixes.{Does, Begun, begun}
-use Rattle.flow.proofs.Touches.{Promises, promises-by}
+use Rattle.rules.specs.Types.{kindOf, isOwned, within}
+use Rattle.rules.specs.Fits.{typeOf, declaredKind, promise, plain, promiseKind, fitsReturn, fits}
+use Rattle.rules.specs.Effects.{reflective}
+use Rattle.rules.specs.Actions.{Action, touch, actionOf}
+use Rattle.rules.specs.Walks.{entered, blockAction}
+use Rattle.rules.proofs.Suffixes.{Does, Begun, begun}
+use Rattle.rules.proofs.Touches.{Promises, promises-by}
+use Rattle.rules.proofs.Rules.{force-marked}
 use Rattle.machine.specs.Try.{Try, got, _>>=_, _>>_, endUnless, at}
 use Rattle.machine.specs.States.{ACTIVATIONS, PROMISES, promiseCounts, freePromise, pending, withPromise, withStack, assign}
 use Rattle.machine.specs.Calls.{opened, force}
@@ -37,18 +38,19 @@ use Rattle.machine.specs.declared.Opener.{Opener}
 use Rattle.machine.specs.declared.Promise.{Promise}
 use Rattle.machine.specs.declared.State.{State}
 use Rattle.machine.specs.declared.Value.{Value}
-use Rattle.soundness.proofs.Cells.{frameAt, cellAt, at-some, get-some, get-in}
+use Rattle.soundness.proofs.Cells.{frameAt, cellAt, at-some}
 use Rattle.soundness.proofs.Invariant.{Sure, versionAt, blockAt, noBlock, promiseAt, noPromise, typeAt, isFull, keep, touches, Alive, kindAt, PromiseFits, Fits, Lone, Heap, Ext, every, Pend, top, waits, isPend, Gets, Stands, Opened, below, gives, awaited, Stack, stackOf, Inv}
 use Rattle.soundness.proofs.Progress.{Good, good, good-then, good-got, good-next, good-end}
 use Rattle.soundness.proofs.Types.{In, itself, any, value, promise as quiet-promise, within-in, promise-kind, plain-kind, force-kind, force-owned, eqb-same}
 use Rattle.soundness.proofs.Heap.{heap-promises, lone-unless, ext-same, touches-captured}
-use Rattle.soundness.proofs.Versions.{mark-low}
 use Rattle.soundness.proofs.Stacks.{stack-top}
 use Rattle.soundness.proofs.Counting.{promise-free, free-ok}
 use Rattle.soundness.proofs.KindsOf.{promise-is}
 use Rattle.soundness.proofs.Standing.{At, moved, live, checked-version, there, place-in, meets, operand, kept-now, onward, writes-register}
 use Rattle.soundness.proofs.Operands.{only-one, fits-i, exists-i, marked-i, full-at, assigned-in, promise-got}
 use Rattle.soundness.proofs.Plain.{Stepped, gives-integer}
+use Rattle.soundness.proofs.Lists.{get-some}
+use Rattle.soundness.proofs.Limits.{mark-bound}
 
 -- ---- the pool of promises
 
@@ -176,18 +178,18 @@ module _ (P : Program) (sure : Sure P) (s : State) (a : Activation) (rest : List
 
   -- the mark of the promise's block is no greater than that of the forcing block
   mark-covers : (q : Promise) → PromiseFits P (s .frames) q (a .frame) (typeOf Y r) → blockAt (versionAt P (s .frames) (q .frame)) (q .block) .mark ≤ blockAt Y (a .block) .mark
-  unfolding kindAt fits reflective
-  mark-covers q f = go (promise-kind (typeOf Y r) (and-both _ _ (fits-i P sure s a rest l W _ is) .0)) (within-in _ _ (f .kind))
+  unfolding kindAt
+  mark-covers q f = go (force-marked P Y (a .block) d r (fits-i P sure s a rest l W _ is)) (within-in _ _ (f .kind))
     where
       low : blockAt (versionAt P (s .frames) (q .frame)) (q .block) .mark < 2
-      low = mark-low P _ (sure _ _ _ (W .heap .known (q .frame) (omega (arith, f .older, live P sure s a rest l W)))) (q .block) _ (f .alive .does .there)
+      low = mark-bound P _ (sure _ _ _ (W .heap .known (q .frame) (omega (arith, f .older, live P sure s a rest l W)))) (q .block) _ (f .alive .does .there)
 
-      go : (kindOf (typeOf Y r) ≡ 4) ⊎ (kindOf (typeOf Y r) ≡ 5) → In (promiseKind (blockAt (versionAt P (s .frames) (q .frame)) (q .block) .mark)) (kindOf (typeOf Y r)) → blockAt (versionAt P (s .frames) (q .frame)) (q .block) .mark ≤ blockAt Y (a .block) .mark
+      go : (kindOf (typeOf Y r) ≡ 4) ⊎ ((kindOf (typeOf Y r) ≡ 5) × (reflective P Y (FORCE d r) ≡ true)) → In (promiseKind (blockAt (versionAt P (s .frames) (q .frame)) (q .block) .mark)) (kindOf (typeOf Y r)) → blockAt (versionAt P (s .frames) (q .frame)) (q .block) .mark ≤ blockAt Y (a .block) .mark
       go (inl k) (itself e) = omega arith
       go (inl k) (any e) = absurd (omega arith)
       go (inl k) (value e g) = absurd (omega arith)
       go (inl k) (quiet-promise e g) = absurd (omega arith)
-      go (inr k) i = omega (arith, low, marked-i P sure s a rest l W _ is (eq-eqb _ 5 k))
+      go (inr k) i = omega (arith, low, marked-i P sure s a rest l W _ is (k .1))
 
   -- the promise's block begins above the others
   opens : (p : ℕ) (q : Promise) → p < PROMISES → PromiseFits P (s .frames) q (a .frame) (typeOf Y r)

@@ -12,9 +12,9 @@ use lib.Dec.{eqb}
 use borrow.Author.Tests.{eqb-true, ne-eqb}
 use Rattle.layout.specs.Tests.{any}
 use Rattle.program.specs.Program.{Instr, LIT, MOVE, USE, DUP, VEC, LEN, GET, SET, ARITH, SELECT, CAST, NAMED, STORE, PROM, FORCE, PEEK, POKE, CALL, DISPATCH, Line, Block, Version, Program, markOf}
-use Rattle.typing.specs.Effects as effect
-use Rattle.typing.specs.Effects.{covered}
-use Rattle.flow.proofs.Follows.{or-either, or-left, or-right}
+use Rattle.rules.specs.Effects as effect
+use Rattle.rules.specs.Effects.{covered}
+use Rattle.rules.proofs.Follows.{or-either, or-left, or-right}
 use Rattle.machine.specs.Try.{got, _>>=_}
 use Rattle.machine.specs.Steps.{here, position, positionOf}
 use Rattle.machine.specs.Runs.{stepOf}
@@ -27,6 +27,8 @@ use Rattle.soundness.specs.Claim.{isAccess, atAccess, running, counted, 
 use Rattle.soundness.proofs.Invariant.{Sure, versionAt, blockAt, Gets, Opened, below, awaited, Base, Stack, stackOf, Inv}
 use Rattle.soundness.proofs.Stacks.{topOf, has-top, at-top, top-live, here-is, position-is, Standing, at-line, at-end, standing}
 use Rattle.soundness.proofs.Limits.{limited, mark-is, live-frame, live-checked}
+use Rattle.soundness.proofs.Versions.{covers}
+use Rattle.soundness.proofs.Types.{both}
 
 -- ---- marks, going down the stack
 
@@ -86,37 +88,11 @@ access-reflects P v (POKE a x y) e = refl
 access-reflects P v (CALL d f w rs) e = absurd (false≢true e)
 access-reflects P v (DISPATCH d f mark ret pairs) e = absurd (false≢true e)
 
--- one that passes is enough
-any-at : {A : Type 0} (p : A → Bool) (l : List A) (i : ℕ) (x : A) → getElem? l i ≡ some x → p x ≡ true → any p l ≡ true
-unfolding any
-any-at p [] i x e h = let z : _≡_ {A = ℕ} 0 1 = cc in absurd (omega arith)
-any-at p (y ∷ l) zero x e h = let q : y ≡ x = cc in or-left {a = p y} (any p l) (rw q h)
-any-at p (y ∷ l) (suc i) x e h = or-right (p y) (any-at p l i x e h)
-
--- a block with a PEEK or POKE has the mark 1
-access-marked : (P : Program) (v : Version) (b : Block) → covered P v b ≡ true → (i : ℕ) (l : Line) → getElem? (b .code) i ≡ some l → isAccess (l .does) ≡ true → b .mark ≡ 1
-unfolding covered
-access-marked P v b c i l e h = go (or-either (eqb (b .mark) 1) (not (any (λ (l : Line). effect.reflective P v (l .does)) (b .code))) c)
-  where
-    go : (eqb (b .mark) 1 ≡ true) ⊎ (not (any (λ (l : Line). effect.reflective P v (l .does)) (b .code)) ≡ true) → b .mark ≡ 1
-    go (inl m) = eqb-true (b .mark) 1 m
-    go (inr m) = absurd (true≢false (sym m ∙ ap not (any-at (λ (l : Line). effect.reflective P v (l .does)) (b .code) i l e (access-reflects P v (l .does) h))))
-
 -- what stands at a PEEK or POKE is a line with one
 access-line : (ls : List Line) (i : ℕ) → Standing ls i → atAccess (got (position ls i)) ≡ true → (l : Line) × (getElem? ls i ≡ some l) × (isAccess (l .does) ≡ true)
 unfolding atAccess
 access-line ls i (at-line l e p) h = (l, e, rw p at h)
 access-line ls i (at-end e n p) h = absurd (false≢true (rw p at h))
-
--- the parts of a test that passed
-and-first : (a b : Bool) → (a && b) ≡ true → a ≡ true
-and-first true b h = refl
-and-first false b h = absurd (false≢true h)
-
--- and the other part
-and-second : (a b : Bool) → (a && b) ≡ true → b ≡ true
-and-second true b h = h
-and-second false b h = absurd (false≢true h)
 
 -- ---- the law
 
@@ -129,13 +105,13 @@ runs (Status.Ended x) e = absurd (false≢true e)
 -- a reflective step is one of a run that goes on
 pub reflective-runs : (P : Program) (s : State) → reflective P s ≡ true → s .status ≡ Status.Running
 unfolding reflective
-reflective-runs P s r = runs (s .status) (and-first (running (s .status)) _ (and-first (running (s .status) && atAccess (here P s >>= λ h. got (positionOf h))) (counted (stepOf P s .said)) r))
+reflective-runs P s r = runs (s .status) (both (running (s .status)) _ (both (running (s .status) && atAccess (here P s >>= λ h. got (positionOf h))) (counted (stepOf P s .said)) r .0) .0)
 
 module _ (P : Program) (sure : Sure P) (s : State) (inv : Inv P s) (run : s .status ≡ Status.Running) (r : reflective P s ≡ true) where
   -- the state stands at a PEEK or POKE
   at-access : atAccess (here P s >>= λ h. got (positionOf h)) ≡ true
   unfolding reflective
-  at-access = and-second (running (s .status)) _ (and-first (running (s .status) && atAccess (here P s >>= λ h. got (positionOf h))) (counted (stepOf P s .said)) r)
+  at-access = both (running (s .status)) _ (both (running (s .status) && atAccess (here P s >>= λ h. got (positionOf h))) (counted (stepOf P s .said)) r .0) .1
 
   -- the block on top has the mark 1
   top-marked : (h : ℕ) → s .depth ≡ suc h → 1 ≤ markAt P (s .frames) (topOf s h)
@@ -147,7 +123,7 @@ module _ (P : Program) (sure : Sure P) (s : State) (inv : Inv P s) (run : s .sta
       let t = at-top P s inv run h d .0 in
       let ck = live-checked P sure (s .frames) (s .calls) (s .promises) (inv .heap) (a .frame) (top-live P s inv run h d) in
       let l = access-line (b .code) (a .next) (standing (b .code) (a .next) (t .inside)) (rw (here-is P s inv run h d, position-is P sure s inv run h d) at at-access) in
-      let m : b .mark ≡ 1 = access-marked P v b (ck .cover .ofBlock (a .block) b (t .does .there)) (a .next) (l .0) (l .1) (l .2) in
+      let m : b .mark ≡ 1 = covers P v ck (a .block) b (a .next) (l .0) (t .does .there) (l .1) (access-reflects P v (l .0 .does) (l .2)) in
       omega (arith, m)
 
   -- so the mark of every live call's version is not 0

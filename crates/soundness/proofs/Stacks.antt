@@ -17,9 +17,10 @@ use Rattle.machine.specs.declared.Activation.{Activation}
 use Rattle.machine.specs.declared.Opener.{Opener}
 use Rattle.machine.specs.declared.State.{State}
 use Rattle.machine.specs.declared.Status.{Status}
-use Rattle.soundness.proofs.Cells.{frameAt, get-some, get-take, at-some, frame-is}
+use Rattle.soundness.proofs.Cells.{frameAt, at-some, frame-is}
 use Rattle.soundness.proofs.Limits.{code-few}
 use Rattle.soundness.proofs.Invariant.{Sure, versionAt, blockAt, top, Stands, Opened, below, awaited, Base, Stack, noActivation, stackOf, Inv}
+use Rattle.soundness.proofs.Lists.{get-some, get-take}
 
 -- ---- stacks
 
@@ -127,12 +128,6 @@ position-end [] zero e = refl
 position-end [] (suc i) e = absurd (omega (arith, e))
 position-end (x ∷ ls) zero e = absurd (omega (arith, e))
 position-end (x ∷ ls) (suc i) e = position-end ls i (omega (arith, e))
-
--- behind the end nothing stands
-pub get-end : {A : Type 0} (xs : List A) (i : ℕ) → length xs ≤ i → getElem? xs i ≡ none
-get-end [] i h = refl
-get-end (x ∷ xs) zero h = absurd (not-suc-le-zero h)
-get-end (x ∷ xs) (suc i) h = get-end xs i (le-of-suc-le-suc h)
 
 -- the place i of a block: an instruction, or its end
 pub data Standing (ls : List Line) (i : ℕ) : Type 0 where

@@ -16,12 +16,12 @@ use Rattle.sets.specs.Sets.{has}
 use Rattle.program.specs.Program.{Line, Block, Version, Program}
 use Rattle.program.specs.Questions.{registerExists, exists}
 use Rattle.program.proofs.Laid.{versionBounded, instrBounded}
-use Rattle.typing.specs.Types.{isShared, isOwned, isBorrowed}
-use Rattle.typing.specs.Fits.{typeOf, fits}
-use Rattle.typing.specs.Effects.{reflective, covered}
-use Rattle.flow.specs.Actions.{Action}
-use Rattle.flow.proofs.Follows.{Follows, second-reads, first-reads, first-captures, second-captures, first-empties, second-empties}
-use Rattle.flow.proofs.Suffixes.{Does, Meets, met, Parted, parted}
+use Rattle.rules.specs.Types.{isShared, isOwned, isBorrowed}
+use Rattle.rules.specs.Fits.{typeOf, fits}
+use Rattle.rules.specs.Effects.{reflective, covered}
+use Rattle.rules.specs.Actions.{Action}
+use Rattle.rules.proofs.Follows.{Follows, second-reads, first-reads, first-captures, second-captures, first-empties, second-empties, not-true as not-false}
+use Rattle.rules.proofs.Suffixes.{Does, Meets, met, Parted, parted}
 use Rattle.checker.proofs.Accepted.{Checked}
 use Rattle.machine.specs.Try.{Try, got}
 use Rattle.machine.specs.States.{ACTIVATIONS, VECTORS, withStack, assign, store, register}
@@ -31,12 +31,14 @@ use Rattle.machine.specs.declared.Opener.{Opener}
 use Rattle.machine.specs.declared.Promise.{Promise}
 use Rattle.machine.specs.declared.State.{State}
 use Rattle.machine.specs.declared.Value.{Value}
-use Rattle.soundness.proofs.Cells.{CELLS, Apart, frameAt, cellAt, writeAt, wrote, get-in, at-same, assign-is, store-is, register-is}
+use Rattle.soundness.proofs.Cells.{CELLS, Apart, frameAt, cellAt, writeAt, wrote, at-same, assign-is, store-is, register-is}
 use Rattle.soundness.proofs.Invariant.{Sure, versionAt, blockAt, typeAt, cellType, isFull, keep, kept, Fits, Unshared, Lone, Heap, Ext, every, Pend, top, waits, isPend, Gets, Stands, Opened, below, awaited, Stack, stackOf, Inv}
 use Rattle.soundness.proofs.Progress.{Good, good}
 use Rattle.soundness.proofs.Types.{clash, register-type, shared-owned, shared-borrowed}
-use Rattle.soundness.proofs.Versions.{not-false, register-in, covers, spares}
-use Rattle.soundness.proofs.Heap.{same-version, ext-every, ext-less, opened-live, below-le, stack-ext, ext-full, heap-write}
+use Rattle.soundness.proofs.Versions.{register-in, covers, spares}
+use Rattle.soundness.proofs.Heap.{same-version, ext-every, ext-less, stack-ext, ext-full, heap-write}
+use Rattle.soundness.proofs.Lists.{get-in}
+use Rattle.soundness.proofs.Stacks.{opened-live, below-le}
 
 -- past its instruction
 abbrev pub moved : Activation → Activation
@@ -69,7 +71,7 @@ module _ (P : Program) (sure : Sure P) (s : State) (a : Activation) (rest : List
   own-block = blockAt (versionAt P (s .frames) (a .frame)) (a .block)
 
   pub live : a .frame < s .calls
-  live = opened-live P (s .calls) (a .frame) (a .block) (a .opener) (W .opened)
+  live = opened-live (s .calls) (a .frame) (a .block) (a .opener) (W .opened)
 
   pub inside : a .frame < ACTIVATIONS
   inside = omega (arith, live, W .heap .bound)
@@ -175,7 +177,7 @@ module _ (P : Program) (sure : Sure P) (s : State) (a : Activation) (rest : List
   stack-on fs′ e x k = (k, W .opened, rw e (stack-ext P (below (s .calls) (a .frame) (a .opener)) (s .frames) fs′ _ x rest (W .under)))
 
   pub under-le : below (s .calls) (a .frame) (a .opener) ≤ s .calls
-  under-le = below-le P (s .calls) (a .frame) (a .block) (a .opener) (W .opened)
+  under-le = below-le (s .calls) (a .frame) (a .block) (a .opener) (W .opened)
 
   -- a cell c of a live frame k gets x, and the instruction assigns nothing else
   pub writes-cell : (k c : ℕ) (x : Value) → k < s .calls → c < CELLS → ((r : ℕ) → has (meets .now .W) r ≡ true → (k ≡ a .frame) × (r ≡ c)) → isFull x ≡ true

@@ -14,7 +14,7 @@ use lib.Seq.{length-take-le, getD-take}
 use borrow.Author.Tests.{lt-ltb}
 use Rattle.layout.specs.Bounds.{REGISTERS, NAMES}
 use Rattle.program.specs.Program.{Version, Program, findVersion, parameterTypes}
-use Rattle.typing.specs.Types.{kindOf, within}
+use Rattle.rules.specs.Types.{kindOf, within}
 use Rattle.checker.proofs.Accepted.{Checked}
 use Rattle.machine.specs.States.{ACTIVATIONS, VECTORS, PROMISES, place, newFrame, newVector, over}
 use Rattle.machine.specs.Calls.{frameFor}

@@ -12,9 +12,9 @@ use Rattle.layout.specs.Bounds.{REGISTERS}
 use Rattle.layout.specs.Tests.{_and_}
 use Rattle.layout.proofs.Bools.{and-both}
 use Rattle.program.specs.Program.{Version, Program}
-use Rattle.typing.specs.Types.{kindOf, ownershipOf, isShared, isOwned, isBorrowed, isInteger, isVector, isPromise, within}
-use Rattle.typing.specs.Fits.{typeOf, promiseKind, owned, plain, fresh, fitsReturn}
-use Rattle.flow.proofs.Follows.{or-either, or-left, or-right}
+use Rattle.rules.specs.Types.{kindOf, ownershipOf, isShared, isOwned, isBorrowed, isInteger, isVector, isPromise, within}
+use Rattle.rules.specs.Fits.{typeOf, promiseKind, owned, plain, fresh, fitsReturn}
+use Rattle.rules.proofs.Follows.{or-either, or-left, or-right}
 use Rattle.machine.specs.States.{VECTORS, PROMISES}
 use Rattle.machine.specs.declared.Frame.{Frame}
 use Rattle.machine.specs.declared.Promise.{Promise}
@@ -35,7 +35,7 @@ pub data In (a b : ℕ) : Type 0 where
   value : (a ≡ 2) ⊎ (a ≡ 3) → b ≡ 1 → In a b
   promise : a ≡ 4 → b ≡ 5 → In a b
 
-both : (a b : Bool) → (a && b) ≡ true → (a ≡ true) × (b ≡ true)
+pub both : (a b : Bool) → (a && b) ≡ true → (a ≡ true) × (b ≡ true)
 both true b h = (refl, h)
 both false b h = absurd (false≢true h)
 

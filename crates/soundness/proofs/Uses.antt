@@ -14,9 +14,10 @@ use Rattle.layout.proofs.Bools.{and-both}
 use Rattle.sets.specs.Sets.{has, those}
 use Rattle.program.specs.Program.{Instr, USE, Line, Version, Program}
 use Rattle.program.specs.Questions.{registerExists, exists}
-use Rattle.typing.specs.Types.{isOwned}
-use Rattle.typing.specs.Fits.{typeOf, owned, fresh, fits}
-use Rattle.flow.specs.Actions.{touch}
+use Rattle.rules.specs.Types.{isOwned}
+use Rattle.rules.specs.Fits.{typeOf, owned, fresh, fits}
+use Rattle.rules.specs.Actions.{touch}
+use Rattle.rules.proofs.Rules.{use-in-body}
 use Rattle.machine.specs.Try.{got}
 use Rattle.machine.specs.States.{VECTORS, withStack, assign}
 use Rattle.machine.specs.Steps.{execute}
@@ -29,12 +30,12 @@ use Rattle.soundness.proofs.Invariant.{Sure, versionAt, typeAt, cellTyp
 use Rattle.soundness.proofs.Progress.{Good, good, good-got}
 use Rattle.soundness.proofs.Types.{clash, owned-owned, fresh-kind, register-type}
 use Rattle.soundness.proofs.Heap.{same-version, ext-every, ext-less, ext-both, ext-full, heap-write}
-use Rattle.soundness.proofs.Versions.{not-false}
 use Rattle.soundness.proofs.Standing.{At, moved, inv-of, live, inside, place-in, type-is, meets, onward, stack-on, under-le, spare}
 use Rattle.soundness.proofs.Operands.{only-one, fits-i, exists-i, touched, full-at, assigned-in, vector-got}
 use Rattle.soundness.proofs.Plain.{Stepped}
 use Rattle.soundness.proofs.Vectors.{gone, under-body}
 use Rattle.soundness.proofs.Clearing.{isIn, in-those, those-in, at-in-list, Cleared, cleared-none, cleared-one, full-still, ext-older, ext-clear, heap-clear}
+use Rattle.rules.proofs.Follows.{not-true as not-false}
 
 module _ (P : Program) (sure : Sure P) (s : State) (a : Activation) (rest : List Activation) (l : Line) (W : At P s a rest l) (d r : ℕ) (is : l .does ≡ USE d r) where
   abbrev X : Version
@@ -98,4 +99,4 @@ module _ (P : Program) (sure : Sure P) (s : State) (a : Activation) (rest : List
       let u = and-both _ _ (t .1) in
       let v = vector-got P sure s a rest l W _ is r (x .1) (full-at P sure s a rest l W _ is (r ∷ []) (r ∷ []) (d ∷ []) refl 0 r refl (x .1)) (and-both _ _ (u .0) .0) in
       good-got (Inv P) _ (v .0) _ (v .1) (good-got (Inv P) _ (wrote s (a .frame) r Value.Empty) _ (assign-is s (W .heap .sized) (a .frame) (live P sure s a rest l W) (W .heap .bound) r Value.Empty (place-in P sure s a rest l W r (x .1)))
-      (taken-over (v .0) (eqb-true (a .block) 0 (t .0)) (x .0) (x .1) (owned-owned X r (u .0)) (u .1) (v .2) (v .3)))
+      (taken-over (v .0) (use-in-body P X (a .block) d r (fits-i P sure s a rest l W _ is)) (x .0) (x .1) (owned-owned X r (u .0)) (u .1) (v .2) (v .3)))

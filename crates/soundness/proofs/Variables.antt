@@ -12,9 +12,9 @@ use Rattle.layout.specs.Tests.{_and_}
 use Rattle.layout.proofs.Bools.{and-both}
 use Rattle.program.specs.Program.{Instr, NAMED, STORE, PEEK, POKE, Line, Version, Program}
 use Rattle.program.specs.Questions.{registerExists, nameExists, exists}
-use Rattle.typing.specs.Types.{kindOf, isShared, within}
-use Rattle.typing.specs.Fits.{typeOf, value, plain, fits}
-use Rattle.flow.specs.Actions.{touch, reads_empties_assigns_}
+use Rattle.rules.specs.Types.{kindOf, isShared, within}
+use Rattle.rules.specs.Fits.{typeOf, value, plain, fits}
+use Rattle.rules.specs.Actions.{touch, reads_empties_assigns_}
 use Rattle.machine.specs.Try.{Try, got, stuck, stop, _>>=_, at}
 use Rattle.machine.specs.States.{name, named, isSet, store}
 use Rattle.machine.specs.States as states

@@ -15,10 +15,10 @@ use Rattle.layout.proofs.Bools.{and-both}
 use Rattle.sets.specs.Sets.{has, those}
 use Rattle.program.specs.Program.{Instr, USE, DUP, VEC, SET, Line, Version, Program}
 use Rattle.program.specs.Questions.{registerExists, exists}
-use Rattle.typing.specs.Types.{kindOf, isOwned, isBorrowed, within}
-use Rattle.typing.specs.Fits.{typeOf, integer, owned, fresh, fits}
-use Rattle.flow.specs.Actions.{touch, reads_empties_assigns_}
-use Rattle.flow.proofs.Touches.{has-those}
+use Rattle.rules.specs.Types.{kindOf, isOwned, isBorrowed, within}
+use Rattle.rules.specs.Fits.{typeOf, integer, owned, fresh, fits}
+use Rattle.rules.specs.Actions.{touch, reads_empties_assigns_}
+use Rattle.rules.proofs.Rules.{set-in-body}
 use Rattle.machine.specs.Try.{Try, got, _>>=_, _>>_, stuckUnless, at}
 use Rattle.machine.specs.States.{ACTIVATIONS, VECTORS, newVector, freeVector, vectorCounts, withVector, withStack, assign}
 use Rattle.machine.specs.Steps.{alone, execute}
@@ -34,11 +34,11 @@ use Rattle.soundness.proofs.Invariant.{Sure, versionAt, typeAt, cellTyp
 use Rattle.soundness.proofs.Progress.{Good, good, good-then, good-got, good-after, good-next}
 use Rattle.soundness.proofs.Types.{clash, eqb-same, owned-kind, owned-owned, fresh-kind, register-type}
 use Rattle.soundness.proofs.Heap.{same-version, same-type, ext-same, ext-every, ext-less, ext-both, ext-full, ext-empty, ext-below, heap-write, lone-unless, stack-ext}
-use Rattle.soundness.proofs.Versions.{not-false}
-use Rattle.soundness.proofs.Counting.{all-at, each-some, vector-free, vector-alone, free-ok}
+use Rattle.soundness.proofs.Counting.{each-some, vector-free, vector-alone, free-ok}
 use Rattle.soundness.proofs.Standing.{At, moved, inv-of, live, inside, place-in, type-is, meets, onward, stack-on, under-le, writes-register, spare}
 use Rattle.soundness.proofs.Operands.{only-one, only-none, fits-i, exists-i, touched, full-at, assigned-in, emptied-in, integer-got, vector-got}
 use Rattle.soundness.proofs.Plain.{Stepped, vector-at, index-ok}
+use Rattle.soundness.proofs.Lists.{all-at}
 
 -- a change of the vectors alone
 pub at-vector : (P : Program) (s : State) (a : Activation) (rest : List Activation) (l : Line) (v : ℕ) (w : Vector) → At P s a rest l → At P (withVector s v w) a rest l
@@ -155,7 +155,7 @@ module _ (P : Program) (sure : Sure P) (s : State) (a : Activation) (rest : List
       let m = integer-got P sure s a rest l W _ is j (y .0) (full-at P sure s a rest l W _ is rs [] (r ∷ []) refl 1 j refl (y .0)) (w .0) in
       let n = integer-got P sure s a rest l W _ is c (y .1) (full-at P sure s a rest l W _ is rs [] (r ∷ []) refl 2 c refl (y .1)) (w .1) in
       good-got (Inv P) _ (v .0) _ (v .1) (good-got (Inv P) _ (z .0) _ (z .1) (good-got (Inv P) _ (m .0) _ (m .1) (good-got (Inv P) _ (n .0) _ (n .1)
-      (good-next (Inv P) _ tt _ (alone-ok r (v .0) (x .0) (eqb-true (a .block) 0 (t .0)) (owned-owned X r (u .0)) (v .2))
+      (good-next (Inv P) _ tt _ (alone-ok r (v .0) (x .0) (set-in-body P X (a .block) r j c (fits-i P sure s a rest l W _ is)) (owned-owned X r (u .0)) (v .2))
       (good-then (Inv P) (λ (_ : ℕ). Unit {0}) _ _ (index-ok (m .0) _) (λ i _. good (Inv P) _ _ refl (changed r (v .0) _ fr (λ q h. only-one r q (assigned-in P sure s a rest l W _ is rs [] (r ∷ []) refl q h)))))))))
     where
       alone-ok : (r v : ℕ) → registerExists X r ≡ true → a .block ≡ 0 → isOwned (typeOf X r) ≡ true → cellAt (s .frames) (a .frame) r ≡ Value.Vector v → alone s (a .frame) r v ≡ got tt

@@ -17,38 +17,27 @@ use Rattle.sets.specs.Sets.{has}
 use Rattle.program.specs.Program.{Line, Block, Version, Program}
 use Rattle.program.specs.Questions.{registerExists, blockNamed}
 use Rattle.program.proofs.Laid.{versionBounded, blockBounded}
-use Rattle.typing.specs.Types.{kindOf, ownershipOf, isShared, isOwned, isBorrowed, isVector, KINDS, parameterType, registerType, returnType, within}
-use Rattle.typing.specs.Fits.{typeOf, fitsResult, integer, owned, declaredKind}
-use Rattle.typing.specs.Effects.{reflective, covered}
-use Rattle.typing.specs.Questions.{typeAllowed, versionTypes}
-use Rattle.flow.specs.Actions.{Action, bodyAction}
-use Rattle.flow.specs.Walks.{blockAction}
-use Rattle.flow.proofs.Follows.{or-either, or-left}
-use Rattle.flow.proofs.Touches.{Flowing, flows-body}
-use Rattle.flow.proofs.Fitting.{promise-empties-nothing, emptied-or-captured}
+use Rattle.rules.specs.Types.{kindOf, ownershipOf, isShared, isOwned, isBorrowed, isVector, KINDS, parameterType, registerType, returnType, within}
+use Rattle.rules.specs.Fits.{typeOf, fitsResult, integer, owned, declaredKind}
+use Rattle.rules.specs.Effects.{reflective, covered}
+use Rattle.rules.specs.Questions.{typeAllowed, versionTypes}
+use Rattle.rules.specs.Actions.{Action, bodyAction}
+use Rattle.rules.specs.Walks.{blockAction}
+use Rattle.rules.proofs.Follows.{or-either, or-left, not-true as not-false}
+use Rattle.rules.proofs.Touches.{Flowing, flows-body}
+use Rattle.rules.proofs.Rules.{return-kinds, Yields, body-yields, promise-yields}
+use Rattle.rules.proofs.Fitting.{promise-empties-nothing, emptied-or-captured}
 use Rattle.checker.proofs.Accepted.{Checked}
 use Rattle.soundness.proofs.Invariant.{captures, keep}
 use Rattle.soundness.proofs.Types.{clash, vector-kind}
-
-pub any-at : {A : Type 0} (p : A → Bool) (l : List A) (i : ℕ) (x : A) → getElem? l i ≡ some x → p x ≡ true → any p l ≡ true
-unfolding any
-any-at p [] i x h e = let z : _≡_ {A = ℕ} 0 1 = cc in absurd (omega arith)
-any-at p (y ∷ l) zero x h e = let q : y ≡ x = cc in or-left {a = p y} (any p l) (rw q e)
-any-at p (y ∷ l) (suc i) x h e = go (p y) (any-at p l i x h e)
-  where
-    go : (b : Bool) → any p l ≡ true → (b || any p l) ≡ true
-    go true r = refl
-    go false r = r
+use Rattle.soundness.proofs.Lists.{any-at}
+use Rattle.soundness.proofs.Limits.{limited}
 
 all-at : (p : ℕ → ℕ → Bool) (n : ℕ) (l : List ℕ) (i : ℕ) → allFrom p n l ≡ true → i < length l → p (n + i) (getD l i 0) ≡ true
 unfolding allFrom
 all-at p n [] i h l = absurd (omega arith)
 all-at p n (x ∷ xs) zero h l = rw add-zero (and-both _ _ h .0)
 all-at p n (x ∷ xs) (suc i) h l = let m : n + suc i ≡ n + 1 + i = omega arith in rw m (all-at p (n + 1) xs i (and-both _ _ h .1) (omega arith))
-
-pub not-false : (b : Bool) → (b ≡ true → ⊥) → b ≡ false
-not-false true h = absurd (h refl)
-not-false false h = refl
 
 -- an owned or borrowed type is a vector's
 pub parameter-vector : (t : ℕ) → parameterType t ≡ true → (isOwned t ≡ true) ⊎ (isBorrowed t ≡ true) → kindOf t ≡ 3
@@ -70,32 +59,10 @@ parameter-shared t h o b = go (or-either _ _ (and-both _ _ h .1))
     go (inr e) = absurd (false≢true (sym (rw (o, b) refl) ∙ and-both _ _ e .0))
 
 module _ (P : Program) (v : Version) (c : Checked P v) where
-  -- ---- question 4
-
-  pub registers-few : length (v .types) ≤ REGISTERS
-  unfolding versionBounded
-  registers-few = leb-true _ _ (and-both _ _ (and-both _ _ (and-both _ _ (and-both _ _ (and-both _ _ (and-both _ _ (c .bound .ofVersion) .1) .1) .1) .1) .1) .0)
-
-  pub parameters-few : v .parameters ≤ PARAMETERS
-  unfolding versionBounded
-  parameters-few = leb-true _ _ (and-both _ _ (and-both _ _ (and-both _ _ (c .bound .ofVersion) .1) .1) .0)
-
-  pub parameters-in : v .parameters ≤ length (v .types)
-  unfolding versionBounded
-  parameters-in = leb-true _ _ (and-both _ _ (and-both _ _ (and-both _ _ (and-both _ _ (c .bound .ofVersion) .1) .1) .1) .0)
-
-  pub has-body : 0 < length (v .blocks)
-  unfolding versionBounded
-  has-body = ltb-true _ _ (and-both _ _ (and-both _ _ (and-both _ _ (and-both _ _ (and-both _ _ (and-both _ _ (and-both _ _ (c .bound .ofVersion) .1) .1) .1) .1) .1) .1) .0)
-
-  pub mark-low : (n : ℕ) (b : Block) → getElem? (v .blocks) n ≡ some b → b .mark < 2
-  unfolding blockBounded
-  mark-low n b h = ltb-true _ _ (and-both _ _ (c .bound .ofBlock n b h) .0)
-
   -- ---- question 7
 
   pub register-in : (r : ℕ) → registerExists v r ≡ true → r < REGISTERS
-  register-in r h = omega (arith, registers-few, ltb-true r (length (v .types)) h)
+  register-in r h = omega (arith, limited P v c .registers, ltb-true r (length (v .types)) h)
 
   pub result-exists : (n : ℕ) (b : Block) → getElem? (v .blocks) n ≡ some b → registerExists v (b .result) ≡ true
   unfolding blockNamed
@@ -112,32 +79,16 @@ module _ (P : Program) (v : Version) (c : Checked P v) where
       go false e = and-both _ _ e .0
 
   pub return-kind : (kindOf (v .return) ≡ 1) ⊎ (kindOf (v .return) ≡ 2) ⊎ (kindOf (v .return) ≡ 3)
-  unfolding versionTypes returnType
-  return-kind =
-      let t = and-both _ _ (and-both _ _ (c .types .ofVersion) .1) in
-      let u = and-both _ _ (t .1) in
-      go (kindOf (v .return)) (ltb-true _ _ (u .0)) (ltb-true _ _ (u .1))
-    where
-      go : (k : ℕ) → 0 < k → k < 4 → (k ≡ 1) ⊎ (k ≡ 2) ⊎ (k ≡ 3)
-      go zero h g = absurd (omega arith)
-      go (suc zero) h g = inl refl
-      go (suc (suc zero)) h g = inr (inl refl)
-      go (suc (suc (suc zero))) h g = inr (inr refl)
-      go (suc (suc (suc (suc k)))) h g = absurd (omega arith)
+  unfolding versionTypes
+  return-kind = return-kinds (v .return) (and-both _ _ (c .types .ofVersion) .1)
 
   -- ---- question 8
 
   pub promise-result : (n : ℕ) (b : Block) → getElem? (v .blocks) n ≡ some b → 0 < n → integer v (b .result) ≡ true
-  unfolding fitsResult
-  promise-result n b h p = go (eqb n 0) _ refl (c .fit .ofBlock n b h)
-    where
-      go : (t x : Bool) → eqb n 0 ≡ t → cond t x (integer v (b .result)) ≡ true → integer v (b .result) ≡ true
-      go true x e g = absurd (omega (arith, eqb-true n 0 e))
-      go false x e g = g
+  promise-result n b h p = promise-yields v n b p (c .fit .ofBlock n b h)
 
-  pub body-result : (b : Block) → getElem? (v .blocks) 0 ≡ some b → (within (declaredKind v (b .result)) (kindOf (v .return)) and cond (isOwned (v .return)) (owned v (b .result)) (not (isBorrowed (typeOf v (b .result))))) ≡ true
-  unfolding fitsResult
-  body-result b h = c .fit .ofBlock 0 b h
+  pub body-result : (b : Block) → getElem? (v .blocks) 0 ≡ some b → Yields v b
+  body-result b h = body-yields v b (c .fit .ofBlock 0 b h)
 
   -- ---- question 9
 

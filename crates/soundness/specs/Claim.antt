@@ -9,7 +9,7 @@ use lib.IntN.{ℤ}
 use lib.ListN.{getElem?}
 use lib.Dec.{eqb}
 use Rattle.program.specs.Program.{Instr, LIT, MOVE, USE, DUP, VEC, LEN, GET, SET, ARITH, SELECT, CAST, NAMED, STORE, PROM, FORCE, PEEK, POKE, CALL, DISPATCH, Version, Program, findVersion, markOf}
-use Rattle.typing.specs.Types.{kindOf, isOwned, isBorrowed, within}
+use Rattle.rules.specs.Types.{kindOf, isOwned, isBorrowed, within}
 use Rattle.machine.specs.Try.{Try, got, stuck, stop, _>>=_}
 use Rattle.machine.specs.States.{kindIn, liveFrames, register, named}
 use Rattle.machine.specs.Steps.{Position, instruction, blockEnd, outside, here, positionOf}

@@ -13,7 +13,7 @@ use Rattle.layout.proofs.Rows.{Rows, choose-each}
 use Rattle.program.specs.Program.{Instr, Line, Block, Version, Program, nowhere, instrOf, lineOf}
 use Rattle.program.specs.Places.{viewAt, past, blockAt, instrAt}
 use Rattle.program.proofs.Views.{view-end, Whole, at-version, at-block, at-line}
-use Rattle.typing.specs.Effects.{reflective, covered}
+use Rattle.rules.specs.Effects.{reflective, covered}
 
 -- does an instruction that lies ahead of p in its block pass the test?
 abbrev pub anyAhead : (Instr → Bool) → List ℕ → ℕ → Bool

@@ -5,7 +5,7 @@ use Prim.Native.Nat.{ℕ, _/_, _≤_, _<_}
 use native.Mathlib.Omega.{arith}
 use lib.Dec.{eqb}
 use borrow.Author.Tests.{eq-eqb, ne-eqb, eqb-false}
-use Rattle.typing.specs.Types.{kindOf, ownershipOf, isOwned, isBorrowed, isVector}
+use Rattle.rules.specs.Types.{kindOf, ownershipOf, isOwned, isBorrowed, isVector}
 use Rattle.layout.specs.Tests.{_and_}
 use Rattle.layout.proofs.Bools.{and-true}
 use Rattle.typing.specs.Calls.{ownedKind}

@@ -12,7 +12,7 @@ use Rattle.layout.specs.Records.{_!_, every, bodyAt}
 use Rattle.layout.proofs.Bools.{and-on, and-off}
 use Rattle.program.specs.Program.{Argument, arguments, beside, given}
 use Rattle.program.specs.Places.{versionAt}
-use Rattle.typing.specs.Types.{isOwned}
+use Rattle.rules.specs.Types.{isOwned}
 use Rattle.typing.specs.Calls.{pairs, least, argumentsAt, callOf, dispatchOf}
 
 module _ (b : List ℕ) (k : ℕ) (c : List ℕ) (l step : ℕ) where

@@ -14,8 +14,8 @@ use Rattle.layout.proofs.Fields.{length-every, all-map}
 use Rattle.layout.proofs.Rows.{Rows, choose-each}
 use Rattle.program.specs.Program.{Argument, Instr, arguments, instrOf}
 use Rattle.program.proofs.Forms.{argument-types}
-use Rattle.typing.specs.Types.{parameterType}
-use Rattle.typing.specs.Questions.{typeAllowed, typesAllowed}
+use Rattle.rules.specs.Types.{parameterType}
+use Rattle.rules.specs.Questions.{typeAllowed, typesAllowed}
 
 -- where all are parameters
 all-parameters : (n i : ℕ) (l : List ℕ) → i + length l ≤ n → allFrom (typeAllowed n) i l ≡ all parameterType l

@@ -7,8 +7,8 @@ use lib.Dec.{eqb}
 use borrow.Author.Tests.{eq-eqb, ne-eqb}
 use Rattle.layout.specs.Tests.{_and_, count}
 use Rattle.program.specs.Program.{Argument, Version}
-use Rattle.typing.specs.Types.{kindOf, ownershipOf, isOwned, isBorrowed, within}
-use Rattle.typing.specs.Fits.{declaredKind, shared, vector, owned, fitsArgument}
+use Rattle.rules.specs.Types.{kindOf, ownershipOf, isOwned, isBorrowed, within}
+use Rattle.rules.specs.Fits.{declaredKind, shared, vector, owned, fitsArgument}
 
 module _ (v : Version) (call : List Argument) (a : Argument) {t : ℕ} (e : t ≡ a .type) where
   pub fits-owned : t / 16 ≡ 1 → fitsArgument v call a ≡ (owned v (a .register) and eqb (count (λ (b : Argument). eqb (b .register) (a .register)) call) 1)

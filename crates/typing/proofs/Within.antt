@@ -4,7 +4,7 @@ use mathlib.Core.Bool.{Bool, true, false, _&&_, _||_}
 use Prim.Native.Nat.{ℕ}
 use lib.Dec.{eqb}
 use borrow.Author.Tests.{ne-eqb}
-use Rattle.typing.specs.Types.{within}
+use Rattle.rules.specs.Types.{within}
 
 pub within-any : (a : ℕ) {b : ℕ} → b ≡ 0 → true ≡ within a b
 unfolding within

@@ -4,7 +4,7 @@ use mathlib.Core.Bool.{cond}
 use Prim.Native.Nat.{ℕ, zero, suc, _<_}
 use Rattle.layout.specs.Records.{every, bodyAt, _!_}
 use Rattle.program.specs.Program.{Argument, beside}
-use Rattle.typing.specs.Types.{kindOf, isOwned}
+use Rattle.rules.specs.Types.{kindOf, isOwned}
 use Rattle.typing.specs.declared.Owned.{Owned}
 use Rattle.typing.specs.declared.Owned.the-variants.{Kind, Not}
 use Rattle.typing.specs.declared.Call.{Call}

@@ -6,7 +6,7 @@ ghost use Rattle.layout.specs.Tests.{all, any, count};
 ghost use Rattle.layout.specs.Records.{bodyAt, _!_};
 ghost use Rattle.program.specs.Program.{Argument};
 ghost use Rattle.program.specs.Places.{versionAt};
-ghost use Rattle.typing.specs.Fits.{fitsArgument, empties, fitsReturn, fitsCall};
+ghost use Rattle.rules.specs.Fits.{fitsArgument, empties, fitsReturn, fitsCall};
 ghost use Rattle.typing.specs.Calls.{argumentsAt, least, Small, callOf, dispatchOf};
 use crate::Call;
 use crate::registers;

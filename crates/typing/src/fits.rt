@@ -6,7 +6,7 @@ ghost use Rattle.layout.specs.Records.{records, bodyAt, every, _!_};
 ghost use Rattle.layout.specs.Kinds as kind;
 ghost use Rattle.program.specs.Program.{program, instrOf};
 ghost use Rattle.program.specs.Places.{versionAt, blockAt, instrAt, tableOf};
-ghost use Rattle.typing.specs.Fits.{integer, fits, fitsResult};
+ghost use Rattle.rules.specs.Fits.{integer, fits, fitsResult};
 use crate::arguments;
 use crate::registers;
 use crate::types;

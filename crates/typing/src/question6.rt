@@ -7,7 +7,7 @@ ghost use Rattle.layout.specs.Kinds as kind;
 ghost use Rattle.program.specs.Program.{program, instrOf};
 ghost use Rattle.program.specs.Search.{first};
 ghost use Rattle.program.specs.Places.{versionAt, asked};
-ghost use Rattle.typing.specs.Questions.{typeAllowed, versionTypes, typesAllowed, question6};
+ghost use Rattle.rules.specs.Questions.{typeAllowed, versionTypes, typesAllowed, question6};
 use crate::types;
 use layout::Found;
 use layout::kinds;

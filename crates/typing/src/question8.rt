@@ -4,7 +4,7 @@ ghost use Rattle.layout.specs.Records.{records};
 ghost use Rattle.program.specs.Program.{program};
 ghost use Rattle.program.specs.Search.{first};
 ghost use Rattle.program.specs.Places.{tableOf, asked};
-ghost use Rattle.typing.specs.Questions.{question8};
+ghost use Rattle.rules.specs.Questions.{question8};
 use crate::fits;
 use layout::Found;
 use layout::kinds;

@@ -3,7 +3,7 @@ ghost use mathlib.Core.Path.{_≡_};
 ghost use Rattle.layout.specs.Records.{bodyAt, _!_};
 ghost use Rattle.program.specs.Places.{versionAt};
 ghost use Prim.Native.Nat.{_<_};
-ghost use Rattle.typing.specs.Fits.{typeOf, declaredKind, shared, integer, vector, owned, promise, value, plain, fresh};
+ghost use Rattle.rules.specs.Fits.{typeOf, declaredKind, shared, integer, vector, owned, promise, value, plain, fresh};
 use crate::Owned;
 use crate::types;
 use program::lookup;

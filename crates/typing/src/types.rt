@@ -1,6 +1,6 @@
 //! Type bytes: where each may stand.
 ghost use mathlib.Core.Path.{_≡_};
-ghost use Rattle.typing.specs.Types.{parameterType, registerType, returnType, within};
+ghost use Rattle.rules.specs.Types.{parameterType, registerType, returnType, within};
 ghost use Rattle.typing.specs.Calls.{ownedKind};
 use crate::Owned;
 

@@ -1,7 +1,7 @@
 -- `flow::actions::chain`: what is refused stays refused.
 use Rattle.flow.proofs.actions.chain.Statement.{statement}
 use Rattle.flow.proofs.actions.chain.Tie as tie
-use Rattle.flow.specs.Actions.{_then_}
+use Rattle.rules.specs.Actions.{_then_}
 use Rattle.flow.specs.Masks.{flowed}
 use borrow.Author.Needs.{needs}
 

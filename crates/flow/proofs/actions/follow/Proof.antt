@@ -1,7 +1,7 @@
 -- `flow::actions::follow`: each condition of "then" is one test, and the result goes set by set.
 use Rattle.flow.proofs.actions.follow.Statement.{statement}
 use Rattle.flow.proofs.actions.follow.Tie as tie
-use Rattle.flow.specs.Actions.{_then_, clash, joined}
+use Rattle.rules.specs.Actions.{_then_, clash, joined}
 use Rattle.flow.specs.Masks.{flowed}
 use borrow.Author.Needs.{needs}
 use mathlib.Core.Path.{sym, _∙_}

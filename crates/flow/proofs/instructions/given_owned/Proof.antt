@@ -3,7 +3,7 @@ use Prim.Native.Nat.{_-_, _≤_}
 use Rattle.flow.proofs.Listed.{Gathers, gather-start, gather-one, gather-none, gather-end, callOwned, call-one, call-other, call-past, call-over, call-done}
 use Rattle.flow.proofs.instructions.given_owned.Statement.{statement}
 use Rattle.flow.proofs.instructions.given_owned.Tie as tie
-use Rattle.flow.specs.Actions.{emptied}
+use Rattle.rules.specs.Actions.{emptied}
 use Rattle.layout.specs.Records.{bodyAt, fields, _!_}
 use Rattle.program.specs.Places.{versionAt}
 use Rattle.program.specs.Program.{given}

@@ -1,7 +1,7 @@
 -- `flow::instructions::instruction`: one row for each kind.
 use Rattle.flow.proofs.instructions.instruction.Statement.{statement}
 use Rattle.flow.proofs.instructions.instruction.Tie as tie
-use Rattle.flow.specs.Actions.{actionOf, touch}
+use Rattle.rules.specs.Actions.{actionOf, touch}
 use Rattle.layout.specs.Records.{every, choose}
 use Rattle.program.specs.Places.{instrAt}
 use Rattle.program.specs.Program.{instrOf}

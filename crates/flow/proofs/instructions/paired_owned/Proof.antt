@@ -3,7 +3,7 @@ use Prim.Native.Nat.{_-_, _≤_}
 use Rattle.flow.proofs.Listed.{Gathers, gather-start, gather-one, gather-none, gather-end, pairOwned, pair-one, pair-other, pair-done, pairs-beside}
 use Rattle.flow.proofs.instructions.paired_owned.Statement.{statement}
 use Rattle.flow.proofs.instructions.paired_owned.Tie as tie
-use Rattle.flow.specs.Actions.{emptied}
+use Rattle.rules.specs.Actions.{emptied}
 use Rattle.layout.specs.Records.{bodyAt, _!_}
 use Rattle.program.specs.Program.{arguments}
 use borrow.Author.Needs.{needs}

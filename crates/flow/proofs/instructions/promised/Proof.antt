@@ -1,7 +1,7 @@
 -- `flow::instructions::promised`: by whether the block's own action is allowed.
 use Rattle.flow.proofs.instructions.promised.Statement.{statement}
 use Rattle.flow.proofs.instructions.promised.Tie as tie
-use Rattle.flow.specs.Actions.{promised}
+use Rattle.rules.specs.Actions.{promised}
 use Rattle.flow.specs.Masks.{flowed}
 use Rattle.sets.proofs.Masks.{set-empty}
 use borrow.Author.Needs.{needs}

@@ -2,7 +2,7 @@
 use Prim.Native.Nat.{_-_}
 use Rattle.flow.proofs.question10.question_10.Statement.{statement}
 use Rattle.flow.proofs.question10.question_10.Tie as tie
-use Rattle.flow.specs.Questions.{question10}
+use Rattle.rules.specs.Flows.{question10}
 use Rattle.layout.proofs.Walk.{size-in}
 use Rattle.layout.specs.Records.{records}
 use Rattle.program.proofs.Passes.{Asking, start, at-end, at-broken, say-no, go-on}

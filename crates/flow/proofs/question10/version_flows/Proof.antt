@@ -2,7 +2,7 @@
 use Rattle.flow.proofs.question10.version_flows.Statement.{statement}
 use Rattle.flow.proofs.question10.version_flows.Tie as tie
 use Rattle.flow.specs.Masks.{flowed}
-use Rattle.flow.specs.Questions.{flows}
+use Rattle.rules.specs.Flows.{flows}
 use Rattle.layout.proofs.Bools.{found-some, found-none}
 use borrow.Author.Needs.{needs}
 use mathlib.Core.Path.{sym, ap, _∙_}

@@ -13,9 +13,9 @@ use Rattle.flow.proofs.walk.walk_block.Kinds as walk-block-kinds
 use Rattle.flow.proofs.walk.walk_block.Reads as walk-block
 use Rattle.flow.proofs.walk.walk_instruction.Kinds as walk-instruction-kinds
 use Rattle.flow.proofs.walk.walk_instruction.Reads as walk-instruction
-use Rattle.flow.specs.Actions.{Action, _then_}
+use Rattle.rules.specs.Actions.{Action, _then_}
 use Rattle.flow.specs.Masks.{flowed}
-use Rattle.flow.specs.Walks.{blockAction}
+use Rattle.rules.specs.Walks.{blockAction}
 use Rattle.layout.proofs.Walk.{size-in}
 use Rattle.layout.proofs.field.Reads as field-reads
 use Rattle.layout.proofs.kind_at.Reads as kind-at-reads

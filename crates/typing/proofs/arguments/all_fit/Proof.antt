@@ -7,7 +7,7 @@ use Rattle.typing.proofs.Pairs.{all-passed, all-failed, all-done}
 use Rattle.typing.proofs.arguments.all_fit.Statement.{statement}
 use Rattle.typing.proofs.arguments.all_fit.Tie as tie
 use Rattle.typing.specs.Calls.{pairs, argumentsAt}
-use Rattle.typing.specs.Fits.{fitsArgument}
+use Rattle.rules.specs.Fits.{fitsArgument}
 use mathlib.Core.Path.{_≡_, sym, _∙_}
 use native.Mathlib.Nat.{sub-zero}
 use native.Mathlib.Omega.{arith}

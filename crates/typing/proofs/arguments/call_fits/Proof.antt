@@ -2,7 +2,7 @@
 use Rattle.layout.proofs.Bools.{and-on, and-off}
 use Rattle.typing.proofs.arguments.call_fits.Statement.{statement}
 use Rattle.typing.proofs.arguments.call_fits.Tie as tie
-use Rattle.typing.specs.Fits.{fitsCall}
+use Rattle.rules.specs.Fits.{fitsCall}
 use borrow.Author.Needs.{needs}
 use borrow.Author.Tests.{eq-eqb, ne-eqb}
 use mathlib.Core.Path.{sym, _∙_}

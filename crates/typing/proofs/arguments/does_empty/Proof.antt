@@ -7,7 +7,7 @@ use Rattle.typing.proofs.Pairs.{registers-free, any-met, any-passed, an
 use Rattle.typing.proofs.arguments.does_empty.Statement.{statement}
 use Rattle.typing.proofs.arguments.does_empty.Tie as tie
 use Rattle.typing.specs.Calls.{pairs, argumentsAt}
-use Rattle.typing.specs.Types.{isOwned, ownershipOf}
+use Rattle.rules.specs.Types.{isOwned, ownershipOf}
 use borrow.Author.Needs.{needs}
 use borrow.Author.Tests.{eq-eqb, ne-eqb}
 use mathlib.Core.Path.{_≡_, sym, _∙_}

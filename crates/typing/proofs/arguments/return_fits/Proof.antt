@@ -1,8 +1,8 @@
 -- `typing::arguments::return_fits`: by the ownership of the return.
 use Rattle.typing.proofs.arguments.return_fits.Statement.{statement}
 use Rattle.typing.proofs.arguments.return_fits.Tie as tie
-use Rattle.typing.specs.Fits.{fitsReturn}
-use Rattle.typing.specs.Types.{kindOf, ownershipOf, isOwned}
+use Rattle.rules.specs.Fits.{fitsReturn}
+use Rattle.rules.specs.Types.{kindOf, ownershipOf, isOwned}
 use borrow.Author.Needs.{needs}
 use borrow.Author.Tests.{eq-eqb, ne-eqb}
 use mathlib.Core.Path.{_∙_}

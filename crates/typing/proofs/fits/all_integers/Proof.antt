@@ -6,7 +6,7 @@ use Rattle.layout.specs.Tests.{all}
 use Rattle.program.specs.Places.{versionAt}
 use Rattle.typing.proofs.fits.all_integers.Statement.{statement}
 use Rattle.typing.proofs.fits.all_integers.Tie as tie
-use Rattle.typing.specs.Fits.{integer}
+use Rattle.rules.specs.Fits.{integer}
 use borrow.Author.Needs.{needs}
 use mathlib.Core.Path.{_≡_, sym, _∙_}
 use native.Mathlib.Nat.{sub-zero}

@@ -3,8 +3,8 @@ use Rattle.layout.proofs.Bools.{and-on, and-off}
 use Rattle.program.specs.Places.{versionAt, blockAt}
 use Rattle.typing.proofs.fits.body_result_fits.Statement.{statement}
 use Rattle.typing.proofs.fits.body_result_fits.Tie as tie
-use Rattle.typing.specs.Fits.{fitsResult}
-use Rattle.typing.specs.Types.{kindOf, ownershipOf, isOwned, isBorrowed}
+use Rattle.rules.specs.Fits.{fitsResult}
+use Rattle.rules.specs.Types.{kindOf, ownershipOf, isOwned, isBorrowed}
 use borrow.Author.Needs.{needs}
 use borrow.Author.Tests.{eq-eqb, ne-eqb}
 use mathlib.Core.Path.{sym, _∙_}

@@ -8,7 +8,7 @@ use Rattle.program.specs.Program.{instrOf}
 use Rattle.typing.proofs.Pairs.{call-arguments}
 use Rattle.typing.proofs.fits.call_fits.Statement.{statement}
 use Rattle.typing.proofs.fits.call_fits.Tie as tie
-use Rattle.typing.specs.Fits.{fits}
+use Rattle.rules.specs.Fits.{fits}
 use borrow.Author.Needs.{needs}
 use mathlib.Core.Path.{sym, _∙_}
 

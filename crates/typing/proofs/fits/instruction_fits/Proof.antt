@@ -4,7 +4,7 @@ use Rattle.program.specs.Places.{instrAt}
 use Rattle.program.specs.Program.{instrOf}
 use Rattle.typing.proofs.fits.instruction_fits.Statement.{statement}
 use Rattle.typing.proofs.fits.instruction_fits.Tie as tie
-use Rattle.typing.specs.Fits.{fits}
+use Rattle.rules.specs.Fits.{fits}
 use borrow.Author.Needs.{needs}
 use borrow.Author.Tests.{ne-eqb}
 use mathlib.Core.Path.{sym, _∙_}

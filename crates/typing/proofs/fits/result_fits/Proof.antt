@@ -2,7 +2,7 @@
 use Rattle.program.specs.Places.{blockAt}
 use Rattle.typing.proofs.fits.result_fits.Statement.{statement}
 use Rattle.typing.proofs.fits.result_fits.Tie as tie
-use Rattle.typing.specs.Fits.{fitsResult}
+use Rattle.rules.specs.Fits.{fitsResult}
 use borrow.Author.Needs.{needs}
 use borrow.Author.Tests.{ne-eqb}
 use mathlib.Core.Path.{_∙_}

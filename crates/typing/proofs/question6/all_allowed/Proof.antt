@@ -5,7 +5,7 @@ use Rattle.layout.specs.Records.{bodyAt, every}
 use Rattle.layout.specs.Tests.{allFrom}
 use Rattle.typing.proofs.question6.all_allowed.Statement.{statement}
 use Rattle.typing.proofs.question6.all_allowed.Tie as tie
-use Rattle.typing.specs.Questions.{typeAllowed}
+use Rattle.rules.specs.Questions.{typeAllowed}
 use borrow.Author.Needs.{needs}
 use mathlib.Core.Path.{_≡_, sym, _∙_}
 use native.Mathlib.Nat.{sub-zero}

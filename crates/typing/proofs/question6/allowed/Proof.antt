@@ -1,7 +1,7 @@
 -- `typing::question6::allowed`: by whether the register is a parameter.
 use Rattle.typing.proofs.question6.allowed.Statement.{statement}
 use Rattle.typing.proofs.question6.allowed.Tie as tie
-use Rattle.typing.specs.Questions.{typeAllowed}
+use Rattle.rules.specs.Questions.{typeAllowed}
 use borrow.Author.Needs.{needs}
 use borrow.Author.Tests.{lt-ltb, le-ltb}
 use mathlib.Core.Path.{_∙_}

@@ -5,7 +5,7 @@ use Rattle.program.specs.Program.{instrOf}
 use Rattle.typing.proofs.TypeBytes.{pair-types}
 use Rattle.typing.proofs.question6.dispatch_types.Statement.{statement}
 use Rattle.typing.proofs.question6.dispatch_types.Tie as tie
-use Rattle.typing.specs.Questions.{typesAllowed}
+use Rattle.rules.specs.Questions.{typesAllowed}
 use borrow.Author.Needs.{needs}
 use mathlib.Core.Path.{sym, _∙_}
 

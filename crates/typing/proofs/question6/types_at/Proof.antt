@@ -4,7 +4,7 @@ use Rattle.program.specs.Places.{instrAt}
 use Rattle.typing.proofs.TypeBytes.{no-types}
 use Rattle.typing.proofs.question6.types_at.Statement.{statement}
 use Rattle.typing.proofs.question6.types_at.Tie as tie
-use Rattle.typing.specs.Questions.{question6}
+use Rattle.rules.specs.Questions.{question6}
 use borrow.Author.Needs.{needs}
 use mathlib.Core.Path.{refl, sym, _∙_}
 use native.Mathlib.Omega.{arith}

@@ -3,8 +3,8 @@ use Rattle.layout.proofs.Bools.{and-on, and-off}
 use Rattle.program.specs.Places.{versionAt}
 use Rattle.typing.proofs.question6.version_types.Statement.{statement}
 use Rattle.typing.proofs.question6.version_types.Tie as tie
-use Rattle.typing.specs.Questions.{versionTypes}
-use Rattle.typing.specs.Types.{returnType}
+use Rattle.rules.specs.Questions.{versionTypes}
+use Rattle.rules.specs.Types.{returnType}
 use borrow.Author.Needs.{needs}
 use mathlib.Core.Path.{sym, ap, _∙_}
 

@@ -4,7 +4,7 @@ use Rattle.program.proofs.Passes.{asked-version, asked-block, asked-line, asked
 use Rattle.program.specs.Program.{program}
 use Rattle.typing.proofs.question8.fits_at.Statement.{statement}
 use Rattle.typing.proofs.question8.fits_at.Tie as tie
-use Rattle.typing.specs.Questions.{question8}
+use Rattle.rules.specs.Questions.{question8}
 use borrow.Author.Needs.{needs}
 use denote.Ref.{now}
 use mathlib.Core.Path.{sym, _∙_}

@@ -8,7 +8,7 @@ use Rattle.program.specs.Program.{program}
 use Rattle.typing.proofs.Lines.{anyAhead, none-ahead, block-ahead, none-outside, version-ahead, next-ahead, met-ahead, passed-ahead}
 use Rattle.typing.proofs.question9.block_reflects.Statement.{statement}
 use Rattle.typing.proofs.question9.block_reflects.Tie as tie
-use Rattle.typing.specs.Effects.{reflective}
+use Rattle.rules.specs.Effects.{reflective}
 use borrow.Author.Needs.{needs}
 use denote.Ref.{now}
 use lib.ListN.{length}

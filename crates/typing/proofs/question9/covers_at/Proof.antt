@@ -6,7 +6,7 @@ use Rattle.program.specs.Program.{program}
 use Rattle.typing.proofs.Lines.{covers-mark, covers-quiet, covers-not}
 use Rattle.typing.proofs.question9.covers_at.Statement.{statement}
 use Rattle.typing.proofs.question9.covers_at.Tie as tie
-use Rattle.typing.specs.Questions.{question9}
+use Rattle.rules.specs.Questions.{question9}
 use borrow.Author.Needs.{needs}
 use denote.Ref.{now}
 use mathlib.Core.Path.{refl, sym, _∙_}

@@ -6,7 +6,7 @@ use Rattle.program.specs.Program.{instrOf}
 use Rattle.typing.proofs.Lines.{is-quiet}
 use Rattle.typing.proofs.question9.reflects.Statement.{statement}
 use Rattle.typing.proofs.question9.reflects.Tie as tie
-use Rattle.typing.specs.Effects.{reflective}
+use Rattle.rules.specs.Effects.{reflective}
 use borrow.Author.Needs.{needs}
 use lib.Dec.{eqb}
 use mathlib.Core.Path.{sym, ap, _∙_}

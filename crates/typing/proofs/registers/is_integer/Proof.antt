@@ -1,7 +1,7 @@
 -- `typing::registers::is_integer`: the kind of its type.
 use Rattle.typing.proofs.registers.is_integer.Statement.{statement}
 use Rattle.typing.proofs.registers.is_integer.Tie as tie
-use Rattle.typing.specs.Types.{isInteger}
+use Rattle.rules.specs.Types.{isInteger}
 use borrow.Author.Needs.{needs}
 
 kind-in-requires : tie.Need-kind-in-requires

@@ -1,7 +1,7 @@
 -- `typing::registers::is_promise`: the kind of its type.
 use Rattle.typing.proofs.registers.is_promise.Statement.{statement}
 use Rattle.typing.proofs.registers.is_promise.Tie as tie
-use Rattle.typing.specs.Types.{isPromise}
+use Rattle.rules.specs.Types.{isPromise}
 use borrow.Author.Needs.{needs}
 use borrow.Author.Tests.{eq-eqb, ne-eqb}
 

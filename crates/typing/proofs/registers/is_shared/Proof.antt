@@ -1,7 +1,7 @@
 -- `typing::registers::is_shared`: the ownership of its type.
 use Rattle.typing.proofs.registers.is_shared.Statement.{statement}
 use Rattle.typing.proofs.registers.is_shared.Tie as tie
-use Rattle.typing.specs.Types.{isShared, ownershipOf}
+use Rattle.rules.specs.Types.{isShared, ownershipOf}
 use borrow.Author.Needs.{needs}
 
 type-in-requires : tie.Need-type-in-requires

@@ -1,7 +1,7 @@
 -- `typing::registers::is_vector`: the kind of its type.
 use Rattle.typing.proofs.registers.is_vector.Statement.{statement}
 use Rattle.typing.proofs.registers.is_vector.Tie as tie
-use Rattle.typing.specs.Types.{isVector}
+use Rattle.rules.specs.Types.{isVector}
 use borrow.Author.Needs.{needs}
 
 kind-in-requires : tie.Need-kind-in-requires

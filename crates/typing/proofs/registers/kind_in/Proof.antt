@@ -1,7 +1,7 @@
 -- `typing::registers::kind_in`: the kind of its type.
 use Rattle.typing.proofs.registers.kind_in.Statement.{statement}
 use Rattle.typing.proofs.registers.kind_in.Tie as tie
-use Rattle.typing.specs.Types.{kindOf}
+use Rattle.rules.specs.Types.{kindOf}
 use borrow.Author.Needs.{needs}
 
 type-in-requires : tie.Need-type-in-requires

@@ -1,7 +1,7 @@
 -- `typing::registers::takes_fresh`: owned, or shared of a kind that holds a vector.
 use Rattle.typing.proofs.registers.takes_fresh.Statement.{statement}
 use Rattle.typing.proofs.registers.takes_fresh.Tie as tie
-use Rattle.typing.specs.Fits.{fresh}
+use Rattle.rules.specs.Fits.{fresh}
 use borrow.Author.Needs.{needs}
 use mathlib.Core.Path.{sym, _∙_}
 

@@ -2,7 +2,7 @@
 use Rattle.typing.proofs.Within.{within-any, within-value, within-promise, within-other}
 use Rattle.typing.proofs.types.is_within.Statement.{statement}
 use Rattle.typing.proofs.types.is_within.Tie as tie
-use Rattle.typing.specs.Types.{within}
+use Rattle.rules.specs.Types.{within}
 use borrow.Author.Tests.{eq-eqb, ne-eqb}
 
 returns : tie.Need-returns

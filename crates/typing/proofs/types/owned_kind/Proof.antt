@@ -2,7 +2,7 @@
 use Rattle.typing.proofs.types.owned_kind.Statement.{statement}
 use Rattle.typing.proofs.types.owned_kind.Tie as tie
 use Rattle.typing.specs.Calls.{ownedKind}
-use Rattle.typing.specs.Types.{kindOf, ownershipOf, isOwned}
+use Rattle.rules.specs.Types.{kindOf, ownershipOf, isOwned}
 use borrow.Author.Tests.{eq-eqb, ne-eqb}
 
 returns : tie.Need-returns

@@ -3,7 +3,7 @@ use Rattle.layout.specs.Tests.{_and_}
 use Rattle.typing.proofs.Owners.{not-shared, no-ownership}
 use Rattle.typing.proofs.types.parameter_type.Statement.{statement}
 use Rattle.typing.proofs.types.parameter_type.Tie as tie
-use Rattle.typing.specs.Types.{kindOf, ownershipOf, isShared, isVector, parameterType}
+use Rattle.rules.specs.Types.{kindOf, ownershipOf, isShared, isVector, parameterType}
 use borrow.Author.Tests.{lt-ltb, le-ltb, eq-eqb, ne-eqb}
 
 returns : tie.Need-returns

@@ -2,7 +2,7 @@
 use Rattle.layout.specs.Tests.{_and_}
 use Rattle.typing.proofs.types.register_type.Statement.{statement}
 use Rattle.typing.proofs.types.register_type.Tie as tie
-use Rattle.typing.specs.Types.{ownershipOf, isBorrowed, registerType}
+use Rattle.rules.specs.Types.{ownershipOf, isBorrowed, registerType}
 use borrow.Author.Needs.{needs}
 use mathlib.Core.Path.{sym, _∙_}
 

@@ -3,7 +3,7 @@ use Prim.Native.Nat.{_%_}
 use Rattle.layout.specs.Tests.{_and_}
 use Rattle.typing.proofs.types.return_type.Statement.{statement}
 use Rattle.typing.proofs.types.return_type.Tie as tie
-use Rattle.typing.specs.Types.{kindOf, returnType}
+use Rattle.rules.specs.Types.{kindOf, returnType}
 use borrow.Author.Needs.{needs}
 use borrow.Author.Tests.{lt-ltb}
 use mathlib.Core.Path.{sym, _∙_}

@@ -6,7 +6,7 @@ use lib.ListN.{getD, getElem?}
 use lib.Dec.{eqb}
 use Rattle.layout.specs.Tests.{_and_, all, any, count, found}
 use Rattle.program.specs.Program.{Argument, Instr, LIT, MOVE, USE, DUP, VEC, LEN, GET, SET, ARITH, SELECT, CAST, NAMED, STORE, PROM, FORCE, PEEK, POKE, CALL, DISPATCH, Block, Version, Program, findVersion, given}
-use Rattle.typing.specs.Types.{kindOf, isShared, isOwned, isBorrowed, isInteger, isVector, isPromise, within}
+use Rattle.rules.specs.Types.{kindOf, isShared, isOwned, isBorrowed, isInteger, isVector, isPromise, within}
 
 -- the declared type of a register, and its kind
 abbrev pub typeOf : Version → ℕ → ℕ

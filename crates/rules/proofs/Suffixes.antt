@@ -10,10 +10,10 @@ use native.Mathlib.Omega.{arith}
 use lib.ListN.{take, drop, getElem?, take-append-drop}
 use Rattle.sets.specs.Sets.{has, those}
 use Rattle.program.specs.Program.{Instr, Line, Block, Version, Program}
-use Rattle.flow.specs.Actions.{Action, _then_, ∅, reading, along}
-use Rattle.flow.specs.Walks.{blockAction, acts, before, after}
-use Rattle.flow.proofs.Blocks.{walked-at}
-use Rattle.flow.proofs.Follows.{Follows, Parts, then-parts, then-assoc, first-reads, first-assigns, first-empties, first-captures, second-reads, second-assigns, second-empties, second-captures, not-true, has-empty}
+use Rattle.rules.specs.Actions.{Action, _then_, ∅, reading, along}
+use Rattle.rules.specs.Walks.{blockAction, acts, before, after}
+use Rattle.rules.proofs.Walked.{walked-at}
+use Rattle.rules.proofs.Follows.{Follows, Parts, then-parts, then-assoc, first-reads, first-assigns, first-empties, first-captures, second-reads, second-assigns, second-empties, second-captures, not-true, has-empty}
 
 module _ (act : Instr → Option Action) (result : ℕ) where
   -- the whole is what was done before, then what is done from here on

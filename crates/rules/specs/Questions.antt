@@ -5,9 +5,9 @@ use lib.Dec.{ltb}
 use Rattle.layout.specs.Tests.{_and_, all, allFrom}
 use Rattle.program.specs.Program.{Argument, Instr, LIT, MOVE, USE, DUP, VEC, LEN, GET, SET, ARITH, SELECT, CAST, NAMED, STORE, PROM, FORCE, PEEK, POKE, CALL, DISPATCH, Version, Program}
 use Rattle.program.specs.Search.{Question, free}
-use Rattle.typing.specs.Types.{parameterType, registerType, returnType}
-use Rattle.typing.specs.Fits.{fits, fitsResult}
-use Rattle.typing.specs.Effects.{covered}
+use Rattle.rules.specs.Types.{parameterType, registerType, returnType}
+use Rattle.rules.specs.Fits.{fits, fitsResult}
+use Rattle.rules.specs.Effects.{covered}
 
 -- may register r of a version with so many parameters have the type t?
 unfoldable pub typeAllowed : ℕ → ℕ → ℕ → Bool

@@ -4,7 +4,7 @@ use Prim.Native.Nat.{ℕ}
 use lib.Dec.{eqb}
 use Rattle.layout.specs.Tests.{any, found}
 use Rattle.program.specs.Program.{Instr, LIT, MOVE, USE, DUP, VEC, LEN, GET, SET, ARITH, SELECT, CAST, NAMED, STORE, PROM, FORCE, PEEK, POKE, CALL, DISPATCH, Line, Block, Version, Program, findVersion, markOf}
-use Rattle.typing.specs.Fits.{declaredKind}
+use Rattle.rules.specs.Fits.{declaredKind}
 
 -- effect is reflective with PEEK, POKE, FORCE of kind 5, CALL of a reflective version, or a reflective DISPATCH mark; PROM itself is quiet
 unfoldable pub reflective : Program → Version → Instr → Bool

@@ -19,10 +19,10 @@ use Rattle.program.specs.Program.{Argument, Line, Block, Version, Program}
 use Rattle.program.specs.Search.{firstLine, firstBlock, first}
 use Rattle.program.proofs.Laid.{passed}
 use Rattle.program.proofs.Lookups.{Each}
-use Rattle.typing.specs.Types.{isOwned}
-use Rattle.flow.specs.Actions.{Action, _then_, ∅, reading, emptying, assigning, promised, emptied, reads_empties_assigns_, enters_assigns_, actionOf, bodyAction}
-use Rattle.flow.specs.Questions.{flows, question10}
-use Rattle.flow.proofs.Follows.{Follows, Parts, then-parts, then-follows, or-left, or-right, or-either, has-empty, has-union}
+use Rattle.rules.specs.Types.{isOwned}
+use Rattle.rules.specs.Actions.{Action, _then_, ∅, reading, emptying, assigning, promised, emptied, reads_empties_assigns_, enters_assigns_, actionOf, bodyAction}
+use Rattle.rules.specs.Flows.{flows, question10}
+use Rattle.rules.proofs.Follows.{Follows, Parts, then-parts, then-follows, or-left, or-right, or-either, has-empty, has-union}
 
 -- ---- registers of a list
 

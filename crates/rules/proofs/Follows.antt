@@ -9,9 +9,8 @@ use native.Mathlib.Omega.{arith}
 use lib.ListN.{length}
 use lib.Seq.{ext-getD}
 use Rattle.sets.specs.Sets.{Set, has, empty, both, _∪_, _∖_, inhabited, meets}
-use Rattle.sets.proofs.Members.{has-both, has-none}
-use Rattle.flow.specs.Actions.{Action, clash, joined, _then_}
-use Rattle.flow.proofs.Listed.{union-assoc}
+use Rattle.sets.proofs.Members.{has-both, has-none, union-assoc}
+use Rattle.rules.specs.Actions.{Action, clash, joined, _then_}
 
 -- ---- tests
 

@@ -4,7 +4,7 @@ use Rattle.layout.specs.Tests.{found}
 use Rattle.sets.specs.Sets.{below}
 use Rattle.program.specs.Program.{Version, Program}
 use Rattle.program.specs.Search.{Question, free}
-use Rattle.flow.specs.Actions.{bodyAction}
+use Rattle.rules.specs.Actions.{bodyAction}
 
 -- 10: does flow hold, with the body's R within the parameters?
 unfoldable pub flows : Program → Version → Bool

@@ -6,7 +6,7 @@ use Prim.Native.Nat.{ℕ}
 use lib.ListN.{getD}
 use lib.Dec.{ltb}
 use Rattle.program.specs.Program.{Instr, Line, Version, Program}
-use Rattle.flow.specs.Actions.{Action, _then_, reading, Touch, reads_empties_assigns_, enters_assigns_, touch, actionOf, actions}
+use Rattle.rules.specs.Actions.{Action, _then_, reading, Touch, reads_empties_assigns_, enters_assigns_, touch, actionOf, actions}
 
 -- what the block b of a version does
 abbrev pub blockAction : Program → Version → ℕ → Option Action

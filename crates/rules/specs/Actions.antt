@@ -8,7 +8,7 @@ use lib.Dec.{ltb}
 use Rattle.layout.specs.Bounds.{REGISTERS}
 use Rattle.sets.specs.Sets.{Set, empty, those, _∪_, _∖_, meets}
 use Rattle.program.specs.Program.{Argument, Instr, LIT, MOVE, USE, DUP, VEC, LEN, GET, SET, ARITH, SELECT, CAST, NAMED, STORE, PROM, FORCE, PEEK, POKE, CALL, DISPATCH, Line, Block, Version, Program, findVersion, given}
-use Rattle.typing.specs.Types.{isOwned}
+use Rattle.rules.specs.Types.{isOwned}
 
 -- four sets: R read before assigned, W assigned, U emptied, C captured
 pub record Action : Type 0 where

@@ -11,10 +11,10 @@ use lib.Dec.{ltb}
 use Rattle.sets.specs.Sets.{has, those}
 use Rattle.program.specs.Program.{Instr, Line, Block, Version, Program}
 use Rattle.program.proofs.Lookups.{Each}
-use Rattle.flow.specs.Actions.{Action, _then_, reading, Touch, reads_empties_assigns_, enters_assigns_, touch, actionOf, along, enter, actions, bodyAction}
-use Rattle.flow.specs.Walks.{blockAction, freed}
-use Rattle.flow.proofs.Follows.{Follows, then-parts, or-either, or-none, has-empty}
-use Rattle.flow.proofs.Touches.{touched-by, promises-by}
+use Rattle.rules.specs.Actions.{Action, _then_, reading, Touch, reads_empties_assigns_, enters_assigns_, touch, actionOf, along, enter, actions, bodyAction}
+use Rattle.rules.specs.Walks.{blockAction, freed}
+use Rattle.rules.proofs.Follows.{Follows, then-parts, or-either, or-none, has-empty}
+use Rattle.rules.proofs.Touches.{touched-by, promises-by}
 
 -- it empties nothing; it empties no register that it captures
 abbrev pub Calm : Action → Type 0
@@ -100,7 +100,7 @@ calm-blocks : (P : Program) (n : ℕ) (bs : List Block) → ((i : ℕ) (x : Bloc
 unfolding actions
 calm-blocks P n [] h i = if-none Calm
 calm-blocks P n (b ∷ bs) h zero =
-    if-along Calm calm-joins _ (b .result) (reading []) (b .code)
+    if-along Calm calm-joins _ _ (reading []) (b .code)
     (each-line _ (b .code) (λ i l e. calm-act (enter n (actions P (n + 1) bs)) (touch P (l .does)) (calm-enter n (actions P (n + 1) bs) (calm-blocks P (n + 1) bs (λ j x g. h (suc j) x g))) (h 0 b refl i l e)))
     (calm-reading _) (calm-reading [])
 calm-blocks P n (b ∷ bs) h (suc i) = calm-blocks P (n + 1) bs (λ j x g. h (suc j) x g) i
@@ -109,7 +109,7 @@ apart-body : (P : Program) (n : ℕ) (bs : List Block) → ((i : ℕ) (x : Block
 unfolding actions
 apart-body P n [] h = if-none Apart
 apart-body P n (b ∷ bs) h =
-    if-along Apart apart-joins _ (b .result) (reading []) (b .code)
+    if-along Apart apart-joins _ _ (reading []) (b .code)
     (each-line _ (b .code) (λ i l e. apart-act (enter n (actions P (n + 1) bs)) (touch P (l .does)) (calm-enter n (actions P (n + 1) bs) (calm-blocks P (n + 1) bs (λ j x g. h (suc j) x (omega arith) g)))))
     (λ a e. calm-apart a (calm-reading _ a e)) (λ a e. calm-apart a (calm-reading [] a e))
 

@@ -14,13 +14,13 @@ use Rattle.layout.specs.Tests.{_and_, any, all, found}
 use Rattle.layout.proofs.Bools.{and-both}
 use Rattle.program.specs.Program.{Argument, Instr, LIT, MOVE, USE, DUP, VEC, LEN, GET, SET, ARITH, SELECT, CAST, NAMED, STORE, PROM, FORCE, PEEK, POKE, CALL, DISPATCH, Line, Block, Version, Program, findVersion, given}
 use Rattle.program.proofs.Held.{Held}
-use Rattle.typing.specs.Types.{isOwned}
-use Rattle.typing.specs.Fits.{empties, fitsArgument, fitsReturn, fitsCall, fits}
-use Rattle.typing.specs.Questions.{question8}
-use Rattle.flow.specs.Actions.{Action, emptied, touch, bodyAction}
-use Rattle.flow.specs.Walks.{blockAction, freed}
-use Rattle.flow.proofs.Follows.{or-either, or-neither}
-use Rattle.flow.proofs.Calm.{Still, promises-calm, body-apart}
+use Rattle.rules.specs.Types.{isOwned}
+use Rattle.rules.specs.Fits.{empties, fitsArgument, fitsReturn, fitsCall, fits}
+use Rattle.rules.specs.Questions.{question8}
+use Rattle.rules.specs.Actions.{Action, emptied, touch, bodyAction}
+use Rattle.rules.specs.Walks.{blockAction, freed}
+use Rattle.rules.proofs.Follows.{or-either, or-neither}
+use Rattle.rules.proofs.Calm.{Still, promises-calm, body-apart}
 
 -- a call that is not an emptying one empties nothing
 not-emptying : (call : List Argument) → empties call ≡ false → emptied call ≡ []
