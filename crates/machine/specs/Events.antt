@@ -1,12 +1,14 @@
 -- What demand 3 speaks of: lists of single steps and budgets, and what each leaves.
-use mathlib.Core.List.{List, [], _∷_}
-use Prim.Native.Nat.{ℕ}
+use mathlib.Core.List.{List, [], _∷_, _++_}
+use mathlib.Core.Bool.{true, false}
+use Prim.Native.Nat.{ℕ, zero, suc}
 use lib.IntN.{ℤ}
 use Rattle.program.specs.Program.{Program}
-use Rattle.machine.specs.Runs.{stepOf, budgetOf, bufferOf}
+use Rattle.machine.specs.Runs.{longEnough, stepOf, budgetOf, bufferOf}
 use Rattle.machine.specs.declared.Answer.{Answer}
 use Rattle.machine.specs.declared.Said.{Said}
 use Rattle.machine.specs.declared.State.{State}
+use Rattle.machine.specs.declared.Status.{Status}
 
 -- a single step, or a budget of steps with any lent buffer
 pub data Event : Type 0 where
@@ -36,3 +38,28 @@ after P (e ∷ es) s = after P es (handle P e s .state)
 unfoldable pub replies : Program → List Event → State → List Reply
 replies P [] s = []
 replies P (e ∷ es) s = let h = handle P e s in h .reply ∷ replies P es (h .state)
+
+-- ---- history: the states in which a step was tried, in order
+
+unfoldable pub onward : State → Said → (State → List State) → List State
+onward s Said.GoesOn more = more s
+onward s (Said.Ended e) more = []
+onward s Said.Stuck more = []
+
+-- under a budget of n, on a run that goes on
+unfoldable pub triedUnder : Program → ℕ → State → List State
+triedUnder P zero s = []
+triedUnder P (suc m) s = let r = stepOf P s in s ∷ onward (r .state) (r .said) (λ t. triedUnder P m t)
+
+unfoldable pub triedIn : Program → State → ℕ → Status → List State
+triedIn P s n Status.Running = triedUnder P n s
+triedIn P s n (Status.Ended e) = []
+
+-- by one event: a budget refused by 13, or on an ended run, tries none
+unfoldable pub tried : Program → Event → State → List State
+tried P single s = s ∷ []
+tried P (budget n buffer) s = elim (longEnough buffer) [ true ↦ triedIn P s n (s .status) | false ↦ [] ]
+
+unfoldable pub history : Program → List Event → State → List State
+history P [] s = []
+history P (e ∷ es) s = tried P e s ++ history P es (handle P e s .state)

@@ -1,5 +1,5 @@
 -- What a question that found nothing to refuse gives: its test as a fact, for every version, block and instruction that is looked up.
-use mathlib.Core.Path.{_≡_, refl, subst}
+use mathlib.Core.Path.{_≡_, refl, ap, _∙_, subst}
 use mathlib.Core.List.{List, [], _∷_}
 use mathlib.Core.Option.{Option, none, some}
 use mathlib.Core.Bool.{Bool, true, false, cond}
@@ -8,6 +8,8 @@ use native.Mathlib.Nat.{add-zero, zero-add}
 use native.Mathlib.Omega.{arith}
 use lib.ListN.{getElem?}
 use lib.Dec.{eqb}
+use borrow.Author.Tests.{eqb-true}
+use Rattle.layout.proofs.Bools.{and-both}
 use Rattle.layout.specs.Tests.{_and_}
 use Rattle.layout.specs.declared.Found.{Found}
 use Rattle.layout.specs.declared.Found.the-variants.{Nothing, At}
@@ -71,3 +73,22 @@ holds q (x ∷ P) e f w v h =
     go : (t : Bool) → Held q x → (findVersion P f w ≡ some v → Held q v) → cond t (some x) (findVersion P f w) ≡ some v → Held q v
     go true a ih g = let y : x ≡ v = cc in subst (Held q) y a
     go false a ih g = ih g
+
+-- ---- a version that is found
+
+-- it has the numbers that it was looked up by
+pub find-numbers : (P : Program) (f w : ℕ) (W : Version) → findVersion P f w ≡ some W → (W .function ≡ f) × (W .version ≡ w)
+unfolding findVersion
+find-numbers [] f w W h = let z : _≡_ {A = ℕ} 0 1 = cc in absurd (omega arith)
+find-numbers (x ∷ P) f w W h = go (eqb (x .function) f and eqb (x .version) w) refl h (λ g. find-numbers P f w W g)
+  where
+    go : (b : Bool) → (eqb (x .function) f and eqb (x .version) w) ≡ b → cond b (some x) (findVersion P f w) ≡ some W → (findVersion P f w ≡ some W → (W .function ≡ f) × (W .version ≡ w)) → (W .function ≡ f) × (W .version ≡ w)
+    go true e g ih =
+        let y : x ≡ W = cc in
+        let t = and-both (eqb (x .function) f) (eqb (x .version) w) e in
+        (rw y at (eqb-true (x .function) f (t .0)), rw y at (eqb-true (x .version) w (t .1)))
+    go false e g ih = ih g
+
+-- so it is found by its own
+pub find-own : (P : Program) (f w : ℕ) (W : Version) → findVersion P f w ≡ some W → findVersion P (W .function) (W .version) ≡ some W
+find-own P f w W h = let n = find-numbers P f w W h in ap (λ (k : ℕ). findVersion P k (W .version)) (n .0) ∙ ap (λ (k : ℕ). findVersion P f k) (n .1) ∙ h

@@ -41,7 +41,7 @@ use Rattle.soundness.proofs.Progress.{Good, good, good-then, good-got, 
 use Rattle.soundness.proofs.Types.{clash, eqb-same, vector-kind, owned-kind, owned-owned, within-same, within-trans}
 use Rattle.soundness.proofs.Versions.{parameter-vector, type-allowed}
 use Rattle.soundness.proofs.Limits.{limited, mark-is, mark-bound}
-use Rattle.soundness.proofs.NewFrames.{find-own}
+use Rattle.program.proofs.Held.{find-own}
 use Rattle.soundness.proofs.Counting.{each-map}
 use Rattle.soundness.proofs.KindsOf.{valueKind, kind-got, kind-within}
 use Rattle.soundness.proofs.Clearing.{isIn, at-in-list, those-in}
@@ -49,7 +49,7 @@ use Rattle.soundness.proofs.Standing.{At, live, place-in, typed, meets}
 use Rattle.soundness.proofs.Operands.{only-one, fits-i, exists-i, bounded-i, marked-i, touched, full-at, assigned-in, value-got}
 use Rattle.soundness.proofs.Plain.{Stepped}
 use Rattle.soundness.proofs.Entering.{Enters, enters}
-use Rattle.soundness.proofs.Lists.{get-some, get-in, get-take, take-in, any-at, all-at, get-map, map-get, map-length, counted-once}
+use Rattle.runs.proofs.Lists.{get-some, get-in, get-take, take-in, any-at, all-at, get-map, map-get, map-length, counted-once}
 
 both-hold : {b c : Bool} → b ≡ true → c ≡ true → (b and c) ≡ true
 unfolding _and_

@@ -21,7 +21,7 @@ use Rattle.machine.specs.declared.Frame.{Frame}
 use Rattle.machine.specs.declared.Place.{Place}
 use Rattle.machine.specs.declared.State.{State}
 use Rattle.machine.specs.declared.Value.{Value}
-use Rattle.soundness.proofs.Lists.{get-some, get-take}
+use Rattle.runs.proofs.Lists.{get-some, get-take}
 
 -- how many cells a frame has
 abbrev pub CELLS : ℕ

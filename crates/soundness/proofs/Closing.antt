@@ -18,7 +18,7 @@ use Rattle.machine.specs.Try.{Try, got, stuck, stop, _>>=_, orStuck, at}
 use Rattle.machine.specs.States.{register, named, withEnd}
 use Rattle.machine.specs.Steps.{advance}
 use Rattle.machine.specs.Runs.{saying, settled, stepIn, stepOf, continued, runFrom, budgetIn, longEnough, budgetOf}
-use Rattle.machine.specs.Events.{Event, single, budget, handle, after}
+use Rattle.machine.specs.Events.{Event, single, budget, handle, after, onward, triedUnder, triedIn, tried, history}
 use Rattle.machine.specs.declared.End.{End}
 use Rattle.machine.specs.declared.Frame.{Frame}
 use Rattle.machine.specs.declared.Ran.{Ran}
@@ -26,14 +26,14 @@ use Rattle.machine.specs.declared.Said.{Said}
 use Rattle.machine.specs.declared.State.{State}
 use Rattle.machine.specs.declared.Status.{Status}
 use Rattle.machine.specs.declared.Value.{Value}
-use Rattle.soundness.specs.Claim.{onward, triedUnder, triedIn, tried, history, Live, entered, Declared, OfType, nothing, ofKind, Owns, Borrows, Safe}
+use Rattle.soundness.specs.Claim.{Live, entered, Declared, OfType, nothing, ofKind, Owns, Borrows, Safe}
 use Rattle.soundness.proofs.Cells.{Whole, cell, cellAt, frameAt, register-is, named-is}
 use Rattle.soundness.proofs.Invariant.{Sure, versionAt, cellType, typeAt, isFull, Fits, Unshared, Inv}
 use Rattle.soundness.proofs.Progress.{Good}
 use Rattle.soundness.proofs.Limits.{limited, live-frame}
 use Rattle.soundness.proofs.KindsOf.{valueKind, kind-got, kind-within}
 use Rattle.soundness.proofs.Quiet.{reflective-runs, none-quiet}
-use Rattle.soundness.proofs.Lists.{get-some, get-in, get-end}
+use Rattle.runs.proofs.Lists.{get-some, get-in, get-end}
 
 -- a step of a run that goes on is not stuck and keeps the invariant
 abbrev pub StepSafe : Program → Type 0

@@ -23,7 +23,7 @@ use Rattle.machine.specs.declared.Value.{Value}
 use Rattle.soundness.proofs.Cells.{CELLS, Sized, Whole, noFrame, frameAt, cell, cellAt, at-out}
 use Rattle.soundness.proofs.Progress.{Good}
 use Rattle.soundness.proofs.Types.{clash, eqb-same}
-use Rattle.soundness.proofs.Lists.{get-some, get-in, get-take, take-in, any-at, any-find}
+use Rattle.runs.proofs.Lists.{get-some, get-in, get-take, take-in, any-at, any-find}
 
 -- ---- lists
 

@@ -12,7 +12,8 @@ use Rattle.machine.specs.declared.Begun.{Begun}
 use Rattle.machine.specs.declared.Entry.{Entry}
 use Rattle.soundness.specs.Claim.{Demand3}
 use Rattle.soundness.proofs.Invariant.{Sure, Inv}
-use Rattle.soundness.proofs.Start.{refused-begun, begun-inv}
+use Rattle.soundness.proofs.Start.{begun-inv}
+use Rattle.runs.proofs.Lives.{refused-begun}
 use Rattle.soundness.proofs.Closing.{StepSafe, safe-after}
 
 -- a begun run: its program is checked, and its state has the invariant

@@ -41,7 +41,7 @@ use Rattle.soundness.proofs.Clearing.{isIn, Cleared, still, full-still,
 use Rattle.soundness.proofs.Standing.{At, moved, live, inside, place-in, type-is, typed, meets, onward, under-le, spare, not-owned}
 use Rattle.soundness.proofs.Vectors.{sole, under-body}
 use Rattle.soundness.proofs.Promises.{stack-push}
-use Rattle.soundness.proofs.Lists.{get-some, get-in, get-take, map-length}
+use Rattle.runs.proofs.Lists.{get-some, get-in, get-take, map-length}
 
 -- ---- arguments
 

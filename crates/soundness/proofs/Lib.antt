@@ -1,4 +1,3 @@
-pub mod Lists
 pub mod Cells
 pub mod Invariant
 pub mod Progress
@@ -17,14 +16,13 @@ pub mod Counting
 pub mod Vectors
 pub mod Clearing
 pub mod Uses
-pub mod Quiet
-pub mod Closing
-pub mod Start
-pub mod Demand
-pub mod Splits
-pub mod Results
 pub mod Promises
 pub mod Entering
 pub mod Calling
 pub mod Ends
+pub mod Quiet
+pub mod Closing
+pub mod Start
+pub mod Demand
+pub mod Results
 pub mod Safety

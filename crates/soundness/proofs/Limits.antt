@@ -19,7 +19,7 @@ use Rattle.machine.specs.declared.Promise.{Promise}
 use Rattle.machine.specs.declared.State.{State}
 use Rattle.soundness.proofs.Cells.{noFrame, frameAt}
 use Rattle.soundness.proofs.Invariant.{Sure, versionAt, blockAt, noBlock, Heap}
-use Rattle.soundness.proofs.Lists.{get-in, get-take, take-in}
+use Rattle.runs.proofs.Lists.{get-in, get-take, take-in}
 
 -- the counts of a version are in bounds
 pub record Limited (v : Version) : Type 0 where

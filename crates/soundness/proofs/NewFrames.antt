@@ -25,7 +25,7 @@ use Rattle.machine.specs.declared.Value.{Value}
 use Rattle.soundness.proofs.Cells.{Whole, cell, cellAt}
 use Rattle.soundness.proofs.Invariant.{noBlock, versionAt, blockAt, isFull, captures, keep, top, Gets, Stands}
 use Rattle.soundness.proofs.Limits.{limited}
-use Rattle.soundness.proofs.Lists.{get-some}
+use Rattle.runs.proofs.Lists.{get-some}
 
 -- ---- a list put over another
 
@@ -89,24 +89,7 @@ frame-cell W vs c h = go (ltb c REGISTERS) refl
     go true e = rw e (ap (λ (p : Place). p .value) (over-blank (map place vs) REGISTERS c (place Value.Empty) (omega (arith, places-length vs)) ∙ places-get vs c))
     go false e = rw e (ap (λ (p : Place). p .value) (blank-get NAMES (c - REGISTERS) (place Value.Empty)) ∙ sym (List·getD-eq-default vs Value.Empty {n = c} (omega (arith, ltb-false c REGISTERS e))))
 
--- ---- a version that is found, and its body at the first instruction
-
--- it has the numbers that it was looked up by
-pub find-numbers : (P : Program) (f w : ℕ) (W : Version) → findVersion P f w ≡ some W → (W .function ≡ f) × (W .version ≡ w)
-unfolding findVersion
-find-numbers [] f w W h = let z : _≡_ {A = ℕ} 0 1 = cc in absurd (omega arith)
-find-numbers (x ∷ P) f w W h = go (eqb (x .function) f and eqb (x .version) w) refl h (λ g. find-numbers P f w W g)
-  where
-    go : (b : Bool) → (eqb (x .function) f and eqb (x .version) w) ≡ b → cond b (some x) (findVersion P f w) ≡ some W → (findVersion P f w ≡ some W → (W .function ≡ f) × (W .version ≡ w)) → (W .function ≡ f) × (W .version ≡ w)
-    go true e g ih =
-        let y : x ≡ W = cc in
-        let t = and-both (eqb (x .function) f) (eqb (x .version) w) e in
-        (rw y at (eqb-true (x .function) f (t .0)), rw y at (eqb-true (x .version) w (t .1)))
-    go false e g ih = ih g
-
--- so it is found by its own
-pub find-own : (P : Program) (f w : ℕ) (W : Version) → findVersion P f w ≡ some W → findVersion P (W .function) (W .version) ≡ some W
-find-own P f w W h = let n = find-numbers P f w W h in ap (λ (k : ℕ). findVersion P k (W .version)) (n .0) ∙ ap (λ (k : ℕ). findVersion P f k) (n .1) ∙ h
+-- ---- the body of a version at its first instruction
 
 -- a call stands at the start of its body, where its parameters are full
 pub body-stands : (P : Program) (fs : List Frame) (f : ℕ) → Checked P (versionAt P fs f) → ((r : ℕ) → r < versionAt P fs f .parameters → isFull (cellAt fs f r) ≡ true) → Stands P fs top f 0 0

@@ -49,7 +49,7 @@ use Rattle.soundness.proofs.KindsOf.{promise-is}
 use Rattle.soundness.proofs.Standing.{At, moved, live, checked-version, there, place-in, meets, operand, kept-now, onward, writes-register}
 use Rattle.soundness.proofs.Operands.{only-one, fits-i, exists-i, marked-i, full-at, assigned-in, promise-got}
 use Rattle.soundness.proofs.Plain.{Stepped, gives-integer}
-use Rattle.soundness.proofs.Lists.{get-some}
+use Rattle.runs.proofs.Lists.{get-some}
 use Rattle.soundness.proofs.Limits.{mark-bound}
 
 -- ---- the pool of promises

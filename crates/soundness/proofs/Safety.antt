@@ -1,8 +1,8 @@
--- One step of a running state keeps the invariant and is not stuck.
+-- One step of a running state keeps the invariant and is not stuck; so the demands hold.
 use mathlib.Core.Path.{_≡_, refl, sym, ap, _∙_}
 use mathlib.Core.List.{List, _∷_}
 use mathlib.Core.Option.{some}
-use Prim.Native.Nat.{ℕ, suc, _+_, _-_}
+use Prim.Native.Nat.{ℕ, suc, _+_, _-_, zero}
 use native.Mathlib.Omega.{arith}
 use lib.ListN.{length, getD, getElem?, set, length-set}
 use Rattle.program.specs.Program.{Instr, LIT, MOVE, USE, DUP, VEC, LEN, GET, SET, ARITH, SELECT, CAST, NAMED, STORE, PROM, FORCE, PEEK, POKE, CALL, DISPATCH, Line, Program}
@@ -15,7 +15,7 @@ use Rattle.machine.specs.declared.Status.{Status}
 use Rattle.soundness.specs.Claim.{Demand3}
 use Rattle.soundness.specs.Results.{Results}
 use Rattle.soundness.proofs.Cells.{frameAt}
-use Rattle.soundness.proofs.Invariant.{Sure, versionAt, blockAt, noActivation, stackOf, Inv}
+use Rattle.soundness.proofs.Invariant.{Sure, versionAt, blockAt, noActivation, stackOf, Inv, Opened, below, awaited, Base, Stack, top}
 use Rattle.soundness.proofs.Progress.{Good}
 use Rattle.soundness.proofs.Stacks.{topOf, hereOf, has-top, at-top, advance-is, position-is, stack-top, Standing, at-line, at-end, standing}
 use Rattle.soundness.proofs.Standing.{At, moved}
@@ -26,9 +26,12 @@ use Rattle.soundness.proofs.Uses.{use-step}
 use Rattle.soundness.proofs.Promises.{prom, force-step}
 use Rattle.soundness.proofs.Calling.{call-step, dispatch-step}
 use Rattle.soundness.proofs.Ends.{AtEnd, end-ok}
-use Rattle.soundness.proofs.Closing.{StepSafe}
-use Rattle.soundness.proofs.Demand.{demand3-from}
+use Rattle.soundness.proofs.Closing.{StepSafe, history-all}
+use Rattle.soundness.proofs.Demand.{demand3-from, started}
 use Rattle.soundness.proofs.Results.{results-from}
+use Rattle.machine.specs.Begin.{beginOf, programOf}
+use Rattle.machine.specs.declared.Opener.{Opener}
+use Rattle.soundness.specs.LastCall.{LastCall}
 
 -- every instruction, by its kind
 executes : (P : Program) (sure : Sure P) (s : State) (a : Activation) (rest : List Activation) (l : Line) (W : At P s a rest l) (i : Instr) → l .does ≡ i → Stepped P sure s a rest l W i
@@ -91,3 +94,28 @@ demand3 = demand3-from step-safe
 -- DEMAND 1, over the definitions
 pub results : Results
 results = results-from step-safe
+
+-- ---- DONE ends one call alone
+
+-- an activation with no frame below it has the only one
+opened-one : (n f b : ℕ) (o : Opener) → Opened n f b o → below n f o ≡ 0 → n ≡ 1
+unfolding Opened below
+opened-one n f b Opener.Call h e = omega (arith, h .0)
+opened-one n f b (Opener.Force p) h e = absurd (omega (arith, h .0))
+
+-- one activation, one call
+one-call : (P : Program) (s : State) → Inv P s → s .status ≡ Status.Running → s .depth ≡ 1 → s .calls ≡ 1
+unfolding Stack stackOf Base awaited
+one-call P s inv run d = go (s .depth) d (inv .stack run)
+  where
+    go : (n : ℕ) → n ≡ 1 → Stack P (s .frames) top (s .calls) (stackOf (s .activations) n) → s .calls ≡ 1
+    go zero e st = absurd st
+    go (suc zero) e st = opened-one (s .calls) _ _ _ (st .1) (st .2)
+    go (suc (suc n)) e st = absurd (omega arith)
+
+-- THE LAW: in every state in which a step was tried
+pub last-call : LastCall
+unfolding LastCall
+last-call image f v words buffer h events b m run d =
+    let t = started image f v words buffer h in
+    one-call (programOf image) b (history-all (programOf image) (step-safe (programOf image) (t .sure)) events (beginOf image f v words buffer .state) (t .inv) b m) run d

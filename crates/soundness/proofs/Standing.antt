@@ -37,7 +37,7 @@ use Rattle.soundness.proofs.Progress.{Good, good}
 use Rattle.soundness.proofs.Types.{clash, register-type, shared-owned, shared-borrowed}
 use Rattle.soundness.proofs.Versions.{register-in, covers, spares}
 use Rattle.soundness.proofs.Heap.{same-version, ext-every, ext-less, stack-ext, ext-full, heap-write}
-use Rattle.soundness.proofs.Lists.{get-in}
+use Rattle.runs.proofs.Lists.{get-in}
 use Rattle.soundness.proofs.Stacks.{opened-live, below-le}
 
 -- past its instruction

@@ -31,8 +31,10 @@ use Rattle.machine.specs.declared.State.{State}
 use Rattle.machine.specs.declared.Value.{Value}
 use Rattle.soundness.proofs.Cells.{Whole, Sized, noFrame, frameAt, cellAt}
 use Rattle.soundness.proofs.Invariant.{Sure, orNone, versionAt, cellType, typeAt, isFull, Fits, Unshared, Heap, top, Stands, Opened, below, awaited, Base, Stack, stackOf, Inv}
-use Rattle.soundness.proofs.NewFrames.{over-length, frame-function, frame-version, frame-whole, frame-cell, find-own, body-stands}
+use Rattle.soundness.proofs.NewFrames.{over-length, frame-function, frame-version, frame-whole, frame-cell, body-stands}
+use Rattle.program.proofs.Held.{find-own}
 use Rattle.soundness.proofs.Limits.{Limited, limited}
+use Rattle.runs.proofs.Lives.{refused-begun}
 
 -- ---- question 12
 
@@ -237,10 +239,6 @@ module _ (P : Program) (sure : Sure P) (f w : ℕ) (W : Version) (found : findVe
   }
 
 -- ---- questions 11 to 13
-
--- a refused run has not begun
-pub refused-begun : (q p : ℕ) → Entry.Refused q p ≡ Entry.Begun → ⊥
-refused-begun q p e = let z : _≡_ {A = ℕ} 0 1 = cc in omega arith
 
 -- a buffer that is long enough changes nothing
 after-13 : (P : Program) (s : State) (buffer : List ℤ) → Inv P s → question13 s buffer .entry ≡ Entry.Begun → Inv P (question13 s buffer .state)

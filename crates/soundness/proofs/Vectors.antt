@@ -38,7 +38,7 @@ use Rattle.soundness.proofs.Counting.{each-some, vector-free, vector-al
 use Rattle.soundness.proofs.Standing.{At, moved, inv-of, live, inside, place-in, type-is, meets, onward, stack-on, under-le, writes-register, spare}
 use Rattle.soundness.proofs.Operands.{only-one, only-none, fits-i, exists-i, touched, full-at, assigned-in, emptied-in, integer-got, vector-got}
 use Rattle.soundness.proofs.Plain.{Stepped, vector-at, index-ok}
-use Rattle.soundness.proofs.Lists.{all-at}
+use Rattle.runs.proofs.Lists.{all-at}
 
 -- a change of the vectors alone
 pub at-vector : (P : Program) (s : State) (a : Activation) (rest : List Activation) (l : Line) (v : ℕ) (w : Vector) → At P s a rest l → At P (withVector s v w) a rest l

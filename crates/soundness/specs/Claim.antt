@@ -1,10 +1,10 @@
 -- Demand 3, as the section "What demand 3 speaks of" has it: the statement alone.
 use mathlib.Core.Path.{_≡_}
 use mathlib.Core.Logic.{_≢_, _⊎_}
-use mathlib.Core.List.{List, List·Memᴰ, [], _∷_, _++_}
+use mathlib.Core.List.{List, List·Memᴰ}
 use mathlib.Core.Option.{Option, none, some}
 use mathlib.Core.Bool.{Bool, true, false, _&&_}
-use Prim.Native.Nat.{ℕ, zero, suc, _<_}
+use Prim.Native.Nat.{ℕ, _<_}
 use lib.IntN.{ℤ}
 use lib.ListN.{getElem?}
 use lib.Dec.{eqb}
@@ -13,40 +13,15 @@ use Rattle.rules.specs.Types.{kindOf, isOwned, isBorrowed, within}
 use Rattle.machine.specs.Try.{Try, got, stuck, stop, _>>=_}
 use Rattle.machine.specs.States.{kindIn, liveFrames, register, named}
 use Rattle.machine.specs.Steps.{Position, instruction, blockEnd, outside, here, positionOf}
-use Rattle.machine.specs.Runs.{lastStep, longEnough, stepOf}
+use Rattle.machine.specs.Runs.{lastStep, stepOf}
 use Rattle.machine.specs.Begin.{beginOf, programOf}
-use Rattle.machine.specs.Events.{Event, single, budget, handle, after}
+use Rattle.machine.specs.Events.{Event, after, history}
 use Rattle.machine.specs.declared.Entry.{Entry}
 use Rattle.machine.specs.declared.Frame.{Frame}
 use Rattle.machine.specs.declared.Said.{Said}
 use Rattle.machine.specs.declared.State.{State}
 use Rattle.machine.specs.declared.Status.{Status}
 use Rattle.machine.specs.declared.Value.{Value}
-
--- ---- history: the states in which a step was tried, in order
-
-unfoldable pub onward : State → Said → (State → List State) → List State
-onward s Said.GoesOn more = more s
-onward s (Said.Ended e) more = []
-onward s Said.Stuck more = []
-
--- under a budget of n, on a run that goes on
-unfoldable pub triedUnder : Program → ℕ → State → List State
-triedUnder P zero s = []
-triedUnder P (suc m) s = let r = stepOf P s in s ∷ onward (r .state) (r .said) (λ t. triedUnder P m t)
-
-unfoldable pub triedIn : Program → State → ℕ → Status → List State
-triedIn P s n Status.Running = triedUnder P n s
-triedIn P s n (Status.Ended e) = []
-
--- by one event: a budget refused by 13, or on an ended run, tries none
-unfoldable pub tried : Program → Event → State → List State
-tried P single s = s ∷ []
-tried P (budget n buffer) s = elim (longEnough buffer) [ true ↦ triedIn P s n (s .status) | false ↦ [] ]
-
-unfoldable pub history : Program → List Event → State → List State
-history P [] s = []
-history P (e ∷ es) s = tried P e s ++ history P es (handle P e s .state)
 
 -- ---- reflective reads and writes
 

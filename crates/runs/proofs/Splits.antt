@@ -18,6 +18,7 @@ use Rattle.machine.specs.declared.Ran.{Ran}
 use Rattle.machine.specs.declared.Said.{Said}
 use Rattle.machine.specs.declared.State.{State}
 use Rattle.machine.specs.declared.Status.{Status}
+use Rattle.runs.specs.Splits.{Joins, BudgetSplits}
 
 -- ---- what a step says of its state
 
@@ -111,12 +112,6 @@ run-counts P (suc m) s k = go (stepOf P s .said) (λ t n. run-counts P m t n)
 
 -- ---- two budgets against one
 
--- the second of two runs ends where the one does, and takes the steps that the first left
-pub record Joins (r1 r2 r : Ran) : Type 0 where
-  pub state : r2 .state ≡ r .state
-  pub steps : r1 .steps + r2 .steps ≡ r .steps
-  pub answer : r1 .answer ≢ Answer.Stuck → r2 .answer ≡ r .answer
-
 -- behind k steps
 joins-more : (k : ℕ) (r1 r2 r : Ran) → Joins r1 r2 r → Joins (more k r1) r2 (more k r)
 joins-more k r1 r2 r j = record { state = j .state; steps = omega (arith, j .steps); answer = j .answer }
@@ -172,9 +167,8 @@ unfolding budgetOf
 budget-long P s n buffer h = rw (h, budgetOf) refl
 
 -- THE LAW: a budget of m and then one of n, and one of m + n
-pub budget-splits : (P : Program) (s : State) (m n : ℕ) (b1 b2 b3 : List ℤ) → longEnough b1 ≡ true → longEnough b2 ≡ true → longEnough b3 ≡ true
-    → Joins (budgetOf P s m b1) (budgetOf P (budgetOf P s m b1 .state) n b2) (budgetOf P s (m + n) b3)
-unfolding budgetIn
+pub budget-splits : BudgetSplits
+unfolding BudgetSplits budgetIn
 budget-splits P s m n b1 b2 b3 h1 h2 h3 = rw (budget-long P s m b1 h1, budget-long P s (m + n) b3 h3, budget-long P (budgetIn P s m (s .status) .state) n b2 h2) (go (s .status) refl)
   where
     go : (st : Status) → s .status ≡ st → Joins (budgetIn P s m st) (further P n (budgetIn P s m st)) (budgetIn P s (m + n) st)

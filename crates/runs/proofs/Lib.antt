@@ -1,0 +1,6 @@
+pub mod Lists
+pub mod Keeps
+pub mod Stops
+pub mod Lives
+pub mod History
+pub mod Splits

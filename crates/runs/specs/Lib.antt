@@ -1,0 +1,2 @@
+pub mod Lives
+pub mod Splits
