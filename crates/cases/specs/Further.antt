@@ -6,7 +6,7 @@ use lib.ListN.{set}
 use Rattle.layout.specs.Kinds as kind
 use Rattle.machine.specs.declared.Answer.{Answer}
 use Rattle.machine.specs.declared.End.{End}
-use Rattle.cases.specs.Table.{Row, row, neg, lentFrom, lent, refused_at_, integer, vector, undef, rec, I, setOn, quotient, endless}
+use Rattle.cases.specs.Table.{Row, row, neg, lentFrom, lent, refused_at_, integer, vector, undef, rec, I, quotient, endless}
 
 -- ---- images
 

@@ -1,9 +1,8 @@
 -- A block, parted at an instruction: what was done before it, what it does, and what is done from there to the end.
 use mathlib.Core.Path.{_≡_, refl, sym, ap, _∙_}
-use mathlib.Core.Logic.{_⊎_}
 use mathlib.Core.List.{List, [], _∷_, _++_}
 use mathlib.Core.Option.{Option, none, some}
-use mathlib.Core.Bool.{true, false, and-true, true≢false}
+use mathlib.Core.Bool.{and-true}
 use Prim.Native.Nat.{ℕ, zero, suc, _+_}
 use native.Mathlib.Numerals.{add-one}
 use native.Mathlib.Omega.{arith}
@@ -13,7 +12,7 @@ use Rattle.program.specs.Program.{Instr, Line, Block, Version, Program}
 use Rattle.rules.specs.Actions.{Action, _then_, ∅, reading, along}
 use Rattle.rules.specs.Walks.{blockAction, acts, before, after}
 use Rattle.rules.proofs.Walked.{walked-at}
-use Rattle.rules.proofs.Follows.{Follows, Parts, then-parts, then-assoc, first-reads, first-assigns, first-empties, first-captures, second-reads, second-assigns, second-empties, second-captures, not-true, has-empty}
+use Rattle.rules.proofs.Follows.{Follows, Parts, then-parts, then-assoc, has-empty}
 
 module _ (act : Instr → Option Action) (result : ℕ) where
   -- the whole is what was done before, then what is done from here on
@@ -110,42 +109,3 @@ met P v b x i l rest h e = record { now = p .first; next = p .second; is-now = p
 pub met-end : (P : Program) (v : Version) (b : ℕ) (x : Block) (i : ℕ) (rest : Action) → getElem? (x .code) i ≡ none → after (acts P v b) (x .result) (drop i (x .code)) ≡ some rest → reading (x .result ∷ []) ≡ some rest
 unfolding after
 met-end P v b x i rest h e = ap (after (acts P v b) (x .result)) (sym (drop-end (x .code) i h)) ∙ e
-
--- ---- what holds at an instruction
-
-module _ {P : Program} {v : Version} {b : ℕ} {x : Block} {c : Action} {i : ℕ} {l : Line} (p : Parted P v b x c i) (m : Meets P v b x i l (p .rest)) (r : ℕ) where
-  -- what it reads is read by the block before it is assigned, or was assigned before it
-  pub reads-known : has (m .now .R) r ≡ true → (has (c .R) r ≡ true) ⊎ (has (p .done .W) r ≡ true)
-  reads-known h = second-reads (p .follows) r (first-reads (m .follows) r h)
-
-  -- what was emptied before it, it does not touch, nor does what is left behind it
-  pub emptied-before : has (p .done .U) r ≡ true → (has (m .now .R) r ≡ false) × (has (m .now .W) r ≡ false) × (has (m .now .U) r ≡ false) × (has (m .now .C) r ≡ false)
-  emptied-before h =
-      let e = p .follows .clear .emptied r h in (
-        not-true _ (λ y. true≢false (sym (first-reads (m .follows) r y) ∙ e .0)),
-        not-true _ (λ y. true≢false (sym (first-assigns (m .follows) r y) ∙ e .1)),
-        not-true _ (λ y. true≢false (sym (first-empties (m .follows) r y) ∙ e .2)),
-        not-true _ (λ y. true≢false (sym (first-captures (m .follows) r y) ∙ e .3)),
-      )
-
-  -- what was captured before it, it does not empty
-  pub captured-before : has (p .done .C) r ≡ true → has (m .now .U) r ≡ false
-  captured-before h = not-true _ (λ y. true≢false (sym (first-empties (m .follows) r y) ∙ p .follows .clear .captured r h))
-
-  -- what it assigns, empties and captures, the block does
-  pub assigned-within : has (m .now .W) r ≡ true → has (c .W) r ≡ true
-  assigned-within h = second-assigns (p .follows) r (first-assigns (m .follows) r h)
-
-  pub emptied-within : has (m .now .U) r ≡ true → has (c .U) r ≡ true
-  emptied-within h = second-empties (p .follows) r (first-empties (m .follows) r h)
-
-  pub captured-within : has (m .now .C) r ≡ true → has (c .C) r ≡ true
-  captured-within h = second-captures (p .follows) r (first-captures (m .follows) r h)
-
-  -- what is read behind it before it is assigned is so read from it on, or it assigns it
-  pub reads-next : has (m .next .R) r ≡ true → (has (p .rest .R) r ≡ true) ⊎ (has (m .now .W) r ≡ true)
-  reads-next h = second-reads (m .follows) r h
-
-  -- what it empties is not read, assigned, emptied or captured behind it
-  pub emptied-now : has (m .now .U) r ≡ true → (has (m .next .R) r ≡ false) × (has (m .next .W) r ≡ false) × (has (m .next .U) r ≡ false) × (has (m .next .C) r ≡ false)
-  emptied-now h = m .follows .clear .emptied r h

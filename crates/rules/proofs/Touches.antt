@@ -13,15 +13,11 @@ use borrow.Author.Tests.{ltb-true, ltb-false}
 use Rattle.layout.specs.Tests.{found}
 use Rattle.sets.specs.Sets.{Set, has, only, those, inhabited, below, _∪_}
 use Rattle.sets.proofs.Members.{has-none}
-use Rattle.layout.specs.declared.Found.{Found}
-use Rattle.layout.specs.declared.Found.the-variants.{Nothing}
-use Rattle.program.specs.Program.{Argument, Line, Block, Version, Program}
-use Rattle.program.specs.Search.{firstLine, firstBlock, first}
-use Rattle.program.proofs.Laid.{passed}
-use Rattle.program.proofs.Lookups.{Each}
+use Rattle.program.specs.Program.{Argument, Version, Program}
+use Rattle.program.specs.Search.{first}
 use Rattle.rules.specs.Types.{isOwned}
 use Rattle.rules.specs.Actions.{Action, _then_, ∅, reading, emptying, assigning, promised, emptied, reads_empties_assigns_, enters_assigns_, actionOf, bodyAction}
-use Rattle.rules.specs.Flows.{flows, question10}
+use Rattle.rules.specs.Flows.{flows}
 use Rattle.rules.proofs.Follows.{Follows, Parts, then-parts, then-follows, or-left, or-right, or-either, has-empty, has-union}
 
 -- ---- registers of a list
@@ -188,25 +184,3 @@ flows-body P v h = go (bodyAction P v) refl h
     go : (o : Option Action) → bodyAction P v ≡ o → found o (λ (a : Action). below (v .parameters) (a .R)) ≡ true → Flowing P v
     go none e f = absurd (false≢true f)
     go (some a) e f = record { body = a; is-body = e; within = below-has (v .parameters) (a .R) f }
-
--- question 10 asks versions alone
-free-lines : (P : Program) (v : Version) (n : ℕ) (ls : List Line) (more : Found) → firstLine (question10 P) v n ls more ≡ more
-unfolding firstLine
-free-lines P v n [] more = refl
-free-lines P v n (l ∷ ls) more = free-lines P v n ls more
-
-free-blocks : (P : Program) (v : Version) (n : ℕ) (bs : List Block) (more : Found) → firstBlock (question10 P) v n bs more ≡ more
-unfolding firstBlock
-free-blocks P v n [] more = refl
-free-blocks P v n (b ∷ bs) more = free-lines P v n (b .code) _ ∙ free-blocks P v (n + 1) bs more
-
-versions-flow : (P vs : Program) → first (question10 P) vs ≡ Nothing → Each (Flowing P) vs
-unfolding first Each
-versions-flow P [] h = tt
-versions-flow P (v ∷ vs) h =
-    let t = passed (flows P v) (firstBlock (question10 P) v 0 (v .blocks) (first (question10 P) vs)) (v .at) h in
-    (flows-body P v (t .0), versions-flow P vs (sym (free-blocks P v 0 (v .blocks) (first (question10 P) vs)) ∙ t .1))
-
--- in a program that passes question 10 flow holds in each version
-pub all-flow : (P : Program) → first (question10 P) P ≡ Nothing → Each (Flowing P) P
-all-flow P h = versions-flow P P h

@@ -1,5 +1,5 @@
 -- Types fit when: question 8.
-use mathlib.Core.List.{List, [], _∷_}
+use mathlib.Core.List.{List}
 use mathlib.Core.Bool.{Bool, cond, not, _||_}
 use Prim.Native.Nat.{ℕ, _+_}
 use lib.ListN.{getD, getElem?}

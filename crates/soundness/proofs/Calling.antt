@@ -1,40 +1,37 @@
 -- CALL and DISPATCH.
-use mathlib.Core.Path.{_≡_, refl, sym, ap, _∙_}
+use mathlib.Core.Path.{_≡_, refl, sym, _∙_}
 use mathlib.Core.Logic.{_⊎_, inl, inr}
 use mathlib.Core.List.{List, [], _∷_, map}
 use mathlib.Core.Option.{Option, none, some, Option·elim}
-use mathlib.Core.Bool.{Bool, true, false, cond, not, _||_, false≢true}
-use Prim.Native.Nat.{ℕ, zero, suc, _+_, _≤_, _<_}
+use mathlib.Core.Bool.{Bool, true, false, cond, not, false≢true}
+use Prim.Native.Nat.{ℕ, zero, suc, _≤_, _<_}
 use native.Mathlib.Omega.{arith}
-use lib.ListN.{length, getElem?, take}
+use lib.ListN.{length, getElem?}
 use lib.Seq.{length-take-le}
-use lib.Dec.{eqb, leb}
+use lib.Dec.{eqb}
 use borrow.Author.Tests.{eqb-true, eqb-false, eq-eqb, leb-true, ltb-true, not-true}
-use Rattle.layout.specs.Bounds.{REGISTERS, VERSIONS}
-use Rattle.layout.specs.Tests.{_and_, all, any as some-of, count, found}
+use Rattle.layout.specs.Bounds.{VERSIONS}
+use Rattle.layout.specs.Tests.{_and_, all, count, found}
 use Rattle.layout.proofs.Fields.{all-map}
 use Rattle.layout.proofs.Bools.{and-both, found-some, found-none}
-use Rattle.sets.specs.Sets.{has, those}
-use Rattle.program.specs.Program.{Argument, Instr, CALL, DISPATCH, Line, Block, Version, Program, findVersion, markOf, parameterTypes, beside, given}
+use Rattle.sets.specs.Sets.{has}
+use Rattle.program.specs.Program.{Argument, Instr, CALL, DISPATCH, Line, Version, Program, findVersion, markOf, parameterTypes, beside, given}
 use Rattle.program.specs.Questions.{registerExists, exists}
 use Rattle.program.proofs.Laid.{instrBounded}
-use Rattle.rules.specs.Types.{kindOf, ownershipOf, isShared, isOwned, isBorrowed, within, parameterType}
+use Rattle.rules.specs.Types.{kindOf, ownershipOf, isShared, isOwned, isBorrowed, within}
 use Rattle.rules.specs.Fits.{typeOf, declaredKind, owned, vector, shared, fresh, plain, fitsArgument, empties as emptying, fitsReturn, fitsCall, fits}
 use Rattle.rules.specs.Effects.{reflective}
 use Rattle.rules.specs.Actions.{touch, reads_empties_assigns_, emptied as freed}
-use Rattle.rules.proofs.Follows.{or-either, or-left, or-right}
+use Rattle.rules.proofs.Follows.{or-either}
 use Rattle.rules.proofs.Touches.{emptied-owned}
 use Rattle.checker.proofs.Accepted.{Checked}
-use Rattle.machine.specs.Try.{Try, got, stop, _>>=_, _>>_, stuckUnless, orStuck, each}
+use Rattle.machine.specs.Try.{got, orStuck, each}
 use Rattle.machine.specs.States as states
 use Rattle.machine.proofs.Matching.{matching-all, matching-at, same-length, same-at, same-freed, same-beside}
-use Rattle.machine.specs.Calls.{matching, sameOwnerships, dispatches, lowest, picked, enter}
+use Rattle.machine.specs.Calls.{matching, sameOwnerships, dispatches, lowest, picked}
 use Rattle.machine.specs.Steps.{execute, registersOf}
 use Rattle.machine.specs.declared.Activation.{Activation}
-use Rattle.machine.specs.declared.Frame.{Frame}
-use Rattle.machine.specs.declared.Promise.{Promise}
 use Rattle.machine.specs.declared.State.{State}
-use Rattle.machine.specs.declared.Value.{Value}
 use Rattle.soundness.proofs.Cells.{frameAt, cellAt}
 use Rattle.soundness.proofs.Invariant.{Sure, versionAt, blockAt, noBlock, isFull, Inv}
 use Rattle.soundness.proofs.Progress.{Good, good, good-then, good-got, good-test}

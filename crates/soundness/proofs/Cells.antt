@@ -1,21 +1,18 @@
 -- The cells of a frame: its registers and, behind them, its names; all that the proof knows of frames.
-use mathlib.Core.Path.{_≡_, refl, sym, ap, _∙_}
+use mathlib.Core.Path.{_≡_, refl, ap, _∙_}
 use mathlib.Core.Logic.{_≢_, _⊎_, inl, inr}
-use mathlib.Core.List.{List, [], _∷_}
-use mathlib.Core.Option.{Option, none, some}
+use mathlib.Core.List.{List}
+use mathlib.Core.Option.{some}
 use mathlib.Core.Bool.{Bool, true, false, cond}
-use Prim.Native.Nat.{ℕ, zero, suc, _+_, _-_, _≤_, _<_}
-use native.Mathlib.Nat.{le-of-suc-le-suc, not-suc-le-zero}
-use native.Mathlib.Decide.{ℕ-discrete, decLt}
+use Prim.Native.Nat.{ℕ, _+_, _-_, _≤_, _<_}
+use native.Mathlib.Decide.{ℕ-discrete}
 use native.Mathlib.Omega.{arith}
 use lib.ListN.{length, getD, getElem?, set, take, length-set, List·getD-eq-default}
 use lib.Seq.{getD-set-same, getD-set-other}
 use lib.Dec.{ltb}
 use borrow.Author.Tests.{lt-ltb, le-ltb, ltb-true, ltb-false}
 use Rattle.layout.specs.Bounds.{REGISTERS, NAMES}
-use Rattle.program.specs.Program.{Version, Program, findVersion}
-use Rattle.rules.specs.Fits.{typeOf}
-use Rattle.machine.specs.Try.{Try, got, stuck, _>>=_, _>>_, stuckUnless, orStuck, at, put}
+use Rattle.machine.specs.Try.{got, _>>=_, _>>_, stuckUnless, orStuck, at, put}
 use Rattle.machine.specs.States.{ACTIVATIONS, place, newFrame, liveFrames, register, named, withStack, withFrame, withRegister, withName, assign, store}
 use Rattle.machine.specs.declared.Frame.{Frame}
 use Rattle.machine.specs.declared.Place.{Place}

@@ -1,33 +1,33 @@
 -- Registers that are emptied: by USE one, by a call those of its owned parameters.
 use mathlib.Core.Path.{_≡_, refl, sym, ap, _∙_}
 use mathlib.Core.Logic.{_≢_, _⊎_, inl, inr}
-use mathlib.Core.List.{List, [], _∷_, map}
-use mathlib.Core.Option.{Option, none, some}
-use mathlib.Core.Bool.{Bool, true, false, cond, _||_, false≢true}
+use mathlib.Core.List.{List, [], _∷_}
+use mathlib.Core.Option.{some}
+use mathlib.Core.Bool.{Bool, true, false, _||_, false≢true}
 use Prim.Native.Nat.{ℕ, zero, suc, _≤_, _<_}
 use native.Mathlib.Decide.{ℕ-discrete}
 use native.Mathlib.Omega.{arith}
-use lib.ListN.{length, getElem?}
+use lib.ListN.{getElem?}
 use lib.Dec.{eqb}
 use borrow.Author.Tests.{eqb-true}
 use Rattle.layout.specs.Bounds.{REGISTERS}
 use Rattle.sets.specs.Sets.{has, those}
-use Rattle.program.specs.Program.{Argument, Version, Program, findVersion, beside}
-use Rattle.rules.specs.Types.{isOwned, isBorrowed}
+use Rattle.program.specs.Program.{Program, beside}
+use Rattle.rules.specs.Types.{isOwned}
 use Rattle.rules.specs.Actions.{emptied as freed}
 use Rattle.rules.proofs.Follows.{or-either, or-left, or-right}
-use Rattle.rules.proofs.Touches.{has-those, those-has}
-use Rattle.machine.specs.Try.{Try, got, _>>=_}
-use Rattle.machine.specs.States.{ACTIVATIONS, withStack, assign}
+use Rattle.rules.proofs.Touches.{has-those}
+use Rattle.machine.specs.Try.{got, _>>=_}
+use Rattle.machine.specs.States.{ACTIVATIONS, withStack}
 use Rattle.machine.specs.Calls.{emptyIf, emptied}
 use Rattle.machine.specs.declared.Frame.{Frame}
 use Rattle.machine.specs.declared.Promise.{Promise}
 use Rattle.machine.specs.declared.State.{State}
 use Rattle.machine.specs.declared.Value.{Value}
-use Rattle.soundness.proofs.Cells.{CELLS, Sized, Apart, frameAt, cellAt, writeAt, wrote, at-same, at-other, at-function, at-version, write-sized, assign-is}
+use Rattle.soundness.proofs.Cells.{Sized, Apart, frameAt, cellAt, writeAt, wrote, at-same, at-other, at-function, at-version, write-sized, assign-is}
 use Rattle.soundness.proofs.Invariant.{versionAt, typeAt, isFull, keep, kept, Fits, Unshared, Heap, Ext, every}
 use Rattle.soundness.proofs.Types.{clash, eqb-same}
-use Rattle.soundness.proofs.Heap.{same-version, same-type, fits-ext, known-ext}
+use Rattle.soundness.proofs.Heap.{same-version, fits-ext, known-ext}
 
 -- is the register in the list?
 unfoldable pub isIn : List ℕ → ℕ → Bool
@@ -48,10 +48,6 @@ at-in-list (u ∷ us) r h = go (or-either (eqb r u) (isIn us r) h) (at-in-list u
     go : (eqb r u ≡ true) ⊎ (isIn us r ≡ true) → (isIn us r ≡ true → (i : ℕ) × (getElem? us i ≡ some r)) → (i : ℕ) × (getElem? (u ∷ us) i ≡ some r)
     go (inl e) ih = (0, ap some (sym (eqb-true r u e)))
     go (inr e) ih = let t = ih e in (suc (t .0), t .1)
-
--- as a set of flow has it
-pub in-those : (us : List ℕ) (r : ℕ) → has (those 16 us) r ≡ true → isIn us r ≡ true
-in-those us r h = let t = those-has 16 us r h in in-at us (t .0) r (t .1)
 
 pub those-in : (us : List ℕ) (r : ℕ) → r < 16 → isIn us r ≡ true → has (those 16 us) r ≡ true
 those-in us r l h = let t = at-in-list us r h in has-those 16 us (t .0) r l (t .1)

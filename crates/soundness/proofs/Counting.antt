@@ -2,19 +2,18 @@
 use mathlib.Core.Path.{_≡_, refl, sym, ap, _∙_}
 use mathlib.Core.Logic.{_⊎_, inl, inr}
 use mathlib.Core.List.{List, [], _∷_, map}
-use mathlib.Core.Option.{Option, none, some}
-use mathlib.Core.Bool.{Bool, true, false, _||_, true≢false, false≢true}
+use mathlib.Core.Option.{some}
+use mathlib.Core.Bool.{Bool, true, false, false≢true}
 use Prim.Native.Nat.{ℕ, zero, suc, _+_, _-_, _≤_, _<_}
 use native.Mathlib.Omega.{arith}
-use lib.ListN.{length, getD, getElem?, take}
-use lib.Dec.{eqb, ltb}
+use lib.ListN.{getD, getElem?, take}
+use lib.Dec.{ltb}
 use borrow.Author.Tests.{eqb-true, lt-ltb, le-ltb, ltb-true, ltb-false}
-use Rattle.layout.specs.Bounds.{REGISTERS, NAMES}
-use Rattle.layout.specs.Tests.{_and_, any, all}
-use Rattle.layout.proofs.Bools.{and-both}
+use Rattle.layout.specs.Bounds.{REGISTERS}
+use Rattle.layout.specs.Tests.{any}
 use Rattle.rules.proofs.Follows.{or-either, or-left, or-right, not-true as not-false}
-use Rattle.machine.specs.Try.{Try, got, stop, _>>=_, each}
-use Rattle.machine.specs.States.{place, VECTORS, PROMISES, liveFrames, isVector, isPromise, refers, held, pending, vectorCounts, promiseCounts, free}
+use Rattle.machine.specs.Try.{Try, got, _>>=_, each}
+use Rattle.machine.specs.States.{place, liveFrames, isVector, isPromise, refers, held, vectorCounts, promiseCounts, free}
 use Rattle.machine.specs.declared.End.{End}
 use Rattle.machine.specs.declared.Frame.{Frame}
 use Rattle.machine.specs.declared.Place.{Place}

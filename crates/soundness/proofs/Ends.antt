@@ -3,29 +3,27 @@ use mathlib.Core.Path.{_≡_, refl, sym, ap, _∙_}
 use mathlib.Core.Logic.{_≢_, _⊎_, inl, inr}
 use mathlib.Core.List.{List, [], _∷_}
 use mathlib.Core.Option.{Option, none, some}
-use mathlib.Core.Bool.{Bool, true, false, cond, not, false≢true}
+use mathlib.Core.Bool.{Bool, true, false, cond, false≢true}
 use Prim.Native.Nat.{ℕ, zero, suc, _+_, _-_, _≤_, _<_}
 use native.Mathlib.Decide.{ℕ-discrete}
 use native.Mathlib.Omega.{arith}
 use lib.IntN.{ℤ}
 use lib.ListN.{length, getD, getElem?, set, length-set}
-use lib.Dec.{eqb, ltb}
-use borrow.Author.Tests.{eqb-true, eqb-false, eq-eqb, lt-ltb, ltb-true, not-true}
+use lib.Dec.{eqb}
+use borrow.Author.Tests.{eqb-true, eqb-false, eq-eqb, lt-ltb}
 use Rattle.layout.specs.Bounds.{REGISTERS}
 use Rattle.layout.specs.Tests.{_and_}
-use Rattle.layout.proofs.Bools.{and-both}
-use Rattle.sets.specs.Sets.{has, those}
-use Rattle.program.specs.Program.{Block, Version, Program}
-use Rattle.program.specs.Questions.{registerExists}
-use Rattle.rules.specs.Types.{kindOf, isShared, isOwned, isBorrowed, within}
-use Rattle.rules.specs.Fits.{typeOf, declaredKind, owned, plain, fresh, fitsReturn}
+use Rattle.sets.specs.Sets.{has}
+use Rattle.program.specs.Program.{Version, Program}
+use Rattle.rules.specs.Types.{kindOf, isOwned, isBorrowed, within}
+use Rattle.rules.specs.Fits.{typeOf, plain, fresh, fitsReturn}
 use Rattle.rules.specs.Actions.{Action, reading}
 use Rattle.rules.proofs.Suffixes.{met-end}
 use Rattle.rules.proofs.Touches.{has-those}
 use Rattle.rules.proofs.Rules.{Yields}
 use Rattle.checker.proofs.Accepted.{Checked}
-use Rattle.machine.specs.Try.{Try, got, stop, _>>=_, _>>_, stuckUnless, at}
-use Rattle.machine.specs.States.{ACTIVATIONS, VECTORS, PROMISES, newVector, anInteger, full, value, withStack, withPromise, withEnd, assign}
+use Rattle.machine.specs.Try.{got, _>>=_, _>>_, at}
+use Rattle.machine.specs.States.{ACTIVATIONS, VECTORS, PROMISES, newVector, anInteger, value, withStack, withPromise, withEnd}
 use Rattle.machine.specs.Calls.{back, closed, done, finish}
 use Rattle.machine.specs.declared.Activation.{Activation}
 use Rattle.machine.specs.declared.Cache.{Cache}
@@ -36,13 +34,13 @@ use Rattle.machine.specs.declared.Promise.{Promise}
 use Rattle.machine.specs.declared.State.{State}
 use Rattle.machine.specs.declared.Status.{Status}
 use Rattle.machine.specs.declared.Value.{Value}
-use Rattle.soundness.proofs.Cells.{CELLS, Apart, frameAt, cellAt, writeAt, wrote, at-in, at-same, assign-is, register-is}
-use Rattle.soundness.proofs.Invariant.{Sure, versionAt, blockAt, promiseAt, typeAt, isFull, kept, Fits, Unshared, Lone, Heap, Ext, every, Pend, top, waits, isPend, Gets, Stands, Opened, below, gives, awaited, Base, Stack, noActivation, stackOf, Inv}
-use Rattle.soundness.proofs.Progress.{Good, good, good-then, good-got, good-test}
-use Rattle.soundness.proofs.Types.{clash, eqb-same, register-type, shared-owned, shared-borrowed, owned-borrowed, owned-owned, owned-kind, plain-shared, plain-kind, fresh-kind, integer-kind, force-kind, force-owned, within-trans, fits-within, fits-down, fits-promise, an-integer}
-use Rattle.soundness.proofs.Heap.{same-version, ext-every, ext-full, heap-write, heap-pop, heap-promises, lone-unless, stack-ext}
+use Rattle.soundness.proofs.Cells.{frameAt, cellAt, writeAt, wrote, at-in, at-same, assign-is, register-is}
+use Rattle.soundness.proofs.Invariant.{Sure, versionAt, blockAt, promiseAt, typeAt, isFull, kept, Fits, Unshared, Lone, Heap, Ext, every, top, waits, isPend, Gets, Stands, Opened, below, gives, awaited, Base, Stack, noActivation, stackOf, Inv}
+use Rattle.soundness.proofs.Progress.{Good, good, good-got, good-test}
+use Rattle.soundness.proofs.Types.{clash, register-type, shared-owned, owned-owned, owned-kind, plain-shared, plain-kind, fresh-kind, integer-kind, force-kind, force-owned, within-trans, fits-within, fits-down, fits-promise, an-integer}
+use Rattle.soundness.proofs.Heap.{ext-every, ext-full, heap-write, heap-pop, heap-promises, lone-unless, stack-ext}
 use Rattle.soundness.proofs.Versions.{return-kind, promise-result, body-result, result-exists, register-in}
-use Rattle.soundness.proofs.Stacks.{opened-live, stack-suc}
+use Rattle.soundness.proofs.Stacks.{opened-live}
 use Rattle.soundness.proofs.KindsOf.{valueKind, kind-got, kind-within, kind-fits, promise-is}
 use Rattle.soundness.proofs.Operands.{full-value}
 use Rattle.soundness.proofs.Plain.{no-vector}

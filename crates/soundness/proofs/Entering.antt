@@ -2,43 +2,42 @@
 use mathlib.Core.Path.{_≡_, refl, sym, ap, _∙_}
 use mathlib.Core.Logic.{_⊎_, inl, inr}
 use mathlib.Core.List.{List, [], _∷_, map}
-use mathlib.Core.Option.{Option, none, some}
+use mathlib.Core.Option.{some}
 use mathlib.Core.Bool.{Bool, true, false, cond}
 use Prim.Native.Nat.{ℕ, zero, suc, _+_, _≤_, _<_}
 use native.Mathlib.Numerals.{add-one}
 use native.Mathlib.Omega.{arith}
-use lib.ListN.{length, getD, getElem?, set, take, length-set}
+use lib.ListN.{length, getD, getElem?, set, length-set}
 use lib.Dec.{eqb, ltb}
 use borrow.Author.Tests.{ltb-true}
 use Rattle.layout.specs.Bounds.{REGISTERS}
 use Rattle.sets.specs.Sets.{has}
-use Rattle.program.specs.Program.{Argument, Line, Version, Program, findVersion, markOf, parameterTypes, beside}
+use Rattle.program.specs.Program.{Line, Version, Program, findVersion, markOf, parameterTypes, beside}
 use Rattle.program.specs.Questions.{registerExists}
 use Rattle.rules.specs.Types.{kindOf, isShared, isOwned, isBorrowed, within}
 use Rattle.rules.specs.Fits.{typeOf, fitsReturn}
 use Rattle.rules.specs.Actions.{emptied as freed}
 use Rattle.rules.proofs.Follows.{or-left, or-right, not-true as not-false}
 use Rattle.checker.proofs.Accepted.{Checked}
-use Rattle.machine.specs.Try.{Try, got, stop, _>>=_, _>>_, endUnless, put}
+use Rattle.machine.specs.Try.{Try, got, _>>=_, _>>_, endUnless}
 use Rattle.machine.specs.States.{ACTIVATIONS, withStack}
-use Rattle.machine.specs.Calls.{opened, emptied, frameFor, enter}
+use Rattle.machine.specs.Calls.{opened, frameFor, enter}
 use Rattle.machine.specs.declared.Activation.{Activation}
 use Rattle.machine.specs.declared.End.{End}
 use Rattle.machine.specs.declared.Frame.{Frame}
 use Rattle.machine.specs.declared.Opener.{Opener}
-use Rattle.machine.specs.declared.Promise.{Promise}
 use Rattle.machine.specs.declared.State.{State}
 use Rattle.machine.specs.declared.Value.{Value}
-use Rattle.soundness.proofs.Cells.{Sized, frameAt, cell, cellAt, put-in, Apart, place?}
+use Rattle.soundness.proofs.Cells.{cell, cellAt, put-in, Apart, place?}
 use Rattle.soundness.proofs.Invariant.{Sure, versionAt, blockAt, cellType, typeAt, isFull, keep, kept, Fits, Unshared, Heap, Ext, every, Pend, top, waits, isPend, Gets, Stands, Opened, below, gives, awaited, Base, Stack, stackOf, Inv}
-use Rattle.soundness.proofs.Progress.{Good, good, good-then, good-got}
-use Rattle.soundness.proofs.Types.{clash, eqb-same, register-type, borrowed-owned}
-use Rattle.soundness.proofs.Heap.{same-version, same-type, ext-less, ext-both, ext-every, fits-ext, stack-ext, ext-push, version-new, cell-new, cell-old, heap-push}
+use Rattle.soundness.proofs.Progress.{Good, good, good-got}
+use Rattle.soundness.proofs.Types.{clash, eqb-same, register-type}
+use Rattle.soundness.proofs.Heap.{same-version, same-type, ext-less, fits-ext, stack-ext, ext-push, version-new, cell-new, heap-push}
 use Rattle.soundness.proofs.Limits.{limited, mark-is}
 use Rattle.soundness.proofs.NewFrames.{frame-function, frame-version, frame-whole, frame-cell, body-stands}
 use Rattle.soundness.proofs.KindsOf.{valueKind, kind-fits}
-use Rattle.soundness.proofs.Clearing.{isIn, Cleared, still, full-still, ext-older, ext-clear, heap-clear, Emptied, emptied-ok}
-use Rattle.soundness.proofs.Standing.{At, moved, live, inside, place-in, type-is, typed, meets, onward, under-le, spare, not-owned}
+use Rattle.soundness.proofs.Clearing.{isIn, Cleared, still, full-still, ext-older, ext-clear, heap-clear, emptied-ok}
+use Rattle.soundness.proofs.Standing.{At, moved, live, place-in, type-is, typed, meets, onward, under-le, spare, not-owned}
 use Rattle.soundness.proofs.Vectors.{sole, under-body}
 use Rattle.soundness.proofs.Promises.{stack-push}
 use Rattle.runs.proofs.Lists.{get-some, get-in, get-take, map-length}

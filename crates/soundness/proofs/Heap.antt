@@ -1,13 +1,13 @@
 -- How the parts of the invariant outlive a change of the frames.
-use mathlib.Core.Path.{_≡_, refl, sym, ap, _∙_}
-use mathlib.Core.Logic.{_≢_, _⊎_, inl, inr}
+use mathlib.Core.Path.{_≡_, refl, sym, _∙_}
+use mathlib.Core.Logic.{_⊎_, inl, inr}
 use mathlib.Core.List.{List, [], _∷_}
 use mathlib.Core.Option.{some}
-use mathlib.Core.Bool.{Bool, true, false, _||_, true≢false, false≢true}
+use mathlib.Core.Bool.{Bool, true, false, _||_}
 use Prim.Native.Nat.{ℕ, suc, _≤_, _<_}
-use native.Mathlib.Decide.{ℕ-discrete, decLt}
+use native.Mathlib.Decide.{decLt}
 use native.Mathlib.Omega.{arith}
-use lib.ListN.{length, set, getD}
+use lib.ListN.{length, set}
 use Rattle.sets.specs.Sets.{has}
 use Rattle.program.specs.Program.{Version, Program, findVersion}
 use Rattle.rules.specs.Types.{isOwned, isBorrowed}
@@ -16,11 +16,10 @@ use Rattle.rules.proofs.Follows.{or-left, or-right}
 use Rattle.machine.specs.States.{ACTIVATIONS, PROMISES}
 use Rattle.machine.specs.declared.Activation.{Activation}
 use Rattle.machine.specs.declared.Frame.{Frame}
-use Rattle.machine.specs.declared.Opener.{Opener}
 use Rattle.machine.specs.declared.Promise.{Promise}
 use Rattle.machine.specs.declared.Value.{Value}
-use Rattle.soundness.proofs.Cells.{CELLS, Sized, Whole, Apart, place?, frameAt, cell, cellAt, writeAt, at-same, at-other, at-function, at-version, write-sized, write-all, set-same, set-other, set-sized}
-use Rattle.soundness.proofs.Invariant.{orNone, versionAt, blockAt, promiseAt, cellType, typeAt, isFull, keep, touches, Alive, kindAt, PromiseFits, Fits, Unshared, Lone, Heap, Ext, every, kept, Pend, top, waits, isPend, Gets, Stands, Opened, below, gives, awaited, Stack}
+use Rattle.soundness.proofs.Cells.{CELLS, Whole, Apart, place?, frameAt, cell, cellAt, writeAt, at-same, at-other, at-function, at-version, write-sized, write-all, set-same, set-other, set-sized}
+use Rattle.soundness.proofs.Invariant.{orNone, versionAt, promiseAt, cellType, typeAt, isFull, touches, Alive, kindAt, PromiseFits, Fits, Unshared, Lone, Heap, Ext, every, kept, Pend, isPend, Stands, below, awaited, Stack}
 use Rattle.soundness.proofs.Types.{clash}
 use Rattle.soundness.proofs.Stacks.{opened-live, below-le}
 
@@ -136,22 +135,6 @@ module _ (P : Program) (fs : List Frame) (n : ℕ) (ps : List Promise) (H : Heap
     functions = λ k′ _. at-function fs (H .sized) k c v inside hc k′;
     versions = λ k′ _. at-version fs (H .sized) k c v inside hc k′;
     grow = λ k′ c′ _ _. write-all fs (H .sized) k c v inside hc (λ k′ c′ x. isFull (cellAt fs k′ c′) ≡ true → isFull x ≡ true) (λ _. f) (λ k′ c′ _ q. q) k′ c′;
-  }
-
-  -- an emptied register that no promise keeps
-  pub ext-empty : keep P (versionAt P fs k) c ≡ false → Ext n (kept P fs) fs (writeAt fs k c Value.Empty)
-  ext-empty f = record {
-    functions = λ k′ _. at-function fs (H .sized) k c Value.Empty inside hc k′;
-    versions = λ k′ _. at-version fs (H .sized) k c Value.Empty inside hc k′;
-    grow = λ k′ c′ _. write-all fs (H .sized) k c Value.Empty inside hc (λ k′ c′ x. kept P fs k′ c′ ≡ true → isFull (cellAt fs k′ c′) ≡ true → isFull x ≡ true) (λ q _. clash q f) (λ k′ c′ _ _ q. q) k′ c′;
-  }
-
-  -- frames below k do not notice
-  pub ext-below : (v : Value) → Ext k every fs (writeAt fs k c v)
-  ext-below v = record {
-    functions = λ k′ _. at-function fs (H .sized) k c v inside hc k′;
-    versions = λ k′ _. at-version fs (H .sized) k c v inside hc k′;
-    grow = λ k′ c′ h _. write-all fs (H .sized) k c v inside hc (λ k′ c′ x. k′ < k → isFull (cellAt fs k′ c′) ≡ true → isFull x ≡ true) (λ q. absurd (omega arith)) (λ k′ c′ _ _ q. q) k′ c′ h;
   }
 
   own-write : (v : Value) → ((k′ : ℕ) → k′ < n → versionAt P (writeAt fs k c v) k′ ≡ versionAt P fs k′) → Lone P fs n k c v → Unshared P (writeAt fs k c v) n

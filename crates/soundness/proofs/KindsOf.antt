@@ -1,21 +1,21 @@
 -- The kind that a step finds of a value.
 use mathlib.Core.Path.{_≡_, refl}
 use mathlib.Core.List.{List, []}
-use mathlib.Core.Option.{Option, some}
+use mathlib.Core.Option.{some}
 use mathlib.Core.Bool.{true, false≢true}
 use Prim.Native.Nat.{ℕ, _<_}
 use native.Mathlib.Omega.{arith}
 use lib.ListN.{length}
-use Rattle.program.specs.Program.{Version, Program, findVersion}
+use Rattle.program.specs.Program.{Program, findVersion}
 use Rattle.rules.specs.Types.{kindOf, within}
-use Rattle.machine.specs.Try.{Try, got, _>>=_, _>>_, orStuck, at}
-use Rattle.machine.specs.States.{VECTORS, newVector, liveFrames, kindIn}
+use Rattle.machine.specs.Try.{got, _>>=_, _>>_, orStuck, at}
+use Rattle.machine.specs.States.{VECTORS, newVector, kindIn}
 use Rattle.machine.specs.declared.Frame.{Frame}
 use Rattle.machine.specs.declared.Promise.{Promise}
 use Rattle.machine.specs.declared.State.{State}
 use Rattle.machine.specs.declared.Value.{Value}
 use Rattle.soundness.proofs.Cells.{frameAt, at-in, at-some, frame-is}
-use Rattle.soundness.proofs.Invariant.{versionAt, blockAt, promiseAt, noPromise, isFull, kindAt, Fits, Heap}
+use Rattle.soundness.proofs.Invariant.{versionAt, promiseAt, noPromise, isFull, kindAt, Fits, Heap}
 
 unfoldable pub valueKind : Program → List Frame → List Promise → Value → ℕ
 valueKind P fs ps Value.Empty = 0

@@ -2,18 +2,16 @@
 use mathlib.Core.Path.{_≡_, refl, sym, ap, _∙_}
 use mathlib.Core.List.{List, [], _∷_, map}
 use mathlib.Core.Logic.{inr}
-use mathlib.Core.Option.{some}
-use mathlib.Core.Bool.{Bool, true, false, cond}
+use mathlib.Core.Bool.{Bool, true, false}
 use Prim.Native.Nat.{ℕ, zero, suc, _-_, _≤_, _<_}
 use native.Mathlib.Nat.{le-of-suc-le-suc, not-suc-le-zero}
 use native.Mathlib.Omega.{arith}
 use lib.ListN.{length, getD, replicate, length-replicate, List·getD-eq-default}
-use lib.Dec.{ltb, eqb}
-use borrow.Author.Tests.{ltb-false, eqb-true}
+use lib.Dec.{ltb}
+use borrow.Author.Tests.{ltb-false}
 use Rattle.layout.specs.Bounds.{REGISTERS, NAMES}
 use Rattle.layout.specs.Tests.{_and_}
-use Rattle.layout.proofs.Bools.{and-both}
-use Rattle.program.specs.Program.{Version, Program, findVersion}
+use Rattle.program.specs.Program.{Version, Program}
 use Rattle.rules.proofs.Suffixes.{Does, Begun, begun}
 use Rattle.rules.proofs.Touches.{Flowing, flows-body}
 use Rattle.checker.proofs.Accepted.{Checked}

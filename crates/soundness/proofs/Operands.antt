@@ -1,38 +1,36 @@
 -- The operands of an instruction, as the step takes them.
 use mathlib.Core.Path.{_≡_, refl, sym, ap, _∙_}
-use mathlib.Core.Logic.{_⊎_, inl, inr}
+use mathlib.Core.Logic.{inl}
 use mathlib.Core.List.{List, [], _∷_}
-use mathlib.Core.Option.{Option, none, some}
-use mathlib.Core.Bool.{Bool, true, false, false≢true}
-use Prim.Native.Nat.{ℕ, zero, suc, _+_, _<_}
+use mathlib.Core.Option.{none, some}
+use mathlib.Core.Bool.{true, false, false≢true}
+use Prim.Native.Nat.{ℕ, zero, suc, _<_}
 use native.Mathlib.Omega.{arith}
 use lib.IntN.{ℤ}
-use lib.ListN.{length, getElem?}
-use lib.Dec.{eqb}
-use Rattle.layout.specs.Bounds.{REGISTERS, NAMES}
-use Rattle.layout.specs.Tests.{_and_, all}
+use lib.ListN.{getElem?}
+use Rattle.layout.specs.Bounds.{REGISTERS}
+use Rattle.layout.specs.Tests.{_and_}
 use Rattle.layout.proofs.Bools.{and-both}
 use Rattle.sets.specs.Sets.{has, those}
-use Rattle.program.specs.Program.{Instr, Line, Version, Program}
+use Rattle.program.specs.Program.{Instr, Line, Program}
 use Rattle.program.specs.Questions.{registerExists, exists}
 use Rattle.program.proofs.Laid.{instrBounded}
-use Rattle.rules.specs.Types.{kindOf, isShared, isOwned}
+use Rattle.rules.specs.Types.{kindOf}
 use Rattle.rules.specs.Fits.{typeOf, integer, vector, promise, value, fits}
 use Rattle.rules.specs.Effects.{reflective}
 use Rattle.rules.specs.Actions.{reads_empties_assigns_, touch, actionOf}
 use Rattle.rules.specs.Walks.{entered}
 use Rattle.rules.proofs.Touches.{Touched, touched-by, has-those, those-has}
-use Rattle.machine.specs.Try.{Try, got, stuck, _>>=_, each}
+use Rattle.machine.specs.Try.{got, _>>=_}
 use Rattle.machine.specs.States.{VECTORS, PROMISES, anInteger, aVector, aPromise, full, noPromise}
 use Rattle.machine.specs.States as states
 use Rattle.machine.specs.declared.Activation.{Activation}
-use Rattle.machine.specs.declared.Frame.{Frame}
 use Rattle.machine.specs.declared.State.{State}
 use Rattle.machine.specs.declared.Value.{Value}
 use Rattle.soundness.proofs.Cells.{frameAt, cellAt}
-use Rattle.soundness.proofs.Invariant.{Sure, versionAt, blockAt, promiseAt, isFull, typeAt, Fits, PromiseFits}
+use Rattle.soundness.proofs.Invariant.{Sure, versionAt, blockAt, promiseAt, isFull, Fits, PromiseFits}
 use Rattle.soundness.proofs.Types.{name-kind, integer-kind, vector-kind, promise-kind, fits-within, fits-promise, an-integer, a-vector, a-promise}
-use Rattle.soundness.proofs.Standing.{At, live, exist, fit, bounded, marked, meets, operand, typed, register-got, place-in}
+use Rattle.soundness.proofs.Standing.{At, exist, fit, bounded, marked, meets, operand, typed, register-got, place-in}
 
 -- a register of a list of one
 pub only-one : (d r : ℕ) → has (those 16 (d ∷ [])) r ≡ true → r ≡ d
@@ -85,9 +83,6 @@ module _ (P : Program) (sure : Sure P) (s : State) (a : Activation) (rest : List
 
     pub assigned-in : (r : ℕ) → has (meets P sure s a rest l W .now .W) r ≡ true → has (those 16 ds) r ≡ true
     assigned-in r h = sym (touched rs us ds e .is-W r) ∙ h
-
-    pub emptied-in : (r : ℕ) → has (meets P sure s a rest l W .now .U) r ≡ true → has (those 16 us) r ≡ true
-    emptied-in r h = sym (touched rs us ds e .is-U r) ∙ h
 
   -- ---- an operand by its declared kind
 

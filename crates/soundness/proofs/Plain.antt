@@ -1,45 +1,40 @@
 -- Instructions that put one value into one cell.
-use mathlib.Core.Path.{_≡_, refl, sym, _∙_}
-use mathlib.Core.Logic.{_⊎_, inl, inr}
+use mathlib.Core.Path.{_≡_, refl}
 use mathlib.Core.List.{List, [], _∷_}
-use mathlib.Core.Option.{some}
-use mathlib.Core.Bool.{Bool, true, false, cond, false≢true}
-use Prim.Native.Nat.{ℕ, zero, suc, _+_, _<_}
+use mathlib.Core.Bool.{true}
+use Prim.Native.Nat.{ℕ, zero, suc, _<_}
 use native.Mathlib.Omega.{arith}
 use lib.IntN.{ℤ, pos, negsuc}
-use lib.ListN.{length, getD, getElem?}
-use lib.Dec.{eqb, ltb}
-use borrow.Author.Tests.{ltb-true, ne-eqb}
-use Rattle.layout.specs.Bounds.{REGISTERS, NAMES, OPERATIONS}
+use lib.ListN.{getD}
+use lib.Dec.{ltb}
+use borrow.Author.Tests.{ltb-true}
+use Rattle.layout.specs.Bounds.{OPERATIONS}
 use Rattle.layout.specs.Tests.{_and_}
 use Rattle.layout.specs.Records.{choose}
 use Rattle.layout.proofs.Bools.{and-both}
-use Rattle.layout.proofs.Rows.{Rows, choose-each}
-use Rattle.program.specs.Program.{Instr, LIT, MOVE, USE, DUP, VEC, LEN, GET, SET, ARITH, SELECT, CAST, NAMED, STORE, PROM, FORCE, PEEK, POKE, CALL, DISPATCH, Line, Version, Program}
-use Rattle.program.specs.Questions.{registerExists, nameExists, exists}
+use Rattle.program.specs.Program.{Instr, LIT, MOVE, LEN, GET, ARITH, SELECT, CAST, Line, Version, Program}
+use Rattle.program.specs.Questions.{registerExists, exists}
 use Rattle.program.proofs.Laid.{instrBounded}
-use Rattle.rules.specs.Types.{kindOf, isShared, within}
-use Rattle.rules.specs.Fits.{typeOf, declaredKind, shared, integer, vector, promise, value, plain, fits}
+use Rattle.rules.specs.Types.{isShared}
+use Rattle.rules.specs.Fits.{typeOf, plain, fits}
 use Rattle.rules.specs.Actions.{touch, reads_empties_assigns_}
 use Rattle.rules.proofs.Rules.{move-shared}
-use Rattle.machine.specs.Try.{Try, got, stuck, stop, _>>=_, _>>_, endUnless, at}
-use Rattle.machine.specs.Values.{ranged, isZero, divided, arith as arithmetic, index}
-use Rattle.machine.specs.States.{VECTORS, newVector, itemsOf, kindIn, name, named, isSet, assign, store}
+use Rattle.machine.specs.Try.{got, at}
+use Rattle.machine.specs.Values.{ranged, divided, arith as arithmetic, index}
+use Rattle.machine.specs.States.{VECTORS, newVector, assign}
 use Rattle.machine.specs.Steps.{execute}
 use Rattle.machine.specs.declared.Activation.{Activation}
-use Rattle.machine.specs.declared.Frame.{Frame}
-use Rattle.machine.specs.declared.Promise.{Promise}
 use Rattle.machine.specs.declared.State.{State}
 use Rattle.machine.specs.declared.Value.{Value}
 use Rattle.machine.specs.declared.Vector.{Vector}
-use Rattle.soundness.proofs.Cells.{CELLS, frameAt, cellAt, wrote, at-in, at-some, frame-is, store-is, named-is}
-use Rattle.soundness.proofs.Invariant.{Sure, versionAt, typeAt, promiseAt, isFull, Fits, PromiseFits, Lone, Inv}
-use Rattle.soundness.proofs.Progress.{Good, good, good-then, good-got, good-end, good-test}
-use Rattle.soundness.proofs.Types.{register-type, name-type, name-shared, name-kind, plain-shared, plain-kind, fits-within, fits-promise, fits-down}
+use Rattle.soundness.proofs.Cells.{frameAt, cellAt, at-in}
+use Rattle.soundness.proofs.Invariant.{Sure, versionAt, typeAt, isFull, Fits, Inv}
+use Rattle.soundness.proofs.Progress.{Good, good, good-then, good-got, good-end}
+use Rattle.soundness.proofs.Types.{plain-kind, fits-within}
 use Rattle.soundness.proofs.Heap.{lone-unless}
-use Rattle.soundness.proofs.KindsOf.{valueKind, kind-got, kind-fits, promise-is}
-use Rattle.soundness.proofs.Standing.{At, live, inside, place-in, type-is, typed, writes-register, writes-cell, shared-lone}
-use Rattle.soundness.proofs.Operands.{only-one, only-none, fits-i, exists-i, bounded-i, touched, full-at, assigned-in, integer-got, vector-got, promise-got, value-got, fits-value, plain-got}
+use Rattle.soundness.proofs.KindsOf.{kind-got, kind-fits}
+use Rattle.soundness.proofs.Standing.{At, live, place-in, type-is, typed, writes-register, shared-lone}
+use Rattle.soundness.proofs.Operands.{only-one, fits-i, exists-i, bounded-i, full-at, assigned-in, integer-got, vector-got, value-got}
 
 -- ---- integers
 
@@ -104,12 +99,12 @@ module _ (P : Program) (sure : Sure P) (s : State) (a : Activation) (rest : List
   unfolding execute fits exists touch
   move d r is =
       let x = and-both _ _ (exists-i P sure s a rest l W _ is) in
-      let t = and-both _ _ (fits-i P sure s a rest l W _ is) in
+      let t = move-shared P X (a .block) d r (fits-i P sure s a rest l W _ is) in
       let fr = full-at P sure s a rest l W _ is (r ∷ []) [] (d ∷ []) refl 0 r refl (x .1) in
       let hr = place-in P sure s a rest l W r (x .1) in
       good-got (Inv P) _ (cellAt (s .frames) (a .frame) r) _ (value-got P sure s a rest l W _ is r (x .1) fr)
-      (gives-shared (MOVE d r) is (r ∷ []) d refl (x .0) (a .frame) r (live P sure s a rest l W) (rw (type-is P sure s a rest l W r hr) (t .0)) (plain-shared X d _ (t .1)) fr
-      (fits-within P (s .frames) (s .promises) (a .frame) _ _ (plain-kind X d _ (t .1)) _ (typed P sure s a rest l W r hr)))
+      (gives-shared (MOVE d r) is (r ∷ []) d refl (x .0) (a .frame) r (live P sure s a rest l W) (rw (type-is P sure s a rest l W r hr) (t .from)) (t .to) fr
+      (fits-within P (s .frames) (s .promises) (a .frame) _ _ (t .kind) _ (typed P sure s a rest l W r hr)))
 
   -- the vector that an operand refers to
   pub vector-at : (v : ℕ) → v < VECTORS → (w : Vector) × (at (s .vectors) v ≡ got w)

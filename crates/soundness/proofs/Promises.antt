@@ -2,51 +2,46 @@
 use mathlib.Core.Path.{_≡_, refl, sym, ap, _∙_}
 use mathlib.Core.Logic.{_≢_, _⊎_, inl, inr}
 use mathlib.Core.List.{List, [], _∷_}
-use mathlib.Core.Option.{Option, none, some}
-use mathlib.Core.Bool.{Bool, true, false, cond, not, _||_}
-use Prim.Native.Nat.{ℕ, zero, suc, _+_, _≤_, _<_}
-use native.Mathlib.Decide.{ℕ-discrete}
+use mathlib.Core.Option.{some}
+use mathlib.Core.Bool.{true, false}
+use Prim.Native.Nat.{ℕ, _+_, _≤_, _<_}
 use native.Mathlib.Omega.{arith}
 use native.Mathlib.Numerals.{add-one}
-use lib.ListN.{length, getD, getElem?, set, length-set}
+use lib.ListN.{length, getElem?, set, length-set}
 use lib.Seq.{getD-set-same, getD-set-other}
-use lib.Dec.{eqb, ltb}
-use borrow.Author.Tests.{eqb-true, ltb-true, eq-eqb, lt-ltb}
-use Rattle.layout.specs.Bounds.{REGISTERS}
-use Rattle.layout.specs.Tests.{_and_, found}
+use borrow.Author.Tests.{ltb-true, lt-ltb}
+use Rattle.layout.specs.Tests.{_and_}
 use Rattle.layout.proofs.Bools.{and-both, found-some}
-use Rattle.sets.specs.Sets.{has, those}
 use Rattle.program.specs.Program.{Instr, PROM, FORCE, Line, Block, Version, Program}
 use Rattle.program.specs.Questions.{registerExists, exists}
-use Rattle.rules.specs.Types.{kindOf, isOwned, within}
-use Rattle.rules.specs.Fits.{typeOf, declaredKind, promise, plain, promiseKind, fitsReturn, fits}
+use Rattle.rules.specs.Types.{kindOf, within}
+use Rattle.rules.specs.Fits.{typeOf, plain, promiseKind, fitsReturn, fits}
 use Rattle.rules.specs.Effects.{reflective}
-use Rattle.rules.specs.Actions.{Action, touch, actionOf}
+use Rattle.rules.specs.Actions.{touch, actionOf}
 use Rattle.rules.specs.Walks.{entered, blockAction}
-use Rattle.rules.proofs.Suffixes.{Does, Begun, begun}
+use Rattle.rules.proofs.Suffixes.{Begun, begun}
 use Rattle.rules.proofs.Touches.{Promises, promises-by}
 use Rattle.rules.proofs.Rules.{force-marked}
-use Rattle.machine.specs.Try.{Try, got, _>>=_, _>>_, endUnless, at}
-use Rattle.machine.specs.States.{ACTIVATIONS, PROMISES, promiseCounts, freePromise, pending, withPromise, withStack, assign}
+use Rattle.machine.specs.Try.{at}
+use Rattle.machine.specs.States.{ACTIVATIONS, PROMISES, promiseCounts, freePromise, withPromise, withStack, assign}
 use Rattle.machine.specs.Calls.{opened, force}
 use Rattle.machine.specs.Steps.{execute}
 use Rattle.machine.specs.declared.Activation.{Activation}
 use Rattle.machine.specs.declared.Cache.{Cache}
-use Rattle.machine.specs.declared.End.{End}
 use Rattle.machine.specs.declared.Frame.{Frame}
 use Rattle.machine.specs.declared.Opener.{Opener}
 use Rattle.machine.specs.declared.Promise.{Promise}
 use Rattle.machine.specs.declared.State.{State}
 use Rattle.machine.specs.declared.Value.{Value}
-use Rattle.soundness.proofs.Cells.{frameAt, cellAt, at-some}
-use Rattle.soundness.proofs.Invariant.{Sure, versionAt, blockAt, noBlock, promiseAt, noPromise, typeAt, isFull, keep, touches, Alive, kindAt, PromiseFits, Fits, Lone, Heap, Ext, every, Pend, top, waits, isPend, Gets, Stands, Opened, below, gives, awaited, Stack, stackOf, Inv}
+use Rattle.soundness.proofs.Cells.{at-some}
+use Rattle.soundness.proofs.Invariant.{Sure, versionAt, blockAt, noBlock, promiseAt, noPromise, isFull, touches, Alive, kindAt, PromiseFits, Fits, top, waits, isPend, Gets, Stands, Opened, below, gives, awaited, Stack, stackOf, Inv}
 use Rattle.soundness.proofs.Progress.{Good, good, good-then, good-got, good-next, good-end}
-use Rattle.soundness.proofs.Types.{In, itself, any, value, promise as quiet-promise, within-in, promise-kind, plain-kind, force-kind, force-owned, eqb-same}
-use Rattle.soundness.proofs.Heap.{heap-promises, lone-unless, ext-same, touches-captured}
+use Rattle.soundness.proofs.Types.{In, itself, any, value, promise as quiet-promise, within-in, plain-kind, force-kind, force-owned, eqb-same}
+use Rattle.soundness.proofs.Heap.{heap-promises, lone-unless, touches-captured}
 use Rattle.soundness.proofs.Stacks.{stack-top}
 use Rattle.soundness.proofs.Counting.{promise-free, free-ok}
 use Rattle.soundness.proofs.KindsOf.{promise-is}
-use Rattle.soundness.proofs.Standing.{At, moved, live, checked-version, there, place-in, meets, operand, kept-now, onward, writes-register}
+use Rattle.soundness.proofs.Standing.{At, live, there, meets, operand, kept-now, onward, writes-register}
 use Rattle.soundness.proofs.Operands.{only-one, fits-i, exists-i, marked-i, full-at, assigned-in, promise-got}
 use Rattle.soundness.proofs.Plain.{Stepped, gives-integer}
 use Rattle.runs.proofs.Lists.{get-some}

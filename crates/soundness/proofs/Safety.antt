@@ -1,31 +1,30 @@
 -- One step of a running state keeps the invariant and is not stuck; so the demands hold.
-use mathlib.Core.Path.{_≡_, refl, sym, ap, _∙_}
-use mathlib.Core.List.{List, _∷_}
+use mathlib.Core.Path.{_≡_, refl, _∙_}
+use mathlib.Core.List.{List}
 use mathlib.Core.Option.{some}
-use Prim.Native.Nat.{ℕ, suc, _+_, _-_, zero}
+use Prim.Native.Nat.{ℕ, suc, _-_, zero}
 use native.Mathlib.Omega.{arith}
-use lib.ListN.{length, getD, getElem?, set, length-set}
+use lib.ListN.{getElem?, length-set}
 use Rattle.program.specs.Program.{Instr, LIT, MOVE, USE, DUP, VEC, LEN, GET, SET, ARITH, SELECT, CAST, NAMED, STORE, PROM, FORCE, PEEK, POKE, CALL, DISPATCH, Line, Program}
 use Rattle.machine.specs.States.{withStack}
 use Rattle.machine.specs.Calls.{passed}
-use Rattle.machine.specs.Steps.{Position, instruction, blockEnd, outside, execute, position, positionOf, proceed, advance}
+use Rattle.machine.specs.Steps.{position, proceed}
 use Rattle.machine.specs.declared.Activation.{Activation}
 use Rattle.machine.specs.declared.State.{State}
 use Rattle.machine.specs.declared.Status.{Status}
 use Rattle.soundness.specs.Claim.{Demand3}
 use Rattle.soundness.specs.Results.{Results}
-use Rattle.soundness.proofs.Cells.{frameAt}
-use Rattle.soundness.proofs.Invariant.{Sure, versionAt, blockAt, noActivation, stackOf, Inv, Opened, below, awaited, Base, Stack, top}
+use Rattle.soundness.proofs.Invariant.{Sure, versionAt, blockAt, stackOf, Inv, Opened, below, awaited, Base, Stack, top}
 use Rattle.soundness.proofs.Progress.{Good}
 use Rattle.soundness.proofs.Stacks.{topOf, hereOf, has-top, at-top, advance-is, position-is, stack-top, Standing, at-line, at-end, standing}
-use Rattle.soundness.proofs.Standing.{At, moved}
+use Rattle.soundness.proofs.Standing.{At}
 use Rattle.soundness.proofs.Plain.{Stepped, lit, move, len, get, arith-step, select, cast}
 use Rattle.soundness.proofs.Variables.{named-step, store-step, peek, poke}
 use Rattle.soundness.proofs.Vectors.{dup, vec, set-step}
 use Rattle.soundness.proofs.Uses.{use-step}
 use Rattle.soundness.proofs.Promises.{prom, force-step}
 use Rattle.soundness.proofs.Calling.{call-step, dispatch-step}
-use Rattle.soundness.proofs.Ends.{AtEnd, end-ok}
+use Rattle.soundness.proofs.Ends.{end-ok}
 use Rattle.soundness.proofs.Closing.{StepSafe, history-all}
 use Rattle.soundness.proofs.Demand.{demand3-from, started}
 use Rattle.soundness.proofs.Results.{results-from}

@@ -35,11 +35,6 @@ pub stack-top : (l : List Activation) (h : ℕ) (a : Activation) → h < length 
 unfolding stackOf
 stack-top l h a e = rw (getD-set-same l h a noActivation e, stack-set l h h a (omega arith)) refl
 
--- the stack of one more
-pub stack-suc : (l : List Activation) (h : ℕ) → stackOf l (suc h) ≡ getD l h noActivation ∷ stackOf l h
-unfolding stackOf
-stack-suc l h = refl
-
 -- an activation works in a live frame
 pub opened-live : (n f b : ℕ) (o : Opener) → Opened n f b o → f < n
 unfolding Opened

@@ -1,38 +1,32 @@
 -- The newest activation at an instruction: what it has in hand, and how it goes past it.
-use mathlib.Core.Path.{_≡_, refl, sym, ap, _∙_}
+use mathlib.Core.Path.{_≡_, refl, sym, _∙_}
 use mathlib.Core.Logic.{_⊎_, inl, inr}
-use mathlib.Core.List.{List, [], _∷_}
-use mathlib.Core.Option.{Option, none, some}
-use mathlib.Core.Bool.{Bool, true, false, _||_, not, false≢true}
-use Prim.Native.Nat.{ℕ, suc, _+_, _≤_, _<_}
+use mathlib.Core.List.{List, _∷_}
+use mathlib.Core.Option.{some}
+use mathlib.Core.Bool.{true, false, false≢true}
+use Prim.Native.Nat.{ℕ, _+_, _≤_, _<_}
 use native.Mathlib.Omega.{arith}
 use lib.ListN.{length, getElem?}
-use lib.Dec.{eqb, ltb}
-use borrow.Author.Tests.{eqb-true, ltb-true}
 use Rattle.layout.specs.Bounds.{REGISTERS}
-use Rattle.layout.specs.Tests.{any}
-use Rattle.layout.proofs.Bools.{and-both}
 use Rattle.sets.specs.Sets.{has}
-use Rattle.program.specs.Program.{Line, Block, Version, Program}
+use Rattle.program.specs.Program.{Line, Program}
 use Rattle.program.specs.Questions.{registerExists, exists}
-use Rattle.program.proofs.Laid.{versionBounded, instrBounded}
+use Rattle.program.proofs.Laid.{instrBounded}
 use Rattle.rules.specs.Types.{isShared, isOwned, isBorrowed}
 use Rattle.rules.specs.Fits.{typeOf, fits}
-use Rattle.rules.specs.Effects.{reflective, covered}
+use Rattle.rules.specs.Effects.{reflective}
 use Rattle.rules.specs.Actions.{Action}
 use Rattle.rules.proofs.Follows.{Follows, second-reads, first-reads, first-captures, second-captures, first-empties, second-empties, not-true as not-false}
-use Rattle.rules.proofs.Suffixes.{Does, Meets, met, Parted, parted}
+use Rattle.rules.proofs.Suffixes.{Meets, met, Parted, parted}
 use Rattle.checker.proofs.Accepted.{Checked}
-use Rattle.machine.specs.Try.{Try, got}
-use Rattle.machine.specs.States.{ACTIVATIONS, VECTORS, withStack, assign, store, register}
+use Rattle.machine.specs.Try.{got}
+use Rattle.machine.specs.States.{ACTIVATIONS, VECTORS, withStack, assign, register}
 use Rattle.machine.specs.declared.Activation.{Activation}
 use Rattle.machine.specs.declared.Frame.{Frame}
-use Rattle.machine.specs.declared.Opener.{Opener}
-use Rattle.machine.specs.declared.Promise.{Promise}
 use Rattle.machine.specs.declared.State.{State}
 use Rattle.machine.specs.declared.Value.{Value}
-use Rattle.soundness.proofs.Cells.{CELLS, Apart, frameAt, cellAt, writeAt, wrote, at-same, assign-is, store-is, register-is}
-use Rattle.soundness.proofs.Invariant.{Sure, versionAt, blockAt, typeAt, cellType, isFull, keep, kept, Fits, Unshared, Lone, Heap, Ext, every, Pend, top, waits, isPend, Gets, Stands, Opened, below, awaited, Stack, stackOf, Inv}
+use Rattle.soundness.proofs.Cells.{CELLS, frameAt, cellAt, writeAt, wrote, at-same, assign-is, register-is}
+use Rattle.soundness.proofs.Invariant.{Sure, versionAt, blockAt, typeAt, isFull, keep, kept, Fits, Unshared, Lone, Heap, Ext, every, Pend, top, isPend, Gets, Stands, Opened, below, awaited, Stack, stackOf, Inv}
 use Rattle.soundness.proofs.Progress.{Good, good}
 use Rattle.soundness.proofs.Types.{clash, register-type, shared-owned, shared-borrowed}
 use Rattle.soundness.proofs.Versions.{register-in, covers, spares}
@@ -63,13 +57,6 @@ unfolding withStack
 inv-of P s fs n l v r d e h k = record { heap = h; vectors = v; room = r; deep = d; stack = λ _. rw e k }
 
 module _ (P : Program) (sure : Sure P) (s : State) (a : Activation) (rest : List Activation) (l : Line) (W : At P s a rest l) where
-  -- its version and its block
-  pub own-version : Version
-  own-version = versionAt P (s .frames) (a .frame)
-
-  pub own-block : Block
-  own-block = blockAt (versionAt P (s .frames) (a .frame)) (a .block)
-
   pub live : a .frame < s .calls
   live = opened-live (s .calls) (a .frame) (a .block) (a .opener) (W .opened)
 

@@ -2,19 +2,19 @@
 use mathlib.Core.Path.{_≡_, refl, sym, _∙_}
 use mathlib.Core.Logic.{_⊎_, inl, inr}
 use mathlib.Core.List.{List}
-use mathlib.Core.Bool.{Bool, true, false, cond, _&&_, _||_, not, true≢false, false≢true}
+use mathlib.Core.Bool.{Bool, true, false, _&&_, _||_, true≢false, false≢true}
 use Prim.Native.Nat.{ℕ, _+_, _<_}
 use native.Mathlib.Omega.{arith}
 use lib.IntN.{ℤ}
-use lib.Dec.{eqb, ltb}
+use lib.Dec.{eqb}
 use borrow.Author.Tests.{eqb-true, eq-eqb, lt-ltb, le-ltb}
 use Rattle.layout.specs.Bounds.{REGISTERS}
 use Rattle.layout.specs.Tests.{_and_}
 use Rattle.layout.proofs.Bools.{and-both}
 use Rattle.program.specs.Program.{Version, Program}
 use Rattle.rules.specs.Types.{kindOf, ownershipOf, isShared, isOwned, isBorrowed, isInteger, isVector, isPromise, within}
-use Rattle.rules.specs.Fits.{typeOf, promiseKind, owned, plain, fresh, fitsReturn}
-use Rattle.rules.proofs.Follows.{or-either, or-left, or-right}
+use Rattle.rules.specs.Fits.{typeOf, promiseKind, owned, plain, fresh}
+use Rattle.rules.proofs.Follows.{or-either}
 use Rattle.machine.specs.States.{VECTORS, PROMISES}
 use Rattle.machine.specs.declared.Frame.{Frame}
 use Rattle.machine.specs.declared.Promise.{Promise}
@@ -99,14 +99,6 @@ within-trans a b c p q = second (within-in a b p) (within-in b c q)
         third (value e i) = absurd (omega arith)
         third (promise e i) = absurd (omega arith)
 
--- a promise's kind is within 0, 4 and 5 alone
-pub promise-in : (m b : ℕ) → In (promiseKind m) b → (b ≡ 0) ⊎ ((b ≡ 4) × (m ≡ 0)) ⊎ (b ≡ 5) ⊎ (b ≡ promiseKind m)
-promise-in m b (itself e) = inr (inr (inr (sym e)))
-promise-in m b (any e) = inl e
-promise-in m b (value (inl e) g) = absurd (omega arith)
-promise-in m b (value (inr e) g) = absurd (omega arith)
-promise-in m b (promise e g) = inr (inr (inl g))
-
 -- no promise is within value, integer or vector
 pub no-promise : (m b : ℕ) → (b ≡ 1) ⊎ (b ≡ 2) ⊎ (b ≡ 3) → within (promiseKind m) b ≡ true → ⊥
 no-promise m b h p = go h (within-in (promiseKind m) b p)
@@ -175,14 +167,6 @@ shared-owned t h = differ (ownershipOf t) 0 1 (λ e. omega arith) h
 pub shared-borrowed : (t : ℕ) → isShared t ≡ true → isBorrowed t ≡ false
 unfolding isShared isBorrowed
 shared-borrowed t h = differ (ownershipOf t) 0 2 (λ e. omega arith) h
-
-pub owned-borrowed : (t : ℕ) → isOwned t ≡ true → isBorrowed t ≡ false
-unfolding isOwned isBorrowed
-owned-borrowed t h = differ (ownershipOf t) 1 2 (λ e. omega arith) h
-
-pub borrowed-owned : (t : ℕ) → isBorrowed t ≡ true → isOwned t ≡ false
-unfolding isOwned isBorrowed
-borrowed-owned t h = differ (ownershipOf t) 2 1 (λ e. omega arith) h
 
 -- ---- cells
 

@@ -1,32 +1,29 @@
 -- USE: the same vector, its old register emptied.
-use mathlib.Core.Path.{_≡_, refl, sym, ap, _∙_}
-use mathlib.Core.Logic.{_⊎_, inl, inr}
+use mathlib.Core.Path.{_≡_, refl, sym, _∙_}
+use mathlib.Core.Logic.{inr}
 use mathlib.Core.List.{List, [], _∷_}
-use mathlib.Core.Bool.{Bool, true, false}
+use mathlib.Core.Bool.{true, false}
 use Prim.Native.Nat.{ℕ, zero, suc, _<_}
 use lib.ListN.{getElem?}
 use mathlib.Core.Option.{some}
 use native.Mathlib.Omega.{arith}
-use borrow.Author.Tests.{eqb-true}
 use Rattle.layout.specs.Bounds.{REGISTERS}
 use Rattle.layout.specs.Tests.{_and_}
 use Rattle.layout.proofs.Bools.{and-both}
-use Rattle.sets.specs.Sets.{has, those}
-use Rattle.program.specs.Program.{Instr, USE, Line, Version, Program}
+use Rattle.sets.specs.Sets.{has}
+use Rattle.program.specs.Program.{USE, Line, Version, Program}
 use Rattle.program.specs.Questions.{registerExists, exists}
 use Rattle.rules.specs.Types.{isOwned}
-use Rattle.rules.specs.Fits.{typeOf, owned, fresh, fits}
+use Rattle.rules.specs.Fits.{typeOf, fresh, fits}
 use Rattle.rules.specs.Actions.{touch}
 use Rattle.rules.proofs.Rules.{use-in-body}
-use Rattle.machine.specs.Try.{got}
 use Rattle.machine.specs.States.{VECTORS, withStack, assign}
 use Rattle.machine.specs.Steps.{execute}
 use Rattle.machine.specs.declared.Activation.{Activation}
-use Rattle.machine.specs.declared.Frame.{Frame}
 use Rattle.machine.specs.declared.State.{State}
 use Rattle.machine.specs.declared.Value.{Value}
-use Rattle.soundness.proofs.Cells.{CELLS, cellAt, writeAt, wrote, at-same, assign-is, write-sized}
-use Rattle.soundness.proofs.Invariant.{Sure, versionAt, typeAt, cellType, isFull, keep, kept, Fits, Lone, Heap, Ext, every, top, Gets, below, Inv}
+use Rattle.soundness.proofs.Cells.{cellAt, writeAt, wrote, at-same, assign-is, write-sized}
+use Rattle.soundness.proofs.Invariant.{Sure, versionAt, typeAt, isFull, keep, kept, Fits, Lone, Heap, Ext, every, top, Gets, Inv}
 use Rattle.soundness.proofs.Progress.{Good, good, good-got}
 use Rattle.soundness.proofs.Types.{clash, owned-owned, fresh-kind, register-type}
 use Rattle.soundness.proofs.Heap.{same-version, ext-every, ext-less, ext-both, ext-full, heap-write}
@@ -34,7 +31,7 @@ use Rattle.soundness.proofs.Standing.{At, moved, inv-of, live, inside, 
 use Rattle.soundness.proofs.Operands.{only-one, fits-i, exists-i, touched, full-at, assigned-in, vector-got}
 use Rattle.soundness.proofs.Plain.{Stepped}
 use Rattle.soundness.proofs.Vectors.{gone, under-body}
-use Rattle.soundness.proofs.Clearing.{isIn, in-those, those-in, at-in-list, Cleared, cleared-none, cleared-one, full-still, ext-older, ext-clear, heap-clear}
+use Rattle.soundness.proofs.Clearing.{isIn, those-in, at-in-list, Cleared, cleared-none, cleared-one, full-still, ext-older, ext-clear, heap-clear}
 use Rattle.rules.proofs.Follows.{not-true as not-false}
 
 module _ (P : Program) (sure : Sure P) (s : State) (a : Activation) (rest : List Activation) (l : Line) (W : At P s a rest l) (d r : ℕ) (is : l .does ≡ USE d r) where

@@ -1,29 +1,27 @@
 -- Names: NAMED, STORE, PEEK and POKE.
-use mathlib.Core.Path.{_≡_, refl, sym, _∙_}
-use mathlib.Core.Logic.{_⊎_, inl, inr}
+use mathlib.Core.Path.{_≡_, refl}
+use mathlib.Core.Logic.{inl}
 use mathlib.Core.List.{List, [], _∷_}
-use mathlib.Core.Bool.{Bool, true, false, false≢true}
+use mathlib.Core.Bool.{true}
 use Prim.Native.Nat.{ℕ, _+_, _<_}
 use native.Mathlib.Omega.{arith}
-use lib.ListN.{length}
 use borrow.Author.Tests.{ltb-true}
 use Rattle.layout.specs.Bounds.{REGISTERS, NAMES}
 use Rattle.layout.specs.Tests.{_and_}
 use Rattle.layout.proofs.Bools.{and-both}
 use Rattle.program.specs.Program.{Instr, NAMED, STORE, PEEK, POKE, Line, Version, Program}
 use Rattle.program.specs.Questions.{registerExists, nameExists, exists}
-use Rattle.rules.specs.Types.{kindOf, isShared, within}
-use Rattle.rules.specs.Fits.{typeOf, value, plain, fits}
+use Rattle.rules.specs.Types.{isShared}
+use Rattle.rules.specs.Fits.{value, plain, fits}
 use Rattle.rules.specs.Actions.{touch, reads_empties_assigns_}
-use Rattle.machine.specs.Try.{Try, got, stuck, stop, _>>=_, at}
-use Rattle.machine.specs.States.{name, named, isSet, store}
+use Rattle.machine.specs.Try.{_>>=_, at}
+use Rattle.machine.specs.States.{name, isSet, store}
 use Rattle.machine.specs.States as states
 use Rattle.machine.specs.Steps.{execute}
 use Rattle.machine.specs.declared.Activation.{Activation}
-use Rattle.machine.specs.declared.Frame.{Frame}
 use Rattle.machine.specs.declared.State.{State}
 use Rattle.machine.specs.declared.Value.{Value}
-use Rattle.soundness.proofs.Cells.{CELLS, frameAt, cellAt, wrote, frame-is, store-is, named-is}
+use Rattle.soundness.proofs.Cells.{frameAt, cellAt, wrote, frame-is, store-is, named-is}
 use Rattle.soundness.proofs.Invariant.{Sure, versionAt, typeAt, promiseAt, isFull, Fits, Inv}
 use Rattle.soundness.proofs.Progress.{Good, good, good-then, good-got}
 use Rattle.soundness.proofs.Types.{name-type, name-shared, name-kind, plain-shared, plain-kind, fits-within, fits-promise, fits-down}

@@ -2,41 +2,37 @@
 use mathlib.Core.Path.{_≡_, refl, sym, ap, _∙_}
 use mathlib.Core.Logic.{_⊎_, inl, inr}
 use mathlib.Core.List.{List, [], _∷_}
-use mathlib.Core.Option.{some}
-use mathlib.Core.Bool.{Bool, true, false, not}
+use mathlib.Core.Bool.{true, false}
 use Prim.Native.Nat.{ℕ, suc, _+_, _≤_, _<_}
 use native.Mathlib.Omega.{arith}
-use lib.ListN.{length, set, length-set, getElem?}
-use lib.Dec.{eqb}
-use borrow.Author.Tests.{eqb-true, ltb-true}
+use lib.ListN.{length, length-set}
 use Rattle.layout.specs.Bounds.{REGISTERS}
-use Rattle.layout.specs.Tests.{_and_, all}
+use Rattle.layout.specs.Tests.{_and_}
 use Rattle.layout.proofs.Bools.{and-both}
-use Rattle.sets.specs.Sets.{has, those}
-use Rattle.program.specs.Program.{Instr, USE, DUP, VEC, SET, Line, Version, Program}
+use Rattle.sets.specs.Sets.{has}
+use Rattle.program.specs.Program.{Instr, DUP, VEC, SET, Line, Version, Program}
 use Rattle.program.specs.Questions.{registerExists, exists}
-use Rattle.rules.specs.Types.{kindOf, isOwned, isBorrowed, within}
-use Rattle.rules.specs.Fits.{typeOf, integer, owned, fresh, fits}
+use Rattle.rules.specs.Types.{isOwned, isBorrowed}
+use Rattle.rules.specs.Fits.{typeOf, integer, fresh, fits}
 use Rattle.rules.specs.Actions.{touch, reads_empties_assigns_}
 use Rattle.rules.proofs.Rules.{set-in-body}
-use Rattle.machine.specs.Try.{Try, got, _>>=_, _>>_, stuckUnless, at}
+use Rattle.machine.specs.Try.{got, _>>=_, _>>_, stuckUnless, at}
 use Rattle.machine.specs.States.{ACTIVATIONS, VECTORS, newVector, freeVector, vectorCounts, withVector, withStack, assign}
 use Rattle.machine.specs.Steps.{alone, execute}
 use Rattle.machine.specs.declared.Activation.{Activation}
 use Rattle.machine.specs.declared.Frame.{Frame}
 use Rattle.machine.specs.declared.Opener.{Opener}
-use Rattle.machine.specs.declared.Promise.{Promise}
 use Rattle.machine.specs.declared.State.{State}
 use Rattle.machine.specs.declared.Value.{Value}
 use Rattle.machine.specs.declared.Vector.{Vector}
-use Rattle.soundness.proofs.Cells.{CELLS, Sized, Apart, place?, frameAt, cellAt, writeAt, wrote, at-same, at-other, assign-is, write-sized}
-use Rattle.soundness.proofs.Invariant.{Sure, versionAt, typeAt, cellType, isFull, keep, kept, Fits, Unshared, Lone, Heap, Ext, every, Pend, top, Gets, Stands, Opened, below, awaited, Stack, stackOf, Inv}
-use Rattle.soundness.proofs.Progress.{Good, good, good-then, good-got, good-after, good-next}
-use Rattle.soundness.proofs.Types.{clash, eqb-same, owned-kind, owned-owned, fresh-kind, register-type}
-use Rattle.soundness.proofs.Heap.{same-version, same-type, ext-same, ext-every, ext-less, ext-both, ext-full, ext-empty, ext-below, heap-write, lone-unless, stack-ext}
+use Rattle.soundness.proofs.Cells.{Sized, Apart, place?, cellAt, writeAt, wrote, at-same, at-other, assign-is, write-sized}
+use Rattle.soundness.proofs.Invariant.{Sure, versionAt, typeAt, isFull, Fits, Unshared, Lone, Heap, Ext, every, top, Gets, Opened, below, Stack, stackOf, Inv}
+use Rattle.soundness.proofs.Progress.{Good, good, good-then, good-got, good-next}
+use Rattle.soundness.proofs.Types.{owned-owned, fresh-kind}
+use Rattle.soundness.proofs.Heap.{ext-same}
 use Rattle.soundness.proofs.Counting.{each-some, vector-free, vector-alone, free-ok}
-use Rattle.soundness.proofs.Standing.{At, moved, inv-of, live, inside, place-in, type-is, meets, onward, stack-on, under-le, writes-register, spare}
-use Rattle.soundness.proofs.Operands.{only-one, only-none, fits-i, exists-i, touched, full-at, assigned-in, emptied-in, integer-got, vector-got}
+use Rattle.soundness.proofs.Standing.{At, moved, live, inside, place-in, type-is, meets, onward, stack-on, writes-register}
+use Rattle.soundness.proofs.Operands.{only-one, fits-i, exists-i, full-at, assigned-in, integer-got, vector-got}
 use Rattle.soundness.proofs.Plain.{Stepped, vector-at, index-ok}
 use Rattle.runs.proofs.Lists.{all-at}
 

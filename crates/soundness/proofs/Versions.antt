@@ -1,32 +1,30 @@
 -- What a checked version gives, whatever the state.
-use mathlib.Core.Path.{_≡_, refl, sym, ap, _∙_}
+use mathlib.Core.Path.{_≡_}
 use mathlib.Core.Logic.{_⊎_, inl, inr}
 use mathlib.Core.List.{List, [], _∷_}
-use mathlib.Core.Option.{Option, none, some}
-use mathlib.Core.Bool.{Bool, true, false, cond, not, _||_, false≢true}
-use Prim.Native.Nat.{ℕ, zero, suc, _+_, _≤_, _<_}
+use mathlib.Core.Option.{some}
+use mathlib.Core.Bool.{Bool, true, false, cond, not, _||_}
+use Prim.Native.Nat.{ℕ, zero, suc, _+_, _<_}
 use native.Mathlib.Nat.{add-zero, zero-add}
 use native.Mathlib.Omega.{arith}
 use lib.ListN.{length, getD, getElem?}
-use lib.Dec.{eqb, ltb, leb}
-use borrow.Author.Tests.{eqb-true, ltb-true, leb-true, not-true}
-use Rattle.layout.specs.Bounds.{REGISTERS, PARAMETERS, BLOCKS}
+use lib.Dec.{eqb, ltb}
+use borrow.Author.Tests.{eqb-true, ltb-true, not-true}
+use Rattle.layout.specs.Bounds.{REGISTERS}
 use Rattle.layout.specs.Tests.{_and_, allFrom, any}
 use Rattle.layout.proofs.Bools.{and-both}
 use Rattle.sets.specs.Sets.{has}
 use Rattle.program.specs.Program.{Line, Block, Version, Program}
 use Rattle.program.specs.Questions.{registerExists, blockNamed}
-use Rattle.program.proofs.Laid.{versionBounded, blockBounded}
-use Rattle.rules.specs.Types.{kindOf, ownershipOf, isShared, isOwned, isBorrowed, isVector, KINDS, parameterType, registerType, returnType, within}
-use Rattle.rules.specs.Fits.{typeOf, fitsResult, integer, owned, declaredKind}
+use Rattle.rules.specs.Types.{kindOf, ownershipOf, isShared, isOwned, isBorrowed, isVector, parameterType, registerType}
+use Rattle.rules.specs.Fits.{typeOf, integer}
 use Rattle.rules.specs.Effects.{reflective, covered}
 use Rattle.rules.specs.Questions.{typeAllowed, versionTypes}
-use Rattle.rules.specs.Actions.{Action, bodyAction}
+use Rattle.rules.specs.Actions.{Action}
 use Rattle.rules.specs.Walks.{blockAction}
-use Rattle.rules.proofs.Follows.{or-either, or-left, not-true as not-false}
-use Rattle.rules.proofs.Touches.{Flowing, flows-body}
+use Rattle.rules.proofs.Follows.{or-either, not-true as not-false}
 use Rattle.rules.proofs.Rules.{return-kinds, Yields, body-yields, promise-yields}
-use Rattle.rules.proofs.Fitting.{promise-empties-nothing, emptied-or-captured}
+use Rattle.rules.proofs.Fitting.{emptied-or-captured}
 use Rattle.checker.proofs.Accepted.{Checked}
 use Rattle.soundness.proofs.Invariant.{captures, keep}
 use Rattle.soundness.proofs.Types.{clash, vector-kind}
@@ -48,15 +46,6 @@ parameter-vector t h o = go (or-either _ _ (and-both _ _ h .1)) o
     go (inl e) (inl x) = absurd (omega (arith, eqb-true (ownershipOf t) 0 e, eqb-true (ownershipOf t) 1 x))
     go (inl e) (inr x) = absurd (omega (arith, eqb-true (ownershipOf t) 0 e, eqb-true (ownershipOf t) 2 x))
     go (inr e) x = vector-kind t (and-both _ _ e .1)
-
--- and every other one is shared
-pub parameter-shared : (t : ℕ) → parameterType t ≡ true → isOwned t ≡ false → isBorrowed t ≡ false → isShared t ≡ true
-unfolding parameterType
-parameter-shared t h o b = go (or-either _ _ (and-both _ _ h .1))
-  where
-    go : (isShared t ≡ true) ⊎ (((isOwned t || isBorrowed t) and isVector t) ≡ true) → isShared t ≡ true
-    go (inl e) = e
-    go (inr e) = absurd (false≢true (sym (rw (o, b) refl) ∙ and-both _ _ e .0))
 
 module _ (P : Program) (v : Version) (c : Checked P v) where
   -- ---- question 7
@@ -101,9 +90,6 @@ module _ (P : Program) (v : Version) (c : Checked P v) where
       go (inr x) = clash (any-at (λ (l : Line). reflective P v (l .does)) (b .code) i l g e) (not-true _ x)
 
   -- ---- question 10
-
-  pub flowing : Flowing P v
-  flowing = flows-body P v (c .flow .ofVersion)
 
   -- what the body empties, it does not capture
   pub spares : (a : Action) → blockAction P v 0 ≡ some a → (r : ℕ) → has (a .U) r ≡ true → keep P v r ≡ false
