@@ -35,6 +35,9 @@ unfoldable pub execute : Program → State → ℕ → Frame → Version → Ins
 execute P s k f W (LIT d i) = assign s k d (Value.Integer i)
 execute P s k f W (MOVE d a) = do
   v ← value f a
+  m ← kindIn P s v
+  t ← at (W .types) d
+  stuckUnless (within m (kindOf t))
   assign s k d v
 execute P s k f W (USE d a) = do
   v ← vector f a

@@ -234,7 +234,8 @@ force-keeps s k d p q Cache.Unforced = gives-next _ (endUnless End.Undef (not (p
 pub execute-keeps : (P : Program) (s : State) (k : ℕ) (f : Frame) (W : Version) (i : Instr) → isCall i ≡ false → Gives (Keeps s) (execute P s k f W i)
 unfolding execute isCall Gives
 execute-keeps P s k f W (LIT d i) n = assign-keeps s k d _
-execute-keeps P s k f W (MOVE d a) n = gives-then _ (value f a) _ (λ v _. assign-keeps s k d v)
+execute-keeps P s k f W (MOVE d a) n =
+    gives-then _ (value f a) _ (λ v _. gives-then _ (kindIn P s v) _ (λ m _. gives-then _ (at (W .types) d) _ (λ t _. gives-next _ (stuckUnless (within m (kindOf t))) _ (λ _ _. assign-keeps s k d v))))
 execute-keeps P s k f W (USE d a) n = gives-then _ (vector f a) _ (λ v _. gives-after _ _ (assign s k a Value.Empty) _ (assign-keeps s k a Value.Empty) (λ t h. gives-further s t (assign t k d (Value.Vector v)) h (assign-keeps t k d (Value.Vector v))))
 execute-keeps P s k f W (DUP d a) n = gives-then _ (vector f a) _ (λ v _. gives-then _ (at (s .vectors) v) _ (λ w _. gives-then _ (freeVector s) _ (λ m _. vector-keeps s k d m (Value.Vector m) w)))
 execute-keeps P s k f W (VEC d rs) n = gives-then _ (each (integer f) rs) _ (λ xs _. gives-then _ (freeVector s) _ (λ m _. vector-keeps s k d m (Value.Vector m) (newVector xs)))

@@ -291,7 +291,7 @@ force-halts s k d p q Cache.Unforced = next _ _ (undef-halts (not (pending s p))
 execute-halts : (P : Program) (s : State) (k : ℕ) (f : Frame) (W : Version) (i : Instr) → Halts (execute P s k f W i)
 unfolding execute alone picked Halts
 execute-halts P s k f W (LIT d i) = assign-halts s k d _
-execute-halts P s k f W (MOVE d a) = bind _ _ (value-halts f a) (λ v. assign-halts s k d v)
+execute-halts P s k f W (MOVE d a) = bind _ _ (value-halts f a) (λ v. bind _ _ (kind-halts P s v) (λ m. bind _ _ (at-halts (W .types) d) (λ t. next _ _ (test-halts (within m (kindOf t))) (assign-halts s k d v))))
 execute-halts P s k f W (USE d a) = bind _ _ (vector-halts f a) (λ v. bind _ _ (assign-halts s k a Value.Empty) (λ t. assign-halts t k d (Value.Vector v)))
 execute-halts P s k f W (DUP d a) = bind _ _ (vector-halts f a) (λ v. bind _ _ (at-halts (s .vectors) v) (λ w. bind _ _ (free-vector-halts s) (λ n. assign-halts (withVector s n w) k d _)))
 execute-halts P s k f W (VEC d rs) = bind _ _ (each-halts (integer f) rs (integer-halts f)) (λ xs. bind _ _ (free-vector-halts s) (λ n. assign-halts _ k d _))

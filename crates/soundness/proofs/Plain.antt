@@ -29,10 +29,10 @@ use Rattle.machine.specs.declared.Value.{Value}
 use Rattle.machine.specs.declared.Vector.{Vector}
 use Rattle.soundness.proofs.Cells.{frameAt, cellAt, at-in}
 use Rattle.soundness.proofs.Invariant.{Sure, versionAt, typeAt, isFull, Fits, Inv}
-use Rattle.soundness.proofs.Progress.{Good, good, good-then, good-got, good-end}
+use Rattle.soundness.proofs.Progress.{Good, good, good-then, good-got, good-end, good-test}
 use Rattle.soundness.proofs.Types.{plain-kind, fits-within}
 use Rattle.soundness.proofs.Heap.{lone-unless}
-use Rattle.soundness.proofs.KindsOf.{kind-got, kind-fits}
+use Rattle.soundness.proofs.KindsOf.{kind-got, kind-within, kind-fits}
 use Rattle.soundness.proofs.Standing.{At, live, place-in, type-is, typed, writes-register, shared-lone}
 use Rattle.soundness.proofs.Operands.{only-one, fits-i, exists-i, bounded-i, full-at, assigned-in, integer-got, vector-got, value-got}
 
@@ -102,9 +102,12 @@ module _ (P : Program) (sure : Sure P) (s : State) (a : Activation) (rest : List
       let t = move-shared P X (a .block) d r (fits-i P sure s a rest l W _ is) in
       let fr = full-at P sure s a rest l W _ is (r ∷ []) [] (d ∷ []) refl 0 r refl (x .1) in
       let hr = place-in P sure s a rest l W r (x .1) in
+      let f = fits-within P (s .frames) (s .promises) (a .frame) _ (typeOf X d) (t .kind) _ (typed P sure s a rest l W r hr) in
       good-got (Inv P) _ (cellAt (s .frames) (a .frame) r) _ (value-got P sure s a rest l W _ is r (x .1) fr)
-      (gives-shared (MOVE d r) is (r ∷ []) d refl (x .0) (a .frame) r (live P sure s a rest l W) (rw (type-is P sure s a rest l W r hr) (t .from)) (t .to) fr
-      (fits-within P (s .frames) (s .promises) (a .frame) _ _ (t .kind) _ (typed P sure s a rest l W r hr)))
+      (good-got (Inv P) _ _ _ (kind-got P s (W .heap) (W .vectors) (a .frame) _ (live P sure s a rest l W) (cellAt (s .frames) (a .frame) r) fr f)
+      (good-got (Inv P) _ (typeOf X d) _ (at-in (X .types) d 0 (ltb-true d _ (x .0)))
+      (good-test (Inv P) _ _ (kind-within P (s .frames) (s .promises) (a .frame) (typeOf X d) _ fr f)
+      (gives-shared (MOVE d r) is (r ∷ []) d refl (x .0) (a .frame) r (live P sure s a rest l W) (rw (type-is P sure s a rest l W r hr) (t .from)) (t .to) fr f))))
 
   -- the vector that an operand refers to
   pub vector-at : (v : ℕ) → v < VECTORS → (w : Vector) × (at (s .vectors) v ≡ got w)

@@ -70,8 +70,8 @@ reflective P s = running (s .status) && atAccess (here P s >>= λ h. got (positi
 
 -- ---- live calls
 
--- the call k is live in s, with the frame f; calls above it have a greater k. Only the step that enters a call adds one, only
--- the one at the end of a body takes one away
+-- the call k is live in s, with the frame f; calls above it have a greater k. That only the step that enters a call adds it and only
+-- the one at the end of its block 0 takes it away is a law of its own
 abbrev pub Live : State → ℕ → Frame → Type 0
 Live s k f = getElem? (liveFrames s) k ≡ some f
 
