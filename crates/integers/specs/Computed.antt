@@ -1,0 +1,18 @@
+-- What the operations on integers answer.
+use Prim.Native.Nat.{ℕ}
+use lib.IntN.{ℤ}
+use Rattle.machine.specs.Try.{Try, got, stuck, stop}
+use Rattle.integers.specs.declared.Computed.{Computed}
+use Rattle.integers.specs.declared.Indexed.{Indexed}
+
+-- the result of an operation; integers end a run by UNDEF alone
+unfoldable pub computedOf : Try ℤ → Computed
+computedOf (got z) = Computed.Integer z
+computedOf stuck = Computed.Stuck
+computedOf (stop e) = Computed.Undef
+
+-- the place of an item; no index is stuck
+unfoldable pub indexedOf : Try ℕ → Indexed
+indexedOf (got i) = Indexed.At i
+indexedOf stuck = Indexed.Undef
+indexedOf (stop e) = Indexed.Undef
