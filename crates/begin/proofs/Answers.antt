@@ -6,18 +6,16 @@ use mathlib.Core.Bool.{Bool, true, false, cond, true≢false}
 use Prim.Native.Nat.{ℕ, _≤_, _<_}
 use lib.IntN.{ℤ}
 use lib.ListN.{length}
-use lib.Dec.{ltb, leb}
-use borrow.Author.Tests.{le-leb, lt-leb, leb-true}
-use Rattle.layout.specs.Bounds.{FUNCTIONS, VERSIONS, PARAMETERS}
+use lib.Dec.{leb}
+use borrow.Author.Tests.{le-leb, lt-leb}
 use Rattle.layout.specs.declared.Found.the-variants.{Nothing, At}
-use Rattle.layout.proofs.Bools.{and-both}
 use Rattle.program.specs.Program.{Version, parameterTypes}
 use Rattle.program.specs.Places.{versionAt, versionPlace}
-use Rattle.program.proofs.Laid.{versionBounded}
 use Rattle.program.proofs.Lookups.{version-found, version-missing}
 use Rattle.checker.specs.Verdicts.{verdictOf}
 use Rattle.checker.specs.declared.Verdict.the-variants.{Accepted, Refused}
 use Rattle.checker.proofs.Accepted.{checked}
+use Rattle.checker.proofs.Limits.{limited}
 use Rattle.machine.specs.States.{ITEMS, newFrame, over}
 use Rattle.machine.specs.Calls.{frameFor}
 use Rattle.machine.specs.Runs.{longEnough}
@@ -88,13 +86,6 @@ module _ (s : List ℕ) (f v : ℕ) (words buffer : List ℤ) where
 
       -- its counts are in bounds
       pub entry-bounded : Limited (versionAt s q)
-      unfolding versionBounded
-      entry-bounded = bounded (versionAt s q) (checked s k e f v (versionAt s q) (version-found s f v q h .0) .bound .ofVersion)
-        where
-          bounded : (W : Version) → versionBounded W ≡ true → Limited W
-          bounded W t =
-              let a = and-both (ltb (W .function) FUNCTIONS) _ t in
-              let b = and-both (ltb (W .version) VERSIONS) _ (a .1) in
-              let c = and-both (leb (W .parameters) PARAMETERS) _ (b .1) in
-              let d = and-both (leb (W .parameters) (length (W .types))) _ (c .1) in
-              (leb-true _ _ (c .0), leb-true _ _ (d .0))
+      entry-bounded =
+          let b = limited _ (versionAt s q) (checked s k e f v (versionAt s q) (version-found s f v q h .0)) in
+          (b .parameters, b .declared)

@@ -1,5 +1,4 @@
 pub mod Stores
 pub mod Words
 pub mod Filling
-pub mod Offsets
 pub mod Answers

@@ -7,7 +7,6 @@ use mathlib.Core.Bool.{Bool, true, false, cond, not, false≢true}
 use Prim.Native.Nat.{ℕ, zero, suc, _≤_, _<_}
 use native.Mathlib.Omega.{arith}
 use lib.ListN.{length, getElem?}
-use lib.Seq.{length-take-le}
 use lib.Dec.{eqb}
 use borrow.Author.Tests.{eqb-true, eqb-false, eq-eqb, leb-true, ltb-true, not-true}
 use Rattle.layout.specs.Bounds.{VERSIONS}
@@ -37,7 +36,8 @@ use Rattle.soundness.proofs.Invariant.{Sure, versionAt, blockAt, noBloc
 use Rattle.soundness.proofs.Progress.{Good, good, good-then, good-got, good-test}
 use Rattle.soundness.proofs.Types.{clash, eqb-same, vector-kind, owned-kind, owned-owned, within-same, within-trans}
 use Rattle.soundness.proofs.Versions.{parameter-vector, type-allowed}
-use Rattle.soundness.proofs.Limits.{limited, mark-is, mark-bound}
+use Rattle.checker.proofs.Limits.{limited, length-parameters, mark-bound}
+use Rattle.soundness.proofs.LiveCalls.{mark-is}
 use Rattle.program.proofs.Held.{find-own}
 use Rattle.soundness.proofs.Counting.{each-map}
 use Rattle.soundness.proofs.KindsOf.{valueKind, kind-got, kind-within}
@@ -80,13 +80,10 @@ module _ (P : Program) (sure : Sure P) (s : State) (a : Activation) (rest : List
     unfolding fitsCall
     arguments-fit j x g = all-at (fitsArgument X call) call (and-both _ _ fc .0) j x g
 
-    length-types : length (parameterTypes C) ≡ C .parameters
-    length-types = length-take-le (C .parameters) (C .types) (limited P C (sure _ _ C known) .declared)
-
     -- the type of its parameter, which has the same ownership
     type-at : (j : ℕ) (x : Argument) → getElem? call j ≡ some x → getElem? (parameterTypes C) j ≡ some (typeOf C j)
     type-at j x g =
-        let h : j < C .parameters = omega (arith, get-in call j x x g .0, same-length call (parameterTypes C) same, length-types) in
+        let h : j < C .parameters = omega (arith, get-in call j x x g .0, same-length call (parameterTypes C) same, length-parameters P C (sure _ _ C known)) in
         get-take (C .types) (C .parameters) j h ∙ get-some (C .types) j 0 (omega (arith, limited P C (sure _ _ C known) .declared))
 
     same-ownership : (j : ℕ) (x : Argument) → getElem? call j ≡ some x → ownershipOf (x .type) ≡ ownershipOf (typeOf C j)
@@ -146,7 +143,7 @@ module _ (P : Program) (sure : Sure P) (s : State) (a : Activation) (rest : List
       known = known;
       exist = register-exists;
       full = λ j r g. full-at P sure s a rest l W i is (registersOf call) (freed call) (d ∷ []) e j r g (register-exists j r g);
-      count = map-length (λ (x : Argument). x .register) call ∙ same-length call (parameterTypes C) same ∙ length-types;
+      count = map-length (λ (x : Argument). x .register) call ∙ same-length call (parameterTypes C) same ∙ length-parameters P C (sure _ _ C known);
       matches = λ j r g. let x = argument j r g in matching-at (kindsOf (registersOf call)) (parameterTypes C) fits-kinds j _ (typeOf C j) (map-get (valueKind P (s .frames) (s .promises)) (map (cellAt (s .frames) (a .frame)) (registersOf call)) j (cellAt (s .frames) (a .frame) r) (map-get (cellAt (s .frames) (a .frame)) (registersOf call) j r g)) (type-at j (x .0) (x .1));
       owned = owned-at;
       shared = shared-at;
@@ -209,11 +206,8 @@ module _ (P : Program) (sure : Sure P) (s : State) (a : Activation) (rest : List
     callee : Checked P C
     callee = sure g w C e
 
-    length-parameters : length (parameterTypes C) ≡ C .parameters
-    length-parameters = length-take-le (C .parameters) (C .types) (limited P C callee .declared)
-
     as-many : length rs ≡ length (parameterTypes C)
-    as-many = eqb-true _ _ (and-both _ _ (and-both _ _ found-exists .1) .1) ∙ sym length-parameters
+    as-many = eqb-true _ _ (and-both _ _ (and-both _ _ found-exists .1) .1) ∙ sym (length-parameters P C callee)
 
     there-at : (j r : ℕ) → getElem? rs j ≡ some r → (registerExists Y r ≡ true) × (isFull (cellAt (s .frames) (a .frame) r) ≡ true)
     there-at j r q = let h = all-at (registerExists Y) rs (and-both _ _ (and-both _ _ found-exists .1) .0) j r q in

@@ -30,7 +30,8 @@ use Rattle.soundness.specs.Claim.{Live, entered, Declared, OfType, nothi
 use Rattle.soundness.proofs.Cells.{Whole, cell, cellAt, frameAt, register-is, named-is}
 use Rattle.soundness.proofs.Invariant.{Sure, versionAt, cellType, typeAt, isFull, Fits, Unshared, Inv}
 use Rattle.soundness.proofs.Progress.{Good}
-use Rattle.soundness.proofs.Limits.{limited, live-frame}
+use Rattle.checker.proofs.Limits.{limited}
+use Rattle.soundness.proofs.LiveCalls.{live-frame}
 use Rattle.soundness.proofs.KindsOf.{valueKind, kind-got, kind-within}
 use Rattle.soundness.proofs.Quiet.{reflective-runs, none-quiet}
 use Rattle.runs.proofs.Lists.{get-some, get-in, get-end}

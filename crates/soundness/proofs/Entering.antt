@@ -33,7 +33,8 @@ use Rattle.soundness.proofs.Invariant.{Sure, versionAt, blockAt, cellTy
 use Rattle.soundness.proofs.Progress.{Good, good, good-got}
 use Rattle.soundness.proofs.Types.{clash, eqb-same, register-type}
 use Rattle.soundness.proofs.Heap.{same-version, same-type, ext-less, fits-ext, stack-ext, ext-push, version-new, cell-new, heap-push}
-use Rattle.soundness.proofs.Limits.{limited, mark-is}
+use Rattle.checker.proofs.Limits.{limited}
+use Rattle.soundness.proofs.LiveCalls.{mark-is}
 use Rattle.soundness.proofs.NewFrames.{frame-function, frame-version, frame-whole, frame-cell, body-stands}
 use Rattle.soundness.proofs.KindsOf.{valueKind, kind-fits}
 use Rattle.soundness.proofs.Clearing.{isIn, Cleared, still, full-still, ext-older, ext-clear, heap-clear, emptied-ok}

@@ -4,7 +4,7 @@ pub mod Progress
 pub mod Types
 pub mod Heap
 pub mod Versions
-pub mod Limits
+pub mod LiveCalls
 pub mod Stacks
 pub mod NewFrames
 pub mod Standing

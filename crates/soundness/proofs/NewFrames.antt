@@ -22,7 +22,7 @@ use Rattle.machine.specs.declared.Place.{Place}
 use Rattle.machine.specs.declared.Value.{Value}
 use Rattle.soundness.proofs.Cells.{Whole, cell, cellAt}
 use Rattle.soundness.proofs.Invariant.{noBlock, versionAt, blockAt, isFull, captures, keep, top, Gets, Stands}
-use Rattle.soundness.proofs.Limits.{limited}
+use Rattle.checker.proofs.Limits.{limited}
 use Rattle.runs.proofs.Lists.{get-some}
 
 -- ---- a list put over another

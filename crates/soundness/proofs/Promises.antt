@@ -45,7 +45,7 @@ use Rattle.soundness.proofs.Standing.{At, live, there, meets, operand, 
 use Rattle.soundness.proofs.Operands.{only-one, fits-i, exists-i, marked-i, full-at, assigned-in, promise-got}
 use Rattle.soundness.proofs.Plain.{Stepped, gives-integer}
 use Rattle.runs.proofs.Lists.{get-some}
-use Rattle.soundness.proofs.Limits.{mark-bound}
+use Rattle.checker.proofs.Limits.{mark-bound}
 
 -- ---- the pool of promises
 

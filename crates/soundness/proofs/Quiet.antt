@@ -22,7 +22,8 @@ use Rattle.machine.specs.declared.Status.{Status}
 use Rattle.soundness.specs.Claim.{isAccess, atAccess, running, counted, reflective, Live, entered, isQuiet}
 use Rattle.soundness.proofs.Invariant.{Sure, versionAt, blockAt, Gets, Opened, below, awaited, Base, Stack, stackOf, Inv}
 use Rattle.soundness.proofs.Stacks.{topOf, has-top, at-top, top-live, here-is, position-is, Standing, at-line, at-end, standing}
-use Rattle.soundness.proofs.Limits.{limited, mark-is, live-frame, live-checked}
+use Rattle.checker.proofs.Limits.{limited}
+use Rattle.soundness.proofs.LiveCalls.{mark-is, live-frame, live-checked}
 use Rattle.soundness.proofs.Versions.{covers}
 use Rattle.soundness.proofs.Types.{both}
 

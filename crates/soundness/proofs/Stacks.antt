@@ -18,7 +18,7 @@ use Rattle.machine.specs.declared.Opener.{Opener}
 use Rattle.machine.specs.declared.State.{State}
 use Rattle.machine.specs.declared.Status.{Status}
 use Rattle.soundness.proofs.Cells.{frameAt, at-some, frame-is}
-use Rattle.soundness.proofs.Limits.{code-few}
+use Rattle.checker.proofs.Limits.{code-few}
 use Rattle.soundness.proofs.Invariant.{Sure, versionAt, blockAt, top, Stands, Opened, below, awaited, Base, Stack, noActivation, stackOf, Inv}
 use Rattle.runs.proofs.Lists.{get-some, get-take}
 

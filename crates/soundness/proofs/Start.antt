@@ -33,7 +33,7 @@ use Rattle.soundness.proofs.Cells.{Whole, Sized, noFrame, frameAt, cell
 use Rattle.soundness.proofs.Invariant.{Sure, orNone, versionAt, cellType, typeAt, isFull, Fits, Unshared, Heap, top, Stands, Opened, below, awaited, Base, Stack, stackOf, Inv}
 use Rattle.soundness.proofs.NewFrames.{over-length, frame-function, frame-version, frame-whole, frame-cell, body-stands}
 use Rattle.program.proofs.Held.{find-own}
-use Rattle.soundness.proofs.Limits.{Limited, limited}
+use Rattle.checker.proofs.Limits.{Limited, limited}
 use Rattle.runs.proofs.Lives.{refused-begun}
 
 -- ---- question 12

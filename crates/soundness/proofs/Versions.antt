@@ -29,7 +29,7 @@ use Rattle.checker.proofs.Accepted.{Checked}
 use Rattle.soundness.proofs.Invariant.{captures, keep}
 use Rattle.soundness.proofs.Types.{clash, vector-kind}
 use Rattle.runs.proofs.Lists.{any-at}
-use Rattle.soundness.proofs.Limits.{limited}
+use Rattle.checker.proofs.Limits.{limited}
 
 all-at : (p : ℕ → ℕ → Bool) (n : ℕ) (l : List ℕ) (i : ℕ) → allFrom p n l ≡ true → i < length l → p (n + i) (getD l i 0) ≡ true
 unfolding allFrom

@@ -1,6 +1,6 @@
 -- `begin::begin`: the verdict, then question 11.
 use Rattle.begin.proofs.Answers.{refused-by, no-entry, entry-at, entry-bounded}
-use Rattle.begin.proofs.Offsets.{refused-low}
+use Rattle.checker.proofs.Offsets.{refused-low}
 use Rattle.begin.proofs.begin.Statement.{statement}
 use Rattle.begin.proofs.begin.Tie as tie
 use borrow.Author.Needs.{needs}
