@@ -1,0 +1,66 @@
+use mathlib.Core.Path.{sym, _∙_}
+use Rattle.kinds.proofs.Looking.{listed-found, listed-missing}
+use Rattle.calls.proofs.Places.{entered-within}
+use Rattle.calls.specs.Entering.{Within}
+use Rattle.calls.proofs.Calling.{called-missing, called-unmatched, called-on}
+use borrow.Author.Needs.{needs}
+use Rattle.calls.proofs.call.Statement.{statement}
+use Rattle.calls.proofs.call.Tie as tie
+use Rattle.calls.proofs.call.Reads as reads
+use Rattle.calls.proofs.call.Lts as lts
+use Rattle.calls.proofs.enter.Reads as enter-reads
+use Rattle.calls.proofs.matching.Reads as matching-reads
+use Rattle.program.proofs.lookup.listed.Reads as listed-reads
+
+-- src/lib.rt:385:24
+listed-requires : tie.Need-listed-requires
+listed-requires c κs = search needs
+
+-- src/lib.rt:385:19
+enum-known-v : tie.Need-enum-known-v
+enum-known-v c = search needs
+
+-- src/lib.rt:386:9
+enum-told : tie.Need-enum-told
+enum-told c = search needs
+
+-- src/lib.rt:386:9
+returns : tie.Need-returns
+unfolding Within
+returns c =
+    (called-missing _ _ _ _ _ _ _ _ _ _ _ (listed-missing _ _ _ _ _ ((c .before .before .before .before) .pre .0) ((c .before .before .listed) .ensures) ((c .enum-told) .given .1)), tt)
+
+-- src/lib.rt:388:8
+matching-requires : tie.Need-matching-requires
+matching-requires c κs = search needs
+
+-- src/lib.rt:389:9
+enter-requires : tie.Need-enter-requires
+enter-requires c κs = search needs
+
+-- src/lib.rt:365:1
+returns-2 : tie.Need-returns-2
+unfolding Within
+returns-2 c = (
+  called-on _ _ _ _ _ _ _ _ _ _ _ _ (listed-found _ _ _ _ _ ((c .before .before .before .before .before .before .before .before .before .before .before .before .before .before) .pre .0) ((c .before .before .before .before .before .before .before .before .before .before .before .before .listed) .ensures) _ ((c .before .before .before .before .before .before .before .before .before .before .v) .given .1)) _ _ (sym ((c .before .before .before .before .before .before .matching) .ensures) ∙ (c .before .before .before .before .before .if1) .taken) ((c .enter) .ensures),
+  entered-within _ _ _ _ _ _ _ _ _ _ (c .enter .ensures),
+)
+
+-- src/lib.rt:365:1
+returns-3 : tie.Need-returns-3
+unfolding Within
+returns-3 c =
+    (called-unmatched _ _ _ _ _ _ _ _ _ _ _ _ (listed-found _ _ _ _ _ ((c .before .before .before .before .before .before .before .before .before) .pre .0) ((c .before .before .before .before .before .before .before .listed) .ensures) _ ((c .before .before .before .before .before .v) .given .1)) (sym ((c .before .matching) .ensures) ∙ (c .if1) .left), tt)
+
+pub call-spec : {M : Type 1} → statement M
+call-spec =
+    tie.close
+    (tie.spec
+    listed-requires
+    enum-known-v
+    enum-told
+    returns
+    matching-requires
+    enter-requires
+    returns-2
+    returns-3)

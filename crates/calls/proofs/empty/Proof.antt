@@ -1,0 +1,101 @@
+use mathlib.Core.Path.{_≡_, sym, ap, _∙_}
+use native.Mathlib.Omega.{arith}
+use Prim.Native.Nat.{_-_, _≤_}
+use Rattle.program.specs.Shapes.{listedRegisters}
+use Rattle.program.specs.Places.{instrAt, versionAt}
+use Rattle.calls.specs.Frames.{emptiedTo}
+use Rattle.calls.proofs.Loops.{all-left, emptied-one, emptied-kept, emptied-done}
+use borrow.Author.Needs.{needs}
+use Rattle.calls.proofs.empty.Statement.{statement}
+use Rattle.calls.proofs.empty.Tie as tie
+use Rattle.calls.proofs.empty.Reads as reads
+use Rattle.calls.proofs.empty.Lts as lts
+use Rattle.program.proofs.decode.listed_register.Reads as listed-register-reads
+use Rattle.program.proofs.lookup.type_of.Reads as type-of-reads
+
+abbrev Inv-loop : tie.InvT-loop
+Inv-loop image at codes₀ k v n i₀ codes i = (i ≤ n) × (emptiedTo codes₀ k (versionAt image v .types) (listedRegisters (instrAt image at)) 0 n ≡ emptiedTo codes k (versionAt image v .types) (listedRegisters (instrAt image at)) i (n - i))
+
+abbrev μ-loop : tie.MeasureT-loop
+μ-loop image at codes₀ k v n i₀ codes i = n - i
+
+-- src/lib.rt:297:5
+loop-holds : tie.Need-loop-holds Inv-loop μ-loop
+loop-holds c =
+    (omega arith, ap (emptiedTo _ _ _ _ 0) (sym (all-left _)))
+
+-- src/lib.rt:298:12
+type-of-requires : tie.Need-type-of-requires Inv-loop μ-loop
+type-of-requires c κs = search needs
+
+-- src/lib.rt:299:19
+mul-codes : tie.Need-mul-codes Inv-loop μ-loop
+mul-codes c = search needs
+
+-- src/lib.rt:299:28
+listed-register-requires : tie.Need-listed-register-requires Inv-loop μ-loop
+listed-register-requires c κs = search needs
+
+-- src/lib.rt:299:19
+add-codes : tie.Need-add-codes Inv-loop μ-loop
+add-codes c = search needs
+
+-- src/lib.rt:299:13
+mul-codes-2 : tie.Need-mul-codes-2 Inv-loop μ-loop
+mul-codes-2 c = search needs
+
+-- src/lib.rt:299:13
+element-write-codes : tie.Need-element-write-codes Inv-loop μ-loop
+element-write-codes c = search needs
+
+-- src/lib.rt:300:13
+add-i : tie.Need-add-i Inv-loop μ-loop
+add-i c = search needs
+
+-- src/lib.rt:297:5
+loop-less : tie.Need-loop-less Inv-loop μ-loop
+loop-less c = search needs
+
+-- src/lib.rt:297:5
+loop-again : tie.Need-loop-again Inv-loop μ-loop
+loop-again c =
+    (omega (arith, (c .before .before .before .loop-test) .taken), (c .before .before .before .before .loop) .inv .1 ∙ emptied-one _ _ _ _ _ _ ((c .before .before .before .loop-test) .taken) ((c .before .before .type-of) .ensures .0) ((c .before .if1) .taken) ((c .listed-register) .ensures .0))
+
+-- src/lib.rt:302:13
+add-i-2 : tie.Need-add-i-2 Inv-loop μ-loop
+add-i-2 c = search needs
+
+-- src/lib.rt:297:5
+loop-less-2 : tie.Need-loop-less-2 Inv-loop μ-loop
+loop-less-2 c = search needs
+
+-- src/lib.rt:297:5
+loop-again-2 : tie.Need-loop-again-2 Inv-loop μ-loop
+loop-again-2 c =
+    (omega (arith, (c .before .before .loop-test) .taken), (c .before .before .before .loop) .inv .1 ∙ emptied-kept _ _ _ _ _ _ ((c .before .before .loop-test) .taken) ((c .before .type-of) .ensures .0) ((c .if1) .left))
+
+-- src/lib.rt:292:1
+returns : tie.Need-returns Inv-loop μ-loop
+returns c =
+    sym ((c .before .loop) .inv .1 ∙ emptied-done _ _ _ _ _ _ ((c .loop-test) .left))
+
+pub empty-spec : {M : Type 1} → statement M
+empty-spec =
+    tie.close
+    (tie.spec
+    Inv-loop
+    μ-loop
+    loop-holds
+    type-of-requires
+    mul-codes
+    listed-register-requires
+    add-codes
+    mul-codes-2
+    element-write-codes
+    add-i
+    loop-less
+    loop-again
+    add-i-2
+    loop-less-2
+    loop-again-2
+    returns)

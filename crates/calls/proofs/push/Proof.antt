@@ -1,0 +1,104 @@
+use mathlib.Core.Path.{refl}
+use Rattle.calls.specs.Frames.{pushed}
+use borrow.Author.Needs.{needs}
+use Rattle.calls.proofs.push.Statement.{statement}
+use Rattle.calls.proofs.push.Tie as tie
+use Rattle.calls.proofs.push.Reads as reads
+use Rattle.calls.proofs.push.Lts as lts
+
+-- src/lib.rt:312:11
+mul-stack : tie.Need-mul-stack
+mul-stack c = search needs
+
+-- src/lib.rt:312:5
+element-write-stack : tie.Need-element-write-stack
+element-write-stack c = search needs
+
+-- src/lib.rt:313:11
+mul-stack-2 : tie.Need-mul-stack-2
+mul-stack-2 c = search needs
+
+-- src/lib.rt:313:11
+add-stack : tie.Need-add-stack
+add-stack c = search needs
+
+-- src/lib.rt:313:5
+element-write-stack-2 : tie.Need-element-write-stack-2
+element-write-stack-2 c = search needs
+
+-- src/lib.rt:314:11
+mul-stack-3 : tie.Need-mul-stack-3
+mul-stack-3 c = search needs
+
+-- src/lib.rt:314:11
+add-stack-2 : tie.Need-add-stack-2
+add-stack-2 c = search needs
+
+-- src/lib.rt:314:5
+element-write-stack-3 : tie.Need-element-write-stack-3
+element-write-stack-3 c = search needs
+
+-- src/lib.rt:315:11
+mul-stack-4 : tie.Need-mul-stack-4
+mul-stack-4 c = search needs
+
+-- src/lib.rt:315:11
+add-stack-3 : tie.Need-add-stack-3
+add-stack-3 c = search needs
+
+-- src/lib.rt:315:5
+element-write-stack-4 : tie.Need-element-write-stack-4
+element-write-stack-4 c = search needs
+
+-- src/lib.rt:316:11
+mul-stack-5 : tie.Need-mul-stack-5
+mul-stack-5 c = search needs
+
+-- src/lib.rt:316:11
+add-stack-4 : tie.Need-add-stack-4
+add-stack-4 c = search needs
+
+-- src/lib.rt:316:5
+element-write-stack-5 : tie.Need-element-write-stack-5
+element-write-stack-5 c = search needs
+
+-- src/lib.rt:317:11
+mul-stack-6 : tie.Need-mul-stack-6
+mul-stack-6 c = search needs
+
+-- src/lib.rt:317:11
+add-stack-5 : tie.Need-add-stack-5
+add-stack-5 c = search needs
+
+-- src/lib.rt:317:5
+element-write-stack-6 : tie.Need-element-write-stack-6
+element-write-stack-6 c = search needs
+
+-- src/lib.rt:308:1
+returns : tie.Need-returns
+unfolding pushed
+returns c =
+    refl
+
+pub push-spec : {M : Type 1} → statement M
+push-spec =
+    tie.close
+    (tie.spec
+    mul-stack
+    element-write-stack
+    mul-stack-2
+    add-stack
+    element-write-stack-2
+    mul-stack-3
+    add-stack-2
+    element-write-stack-3
+    mul-stack-4
+    add-stack-3
+    element-write-stack-4
+    mul-stack-5
+    add-stack-4
+    element-write-stack-5
+    mul-stack-6
+    add-stack-5
+    element-write-stack-6
+    returns)

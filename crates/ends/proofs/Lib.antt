@@ -1,0 +1,4 @@
+pub mod Backs
+pub mod Forces
+pub mod Finishes
+pub mod Closings

@@ -1,0 +1,5 @@
+pub mod Parts
+pub mod Stacks
+pub mod Delays
+pub mod Heaps
+pub mod Cells

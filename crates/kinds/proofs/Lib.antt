@@ -1,0 +1,3 @@
+pub mod Kinded
+pub mod Looking
+pub mod Moving

@@ -1,0 +1,5 @@
+pub mod Lists
+pub mod Frames
+pub mod Heap
+pub mod Counts
+pub mod Stack

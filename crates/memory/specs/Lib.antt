@@ -1,0 +1,4 @@
+pub mod Lists
+pub mod Memory
+pub mod Parts
+pub mod Works

@@ -1,0 +1,3 @@
+pub mod Live
+pub mod Standings
+pub mod Locating

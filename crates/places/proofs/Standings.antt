@@ -1,0 +1,353 @@
+-- Where a run stands: the instructions ahead of an offset, what the next step is, and where it stands behind an instruction.
+use mathlib.Core.Path.{_≡_, refl, sym, ap, _∙_}
+use mathlib.Core.List.{List, [], _∷_}
+use mathlib.Core.Option.{none, some}
+use mathlib.Core.Bool.{Bool, true, false, cond, not, true≢false}
+use Prim.Native.Nat.{ℕ, zero, suc, _+_, _-_, _*_, _≤_, _<_}
+use native.Mathlib.Nat.{not-suc-le-zero, le-of-suc-le-suc}
+use native.Mathlib.Omega.{arith}
+use lib.ListN.{length, getElem?, set, take, drop, length-drop}
+use lib.Seq.{getD-set-same, getD-set-other, take-all, drop-drop}
+use lib.Dec.{ltb, eqb}
+use borrow.Author.Tests.{ltb-true, ltb-false, eqb-true, eqb-false, not-true}
+use Rattle.layout.specs.Kinds as kind
+use Rattle.layout.specs.Records.{_!_, sizeAt, kindAt, recAt}
+use Rattle.layout.specs.Tests.{_and_}
+use Rattle.layout.specs.declared.Found.the-variants.{Nothing, At}
+use Rattle.layout.proofs.Bools.{and-both}
+use Rattle.program.specs.Places.{blockAt, instrAt, past, versionAt, viewAt}
+use Rattle.program.specs.Program.{Block, Line, Program, Version, findVersion, lineOf}
+use Rattle.program.proofs.Views.{at-version, at-block, at-line, view-end, view-past}
+use Rattle.machine.specs.Begin.{programOf}
+use Rattle.machine.specs.Calls.{finish, passed}
+use Rattle.machine.specs.States.{liveActivations, liveFrames, value}
+use Rattle.machine.specs.Steps.{Here, Position, advance, blockEnd, execute, here, instruction, outside, position, positionOf, proceed}
+use Rattle.machine.specs.Try.{got, stuck, _>>=_, orStuck, at}
+use Rattle.machine.specs.declared.Activation.{Activation}
+use Rattle.machine.specs.declared.Frame.{Frame}
+use Rattle.machine.specs.declared.State.{State}
+use Rattle.machine.specs.declared.Value.{Value}
+use Rattle.memory.specs.Memory.{Memory, activationIn, frameIn, stateOf}
+use Rattle.places.specs.Standing.{Standing, isLine, skipped, topOf}
+use Rattle.places.specs.declared.Spot.{Spot}
+use Rattle.places.proofs.Live.{at-some, at-none, frame-read, frame-dead, frame-none, top-read, top-none, top-far}
+
+-- ---- the instructions ahead of an offset
+
+-- an instruction's record: inside, whole, and neither a VERSION nor a BLOCK
+pub record Lined (s : List ℕ) (p : ℕ) : Type 0 where
+  pub inside : p < length s
+  pub whole : sizeAt s p ≡ 0 → ⊥
+  pub noVersion : kindAt s p ≡ kind.VERSION → ⊥
+  pub noBlock : kindAt s p ≡ kind.BLOCK → ⊥
+
+pub is-lined : (s : List ℕ) (p : ℕ) → isLine s p ≡ true → Lined s p
+unfolding isLine
+is-lined s p e =
+    let a = and-both _ _ e in
+    let b = and-both _ _ (a .1) in
+    let c = and-both _ _ (b .1) in
+    record {
+      inside = ltb-true _ _ (a .0);
+      whole = eqb-false _ _ (not-true _ (b .0));
+      noVersion = eqb-false _ _ (not-true _ (c .0));
+      noBlock = eqb-false _ _ (not-true _ (c .1));
+    }
+
+pub line-view : (s : List ℕ) (p : ℕ) → isLine s p ≡ true → viewAt s p .code ≡ lineOf (recAt s p) ∷ viewAt s (past s p) .code
+line-view s p e =
+    let l = is-lined s p e in
+    rw (at-line (record { inside = l .inside; size = refl; whole = l .whole; kind = refl }) (l .noVersion) (l .noBlock))
+
+pub line-none : (s : List ℕ) (p : ℕ) → isLine s p ≡ false → viewAt s p .code ≡ []
+unfolding isLine _and_
+line-none s p = go (ltb p (length s)) (eqb (sizeAt s p) 0) (eqb (kindAt s p) kind.VERSION) (eqb (kindAt s p) kind.BLOCK) refl refl refl refl
+  where
+    go : (a b c d : Bool) → ltb p (length s) ≡ a → eqb (sizeAt s p) 0 ≡ b → eqb (kindAt s p) kind.VERSION ≡ c → eqb (kindAt s p) kind.BLOCK ≡ d → (a and not b and not c and not d) ≡ false → viewAt s p .code ≡ []
+    go false b c d ea eb ec ed e = rw (view-end s p (ltb-false _ _ ea))
+    go true true c d ea eb ec ed e = rw (view-past s p (eqb-true _ _ eb))
+    go true false true d ea eb ec ed e = rw (at-version (record { inside = ltb-true _ _ ea; size = refl; whole = eqb-false _ _ eb; kind = refl }) (eqb-true _ _ ec))
+    go true false false true ea eb ec ed e = rw (at-block (record { inside = ltb-true _ _ ea; size = refl; whole = eqb-false _ _ eb; kind = refl }) (eqb-true _ _ ed))
+    go true false false false ea eb ec ed e = absurd (true≢false e)
+
+pub skip-ahead : (s : List ℕ) (p n q : ℕ) → skipped s p n ≡ At q → (viewAt s q .code ≡ drop n (viewAt s p .code)) × (n ≤ length (viewAt s p .code))
+unfolding skipped
+skip-ahead s p zero q e = let z : p ≡ q = cc in (ap (λ x. viewAt s x .code) (sym z), omega arith)
+skip-ahead s p (suc n) q e = go (isLine s p) refl e (skip-ahead s (past s p) n q)
+  where
+    go : (b : Bool) → isLine s p ≡ b → cond b (skipped s (past s p) n) Nothing ≡ At q → (skipped s (past s p) n ≡ At q → (viewAt s q .code ≡ drop n (viewAt s (past s p) .code)) × (n ≤ length (viewAt s (past s p) .code))) → (viewAt s q .code ≡ drop (suc n) (viewAt s p .code)) × (suc n ≤ length (viewAt s p .code))
+    go true l g ih = let t = ih g in rw (line-view s p l) (t .0, omega (arith, t .1))
+    go false l g ih = let z : _≡_ {A = ℕ} 0 1 = cc in absurd (omega arith)
+
+pub skip-none : (s : List ℕ) (p n : ℕ) → skipped s p n ≡ Nothing → length (viewAt s p .code) < n
+unfolding skipped
+skip-none s p zero e = let z : _≡_ {A = ℕ} 0 1 = cc in absurd (omega arith)
+skip-none s p (suc n) e = go (isLine s p) refl e (skip-none s (past s p) n)
+  where
+    go : (b : Bool) → isLine s p ≡ b → cond b (skipped s (past s p) n) Nothing ≡ Nothing → (skipped s (past s p) n ≡ Nothing → length (viewAt s (past s p) .code) < n) → length (viewAt s p .code) < suc n
+    go true l g ih = rw (line-view s p l) (omega (arith, ih g))
+    go false l g ih = rw (line-none s p l) (omega arith)
+
+-- a skip by the record at p
+pub skip-on : (s : List ℕ) (p n : ℕ) → isLine s p ≡ true → 0 < n → skipped s p n ≡ skipped s (past s p) (n - 1)
+unfolding skipped
+skip-on s p zero l h = absurd (omega arith)
+skip-on s p (suc n) l h = let e : suc n - 1 ≡ n = omega arith in rw (l, e)
+
+pub skip-off : (s : List ℕ) (p n : ℕ) → isLine s p ≡ false → 0 < n → skipped s p n ≡ Nothing
+unfolding skipped
+skip-off s p zero l h = absurd (omega arith)
+skip-off s p (suc n) l h = rw l
+
+pub skip-done : (s : List ℕ) (p n : ℕ) → n ≤ 0 → skipped s p n ≡ At p
+unfolding skipped
+skip-done s p zero h = refl
+skip-done s p (suc n) h = absurd (omega arith)
+
+-- ---- where a machine stands
+
+module _ (P : Program) (S : State) where
+  here-got : (a : Activation) (f : Frame) (W : Version) (B : Block) → at (liveActivations S) (S .depth - 1) ≡ got a → at (liveFrames S) (a .frame) ≡ got f → findVersion P (f .function) (f .version) ≡ some W → getElem? (W .blocks) (a .block) ≡ some B → here P S ≡ got (record { activation = a; frame = f; version = W; block = B })
+  unfolding here _>>=_ orStuck
+  here-got a f W B ea ef ew eb = rw (ea, ef, ew, at-some (W .blocks) (a .block) B eb)
+
+  here-idle : at (liveActivations S) (S .depth - 1) ≡ stuck → here P S ≡ stuck
+  unfolding here _>>=_
+  here-idle ea = rw ea
+
+  here-unframed : (a : Activation) → at (liveActivations S) (S .depth - 1) ≡ got a → at (liveFrames S) (a .frame) ≡ stuck → here P S ≡ stuck
+  unfolding here _>>=_
+  here-unframed a ea ef = rw (ea, ef)
+
+  here-unknown : (a : Activation) (f : Frame) → at (liveActivations S) (S .depth - 1) ≡ got a → at (liveFrames S) (a .frame) ≡ got f → findVersion P (f .function) (f .version) ≡ none → here P S ≡ stuck
+  unfolding here _>>=_ orStuck
+  here-unknown a f ea ef ew = rw (ea, ef, ew)
+
+  here-unblocked : (a : Activation) (f : Frame) (W : Version) → at (liveActivations S) (S .depth - 1) ≡ got a → at (liveFrames S) (a .frame) ≡ got f → findVersion P (f .function) (f .version) ≡ some W → getElem? (W .blocks) (a .block) ≡ none → here P S ≡ stuck
+  unfolding here _>>=_ orStuck
+  here-unblocked a f W ea ef ew eb = rw (ea, ef, ew, at-none (W .blocks) (a .block) eb)
+
+  advance-got : (h : Here) (x : Position) → here P S ≡ got h → positionOf h ≡ x → advance P S ≡ proceed P S h x
+  unfolding advance _>>=_
+  advance-got h x e f = rw (e, f)
+
+  advance-stuck : here P S ≡ stuck → advance P S ≡ stuck
+  unfolding advance _>>=_
+  advance-stuck e = rw e
+
+-- ---- the place in a block
+
+position-at : (ls : List Line) (n : ℕ) (l : Line) (more : List Line) → drop n ls ≡ l ∷ more → position ls n ≡ instruction (l .does)
+unfolding position
+position-at [] zero l more e = let z : _≡_ {A = ℕ} 0 1 = cc in absurd (omega arith)
+position-at [] (suc n) l more e = let z : _≡_ {A = ℕ} 0 1 = cc in absurd (omega arith)
+position-at (x ∷ ls) zero l more e = let z : x ≡ l = cc in ap (λ (y : Line). instruction (y .does)) z
+position-at (x ∷ ls) (suc n) l more e = position-at ls n l more e
+
+position-end : (ls : List Line) (n : ℕ) → length ls ≡ n → position ls n ≡ blockEnd
+unfolding position
+position-end [] zero e = refl
+position-end [] (suc n) e = absurd (omega arith)
+position-end (x ∷ ls) zero e = absurd (omega arith)
+position-end (x ∷ ls) (suc n) e = position-end ls n (omega arith)
+
+position-past : (ls : List Line) (n : ℕ) → length ls < n → position ls n ≡ outside
+unfolding position
+position-past [] zero e = absurd (omega arith)
+position-past [] (suc n) e = refl
+position-past (x ∷ ls) zero e = absurd (omega arith)
+position-past (x ∷ ls) (suc n) e = position-past ls n (omega arith)
+
+-- of the first m instructions, before the m-th, at it, and behind it
+position-taken : (m : ℕ) (ls : List Line) (n : ℕ) → n < m → position (take m ls) n ≡ position ls n
+unfolding position
+position-taken zero ls n h = absurd (not-suc-le-zero h)
+position-taken (suc m) [] n h = refl
+position-taken (suc m) (x ∷ ls) zero h = refl
+position-taken (suc m) (x ∷ ls) (suc n) h = position-taken m ls n (le-of-suc-le-suc h)
+
+position-full : (m : ℕ) (ls : List Line) (n : ℕ) → n ≡ m → m ≤ length ls → position (take m ls) n ≡ blockEnd
+unfolding position
+position-full zero [] n e h = position-end [] n (sym e)
+position-full zero (x ∷ ls) n e h = position-end [] n (sym e)
+position-full (suc m) [] n e h = absurd (not-suc-le-zero h)
+position-full (suc m) (x ∷ ls) zero e h = absurd (omega arith)
+position-full (suc m) (x ∷ ls) (suc n) e h = position-full m ls n (omega arith) (le-of-suc-le-suc h)
+
+position-over : (m : ℕ) (ls : List Line) (n : ℕ) → m < n → position (take m ls) n ≡ outside
+unfolding position
+position-over zero [] n h = position-past [] n h
+position-over zero (x ∷ ls) n h = position-past [] n h
+position-over (suc m) [] n h = position-past [] n (omega arith)
+position-over (suc m) (x ∷ ls) zero h = absurd (omega arith)
+position-over (suc m) (x ∷ ls) (suc n) h = position-over m ls n (le-of-suc-le-suc h)
+
+position-short : (m : ℕ) (ls : List Line) (n : ℕ) → length ls < n → position (take m ls) n ≡ outside
+unfolding position
+position-short zero [] n h = position-past [] n h
+position-short zero (x ∷ ls) n h = position-past [] n (omega arith)
+position-short (suc m) [] n h = position-past [] n h
+position-short (suc m) (x ∷ ls) zero h = absurd (omega arith)
+position-short (suc m) (x ∷ ls) (suc n) h = position-short m ls n (le-of-suc-le-suc h)
+
+-- ---- a run by its frame
+
+-- the activation on top is of the live frame k
+record Framed (M : Memory) (k : ℕ) : Type 0 where
+  begun : 0 < M .depth
+  shallow : M .depth ≤ 32
+  framed : k ≡ topOf M 3
+  live : k < M .calls
+  few : k < 32
+
+-- the activation on top, the frame k, and where they stand in the program
+abbrev topIn : Memory → Activation
+topIn M = activationIn (M .stack) (M .depth - 1)
+
+abbrev framedIn : Memory → ℕ → Frame
+framedIn M k = frameIn (M .owners) (M .codes) (M .numbers) k
+
+abbrev hereAt : List ℕ → Memory → ℕ → ℕ → ℕ → Here
+hereAt s M k v b = record { activation = topIn M; frame = framedIn M k; version = versionAt s v; block = blockAt s b }
+
+abbrev VersionIs : List ℕ → Memory → ℕ → ℕ → Type 0
+VersionIs s M k v = findVersion (programOf s) (M .owners ! (2 * k)) (M .owners ! (2 * k + 1)) ≡ some (versionAt s v)
+
+top-there : (M : Memory) → 0 < M .depth → M .depth ≤ 32 → at (liveActivations (stateOf M)) (stateOf M .depth - 1) ≡ got (topIn M)
+unfolding stateOf
+top-there M h g = top-read M h g
+
+module _ {M : Memory} {k : ℕ} (q : Framed M k) where
+  frame-there : at (liveFrames (stateOf M)) (topIn M .frame) ≡ got (framedIn M k)
+  unfolding activationIn topOf
+  frame-there = ap (λ x. at (liveFrames (stateOf M)) x) (sym (q .framed)) ∙ frame-read M k (q .live) (q .few)
+
+  reaches : (s : List ℕ) (v b : ℕ) → VersionIs s M k v → getElem? (versionAt s v .blocks) (topOf M 4) ≡ some (blockAt s b) → here (programOf s) (stateOf M) ≡ got (hereAt s M k v b)
+  unfolding activationIn frameIn topOf
+  reaches s v b ev eb = here-got (programOf s) (stateOf M) (topIn M) (framedIn M k) (versionAt s v) (blockAt s b) (top-there M (q .begun) (q .shallow)) frame-there ev eb
+
+-- ---- stuck: no activation, no frame, no version, no block, no place in it
+
+module _ (s : List ℕ) (M : Memory) where
+  pub stuck-idle : M .depth ≡ 0 → advance (programOf s) (stateOf M) ≡ stuck
+  unfolding stateOf
+  stuck-idle h = advance-stuck (programOf s) (stateOf M) (here-idle (programOf s) (stateOf M) (top-none M h))
+
+  pub stuck-deep : 32 < M .depth → advance (programOf s) (stateOf M) ≡ stuck
+  unfolding stateOf
+  stuck-deep h = advance-stuck (programOf s) (stateOf M) (here-idle (programOf s) (stateOf M) (top-far M h))
+
+  module _ (begun : 0 < M .depth) (shallow : M .depth ≤ 32) where
+    pub stuck-dead : M .calls ≤ topOf M 3 → advance (programOf s) (stateOf M) ≡ stuck
+    unfolding activationIn topOf
+    stuck-dead h = advance-stuck (programOf s) (stateOf M) (here-unframed (programOf s) (stateOf M) (topIn M) (top-there M begun shallow) (frame-dead M (topIn M .frame) h))
+
+    pub stuck-unframed : 32 ≤ topOf M 3 → advance (programOf s) (stateOf M) ≡ stuck
+    unfolding activationIn topOf
+    stuck-unframed h = advance-stuck (programOf s) (stateOf M) (here-unframed (programOf s) (stateOf M) (topIn M) (top-there M begun shallow) (frame-none M (topIn M .frame) h))
+
+    module _ (k : ℕ) (framed : k ≡ topOf M 3) (live : k < M .calls) (few : k < 32) where
+      in-frame : Framed M k
+      in-frame = record { begun = begun; shallow = shallow; framed = framed; live = live; few = few }
+
+      pub stuck-unknown : findVersion (programOf s) (M .owners ! (2 * k)) (M .owners ! (2 * k + 1)) ≡ none → advance (programOf s) (stateOf M) ≡ stuck
+      unfolding frameIn
+      stuck-unknown e = advance-stuck (programOf s) (stateOf M) (here-unknown (programOf s) (stateOf M) (topIn M) (framedIn M k) (top-there M begun shallow) (frame-there in-frame) e)
+
+      module _ (v : ℕ) (versioned : VersionIs s M k v) where
+        pub stuck-unblocked : getElem? (versionAt s v .blocks) (topOf M 4) ≡ none → advance (programOf s) (stateOf M) ≡ stuck
+        unfolding activationIn frameIn topOf
+        stuck-unblocked e = advance-stuck (programOf s) (stateOf M) (here-unblocked (programOf s) (stateOf M) (topIn M) (framedIn M k) (versionAt s v) (top-there M begun shallow) (frame-there in-frame) versioned e)
+
+        module _ (b : ℕ) (blocked : getElem? (versionAt s v .blocks) (topOf M 4) ≡ some (blockAt s b)) where
+          pub stuck-over : 48 < topOf M 5 → advance (programOf s) (stateOf M) ≡ stuck
+          unfolding positionOf activationIn topOf proceed
+          stuck-over h = advance-got (programOf s) (stateOf M) (hereAt s M k v b) outside (reaches in-frame s v b versioned blocked) (position-over 48 (blockAt s b .code) (topIn M .next) h)
+
+          pub stuck-short : length (blockAt s b .code) < topOf M 5 → advance (programOf s) (stateOf M) ≡ stuck
+          unfolding positionOf activationIn topOf proceed
+          stuck-short h = advance-got (programOf s) (stateOf M) (hereAt s M k v b) outside (reaches in-frame s v b versioned blocked) (position-short 48 (blockAt s b .code) (topIn M .next) h)
+
+-- ---- a run at an instruction or at a block end
+
+module _ (s : List ℕ) (M : Memory) (p : Spot) (q : Standing s M p) where
+  stands-framed : Framed M (p .frame)
+  stands-framed = record { begun = q .begun; shallow = q .shallow; framed = q .framed; live = q .live; few = q .few }
+
+  pub stands-here : here (programOf s) (stateOf M) ≡ got (record { activation = activationIn (M .stack) (M .depth - 1); frame = frameIn (M .owners) (M .codes) (M .numbers) (p .frame); version = versionAt s (p .version); block = blockAt s (p .block) })
+  stands-here = reaches stands-framed s (p .version) (p .block) (q .versioned) (q .blocked)
+
+  -- its place in its block
+  stands-at : (x : Position) → position (take 48 (blockAt s (p .block) .code)) (p .next) ≡ x → advance (programOf s) (stateOf M) ≡ proceed (programOf s) (stateOf M) (record { activation = activationIn (M .stack) (M .depth - 1); frame = frameIn (M .owners) (M .codes) (M .numbers) (p .frame); version = versionAt s (p .version); block = blockAt s (p .block) }) x
+  unfolding positionOf activationIn topOf
+  stands-at x e = advance-got (programOf s) (stateOf M) _ x stands-here (ap (position (take 48 (blockAt s (p .block) .code))) (sym (q .nexted)) ∙ e)
+
+  pub at-instruction : p .next < 48 → isLine s (p .at) ≡ true → advance (programOf s) (stateOf M) ≡ execute (programOf s) (passed (stateOf M) (activationIn (M .stack) (M .depth - 1))) (p .frame) (frameIn (M .owners) (M .codes) (M .numbers) (p .frame)) (versionAt s (p .version)) (instrAt s (p .at))
+  unfolding proceed activationIn topOf instrAt
+  at-instruction h l =
+      stands-at (instruction (instrAt s (p .at))) (position-taken 48 _ (p .next) h ∙ position-at _ (p .next) (lineOf (recAt s (p .at))) (viewAt s (past s (p .at)) .code) (sym (q .ahead) ∙ line-view s (p .at) l))
+      ∙ ap (λ k. execute (programOf s) (passed (stateOf M) (activationIn (M .stack) (M .depth - 1))) k (frameIn (M .owners) (M .codes) (M .numbers) (p .frame)) (versionAt s (p .version)) (instrAt s (p .at))) (sym (q .framed))
+
+  pub at-end-full : 48 ≤ p .next → advance (programOf s) (stateOf M) ≡ (value (frameIn (M .owners) (M .codes) (M .numbers) (p .frame)) (blockAt s (p .block) .result) >>= λ (v : Value). finish (programOf s) (stateOf M) (activationIn (M .stack) (M .depth - 1)) (versionAt s (p .version)) v (activationIn (M .stack) (M .depth - 1) .opener))
+  unfolding proceed
+  at-end-full h = let e : p .next ≡ 48 = omega (arith, q .short) in stands-at blockEnd (position-full 48 (blockAt s (p .block) .code) (p .next) e (omega (arith, q .inside)))
+
+  -- no instruction is left
+  code-done : isLine s (p .at) ≡ false → length (blockAt s (p .block) .code) ≡ p .next
+  code-done l =
+      let e = ap length (sym (line-none s (p .at) l) ∙ q .ahead) ∙ length-drop (p .next) (blockAt s (p .block) .code) in
+      omega (arith, e, q .inside)
+
+  pub at-end-short : isLine s (p .at) ≡ false → advance (programOf s) (stateOf M) ≡ (value (frameIn (M .owners) (M .codes) (M .numbers) (p .frame)) (blockAt s (p .block) .result) >>= λ (v : Value). finish (programOf s) (stateOf M) (activationIn (M .stack) (M .depth - 1)) (versionAt s (p .version)) v (activationIn (M .stack) (M .depth - 1) .opener))
+  unfolding proceed
+  at-end-short l =
+      let e = code-done l in
+      stands-at blockEnd (ap (λ ls. position ls (p .next)) (take-all 48 (blockAt s (p .block) .code) (omega (arith, e, q .short))) ∙ position-end _ (p .next) e)
+
+-- ---- from one memory to another
+
+-- what it stands on is the owners, the calls, the stack and the depth
+pub standing-same : (s : List ℕ) (M N : Memory) (p : Spot) → Standing s M p → N .owners ≡ M .owners → N .calls ≡ M .calls → N .stack ≡ M .stack → N .depth ≡ M .depth → Standing s N p
+unfolding topOf
+standing-same s M N p q eo ec es ed = record {
+  begun = rw ed (q .begun);
+  shallow = rw ed (q .shallow);
+  framed = rw (es, ed) (q .framed);
+  live = rw ec (q .live);
+  few = q .few;
+  versioned = rw eo (q .versioned);
+  blocked = rw (es, ed) (q .blocked);
+  nexted = rw (es, ed) (q .nexted);
+  short = q .short;
+  inside = q .inside;
+  ahead = q .ahead;
+}
+
+module _ (s : List ℕ) (M N : Memory) (p : Spot) (q : Standing s M p) (below : p .next < 48) (line : isLine s (p .at) ≡ true) where
+  code-left : p .next < length (blockAt s (p .block) .code)
+  code-left =
+      let e = ap length (sym (line-view s (p .at) line) ∙ q .ahead) ∙ length-drop (p .next) (blockAt s (p .block) .code) in
+      omega (arith, e)
+
+  code-past : viewAt s (past s (p .at)) .code ≡ drop (p .next + 1) (blockAt s (p .block) .code)
+  code-past = ap (drop 1) (sym (line-view s (p .at) line) ∙ q .ahead) ∙ drop-drop 1 (p .next) (blockAt s (p .block) .code)
+
+  -- behind the instruction, where the stack says so
+  pub next-line : length (M .stack) ≡ 192 → N .owners ≡ M .owners → N .calls ≡ M .calls → N .depth ≡ M .depth → N .stack ≡ set (M .stack) (6 * (M .depth - 1) + 5) (p .next + 1) → Standing s N (record { calls = p .calls; depth = p .depth; here = true; frame = p .frame; version = p .version; block = p .block; at = past s (p .at); next = p .next + 1 })
+  unfolding topOf
+  next-line sized eo ec ed es =
+      let deep : M .depth ≤ 32 = q .shallow in
+      let first : 0 < M .depth = q .begun in
+      record {
+        begun = rw ed (q .begun);
+        shallow = rw ed (q .shallow);
+        framed = rw (es, ed, getD-set-other (M .stack) (6 * (M .depth - 1) + 5) (6 * (M .depth - 1) + 3) (p .next + 1) 0 (λ e. omega arith)) (q .framed);
+        live = rw ec (q .live);
+        few = q .few;
+        versioned = rw eo (q .versioned);
+        blocked = rw (es, ed, getD-set-other (M .stack) (6 * (M .depth - 1) + 5) (6 * (M .depth - 1) + 4) (p .next + 1) 0 (λ e. omega arith)) (q .blocked);
+        nexted = rw (es, ed, getD-set-same (M .stack) (6 * (M .depth - 1) + 5) (p .next + 1) 0 (omega arith));
+        short = omega arith;
+        inside = omega (arith, code-left);
+        ahead = code-past;
+      }

@@ -1,0 +1,65 @@
+-- Where a run stands in its image, by offsets.
+use mathlib.Core.List.{List}
+use mathlib.Core.Path.{_≡_}
+use mathlib.Core.Option.{some}
+use mathlib.Core.Bool.{Bool, true, false, cond, not}
+use Prim.Native.Nat.{ℕ, zero, suc, _+_, _-_, _*_, _<_, _≤_}
+use lib.ListN.{length, getElem?, drop}
+use lib.Dec.{eqb, ltb}
+use Rattle.layout.specs.Kinds as kind
+use Rattle.layout.specs.Records.{_!_, sizeAt, kindAt}
+use Rattle.layout.specs.Tests.{_and_}
+use Rattle.layout.specs.declared.Found.{Found}
+use Rattle.layout.specs.declared.Found.the-variants.{Nothing, At}
+use Rattle.program.specs.Places.{blockAt, past, versionAt, viewAt}
+use Rattle.program.specs.Program.{findVersion}
+use Rattle.machine.specs.Begin.{programOf}
+use Rattle.machine.specs.Steps.{advance}
+use Rattle.machine.specs.Try.{stuck}
+use Rattle.memory.specs.Memory.{Memory, stateOf}
+use Rattle.memory.specs.Parts.{withOpen}
+use Rattle.places.specs.declared.Spot.{Spot}
+
+-- an instruction's record stands at p
+unfoldable pub isLine : List ℕ → ℕ → Bool
+isLine s p = ltb p (length s) and not (eqb (sizeAt s p) 0) and not (eqb (kindAt s p) kind.VERSION) and not (eqb (kindAt s p) kind.BLOCK)
+
+-- where n instructions from p on end
+unfoldable pub skipped : List ℕ → ℕ → ℕ → Found
+skipped s p zero = At p
+skipped s p (suc n) = cond (isLine s p) (skipped s (past s p) n) Nothing
+
+-- a number of the activation on top: 3 its frame, 4 its block, 5 its next instruction
+unfoldable pub topOf : Memory → ℕ → ℕ
+topOf M i = M .stack ! (6 * (M .depth - 1) + i)
+
+-- a run at an instruction or at a block end: its frame, and the offsets of its version, its block and what is next in it
+pub record Standing (s : List ℕ) (M : Memory) (p : Spot) : Type 0 where
+  pub begun : 0 < M .depth
+  pub shallow : M .depth ≤ 32
+  pub framed : p .frame ≡ topOf M 3
+  pub live : p .frame < M .calls
+  pub few : p .frame < 32
+  pub versioned : findVersion (programOf s) (M .owners ! (2 * p .frame)) (M .owners ! (2 * p .frame + 1)) ≡ some (versionAt s (p .version))
+  pub blocked : getElem? (versionAt s (p .version) .blocks) (topOf M 4) ≡ some (blockAt s (p .block))
+  pub nexted : p .next ≡ topOf M 5
+  pub short : p .next ≤ 48
+  pub inside : p .next ≤ length (blockAt s (p .block) .code)
+  pub ahead : viewAt s (p .at) .code ≡ drop (p .next) (blockAt s (p .block) .code)
+
+-- where it is at neither, the next step is stuck
+unfoldable pub Stands : List ℕ → Memory → Spot → Bool → Type 0
+Stands s M p true = Standing s M p
+Stands s M p false = advance (programOf s) (stateOf M) ≡ stuck
+
+pub record Spotted (s : List ℕ) (M : Memory) (p : Spot) : Type 0 where
+  pub calls : p .calls ≡ M .calls
+  pub depth : p .depth ≡ M .depth
+  pub stands : Stands s M p (p .here)
+
+-- whatever else the memory holds
+unfoldable pub Located : List ℕ → List ℕ → ℕ → List ℕ → ℕ → Spot → Type 0
+Located s owners calls stack depth p = (M : Memory) → Spotted s (withOpen M owners calls stack depth) p
+
+unfoldable pub nowhere : ℕ → ℕ → Spot
+nowhere calls depth = record { calls = calls; depth = depth; here = false; frame = 0; version = 0; block = 0; at = 0; next = 0 }

@@ -1,0 +1,4 @@
+pub mod Operands
+pub mod Naming
+pub mod Forcing
+pub mod Making

@@ -1,0 +1,8 @@
+pub mod Counting
+pub mod Operands
+pub mod Feeding
+pub mod Freeing
+pub mod Replacing
+pub mod Renewing
+pub mod Listed
+pub mod Making

@@ -1,0 +1,25 @@
+use mathlib.Core.Path.{refl}
+use borrow.Author.Tests.{lt-ltb, le-ltb}
+use Rattle.memory.specs.Parts.{liveCells}
+use borrow.Author.Needs.{needs}
+use Rattle.vectors.proofs.live_cells.Statement.{statement}
+use Rattle.vectors.proofs.live_cells.Tie as tie
+use Rattle.vectors.proofs.live_cells.Reads as reads
+use Rattle.vectors.proofs.live_cells.Lts as lts
+
+-- src/lib.rt:38:16
+mul-result : tie.Need-mul-result
+mul-result c = search needs
+
+-- src/lib.rt:38:9
+returns : tie.Need-returns
+unfolding liveCells
+returns c = (rw (lt-ltb _ 32 (c .if1 .taken)) refl, search needs)
+
+-- src/lib.rt:34:1
+returns-2 : tie.Need-returns-2
+unfolding liveCells
+returns-2 c = (rw (le-ltb _ 32 (c .if1 .left)) refl, search needs)
+
+pub live-cells-spec : {M : Type 1} → statement M
+live-cells-spec = tie.close (tie.spec mul-result returns returns-2)
