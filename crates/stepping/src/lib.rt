@@ -1,0 +1,250 @@
+//! Steps of a run over flat arrays, under a budget.
+ghost use mathlib.Core.Path.{_≡_};
+ghost use mathlib.Core.Bool.{true};
+ghost use Prim.Native.Nat.{_<_, _≤_};
+ghost use lib.Dec.{ltb};
+ghost use Rattle.layout.specs.Tests.{_and_};
+ghost use Rattle.places.specs.Standing.{isLine};
+ghost use Rattle.machine.specs.Runs.{lastStep};
+ghost use Rattle.program.specs.Places.{tableOf};
+ghost use Rattle.memory.specs.Memory.{memoryOf};
+ghost use Rattle.stepping.specs.Going.{Ready, Steps, Goes, closedOf};
+use ends::Closed;
+use instructions::Turn;
+use machine::End;
+use places::Spot;
+
+/// So many steps: the last turn, the live calls and activations after it, and how many are counted.
+pub struct Counted {
+    pub turn: Turn,
+    pub calls: usize,
+    pub depth: usize,
+    pub steps: u32,
+}
+
+/// The steps that an end adds: DEEP, VECTORS and PROMISES add none.
+fn last_step(e: End) -> u32
+    ensures { λ r. ⌜ (r ≡ lastStep e) × (r ≤ 1) ⌝ }
+{
+    match e {
+        End::Integer(_) => 1,
+        End::Vector(_) => 1,
+        End::Undef => 1,
+        End::Deep => 0,
+        End::Vectors => 0,
+        End::Promises => 0,
+    }
+}
+
+/// Is an instruction next, the one of that number in its block?
+fn is_next(image: &[u8], at: usize, next: usize) -> bool
+    ensures { λ r. ⌜ r ≡ (ltb next 48 and isLine (now (image .entry)) at) ⌝ }
+{
+    if next < 48 {
+        places::is_line(image, at)
+    } else {
+        false
+    }
+}
+
+/// The end of a block as a turn.
+fn closed(end: Closed, depth: usize) -> Turn
+    requires { ⌜ 0 < depth ⌝ }
+    ensures { λ r. ⌜ r ≡ closedOf end depth ⌝ }
+{
+    match end {
+        Closed::Back(n) => Turn::Stack(n, depth - 1),
+        Closed::Integer(z) => Turn::Integer(z),
+        Closed::Vector(v) => Turn::Vector(v),
+        Closed::Stuck => Turn::Stuck,
+    }
+}
+
+/// The instruction that the spot stands at. The activation on top is put behind it first, and back where nothing was done.
+fn line(
+    image: &[u8],
+    table: &[usize; 128],
+    owners: &mut [u8; 64],
+    codes: &mut [u16; 768],
+    numbers: &mut [i32; 768],
+    stack: &mut [u8; 192],
+    lengths: &mut [u8; 64],
+    items: &mut [i32; 1024],
+    promises: &mut [u8; 192],
+    caches: &mut [i32; 64],
+    spot: Spot,
+) -> Turn
+    requires { ⌜ (now table ≡ tableOf (now image)) × Ready (now image) (memoryOf (now owners) (now codes) (now numbers) (now stack) (now lengths) (now items) (now promises) (now caches)) spot × (spot .here ≡ true) × (spot .next < 48) × (isLine (now image) (spot .at) ≡ true) ⌝ }
+    ensures { λ r. ⌜ Steps (now (image .entry)) r (memoryOf (now (owners .entry)) (now (codes .entry)) (now (numbers .entry)) (now (stack .entry)) (now (lengths .entry)) (now (items .entry)) (now (promises .entry)) (now (caches .entry))) (memoryOf (now (owners .exit)) (now (codes .exit)) (now (numbers .exit)) (now (stack .exit)) (now (lengths .exit)) (now (items .exit)) (now (promises .exit)) (now (caches .exit))) spot ⌝ }
+{
+    let i = 6 * (spot.depth - 1) + 5;
+    let n = spot.next as u8;
+    stack[i] = n + 1;
+    match instructions::instruct(
+        image,
+        table,
+        owners,
+        codes,
+        numbers,
+        stack,
+        lengths,
+        items,
+        promises,
+        caches,
+        spot.calls,
+        spot.depth,
+        spot.frame,
+        spot.version,
+        spot.at,
+    ) {
+        Turn::On => Turn::On,
+        Turn::Stack(calls, depth) => Turn::Stack(calls, depth),
+        Turn::Integer(z) => Turn::Integer(z),
+        Turn::Vector(v) => Turn::Vector(v),
+        Turn::Stuck => {
+            stack[i] = n;
+            Turn::Stuck
+        }
+        Turn::Stop(e) => {
+            stack[i] = n;
+            Turn::Stop(e)
+        }
+    }
+}
+
+/// One step of a run that stands at the spot. The loop's own part: what it requires is what the loop keeps.
+pub fn step(
+    image: &[u8],
+    table: &[usize; 128],
+    owners: &mut [u8; 64],
+    codes: &mut [u16; 768],
+    numbers: &mut [i32; 768],
+    stack: &mut [u8; 192],
+    lengths: &mut [u8; 64],
+    items: &mut [i32; 1024],
+    promises: &mut [u8; 192],
+    caches: &mut [i32; 64],
+    spot: Spot,
+) -> Turn
+    requires { ⌜ (now table ≡ tableOf (now image)) × Ready (now image) (memoryOf (now owners) (now codes) (now numbers) (now stack) (now lengths) (now items) (now promises) (now caches)) spot ⌝ }
+    ensures { λ r. ⌜ Steps (now (image .entry)) r (memoryOf (now (owners .entry)) (now (codes .entry)) (now (numbers .entry)) (now (stack .entry)) (now (lengths .entry)) (now (items .entry)) (now (promises .entry)) (now (caches .entry))) (memoryOf (now (owners .exit)) (now (codes .exit)) (now (numbers .exit)) (now (stack .exit)) (now (lengths .exit)) (now (items .exit)) (now (promises .exit)) (now (caches .exit))) spot ⌝ }
+{
+    let here = spot.here;
+    if !here {
+        return Turn::Stuck;
+    }
+    if is_next(image, spot.at, spot.next) {
+        return line(
+            image,
+            table,
+            owners,
+            codes,
+            numbers,
+            stack,
+            lengths,
+            items,
+            promises,
+            caches,
+            spot,
+        );
+    }
+    let end = ends::finish(
+        image,
+        table,
+        owners,
+        codes,
+        numbers,
+        stack,
+        lengths,
+        items,
+        promises,
+        caches,
+        spot,
+    );
+    closed(end, spot.depth)
+}
+
+/// Steps from the spot on, at most `budget`.
+pub fn go(
+    image: &[u8],
+    table: &[usize; 128],
+    owners: &mut [u8; 64],
+    codes: &mut [u16; 768],
+    numbers: &mut [i32; 768],
+    stack: &mut [u8; 192],
+    lengths: &mut [u8; 64],
+    items: &mut [i32; 1024],
+    promises: &mut [u8; 192],
+    caches: &mut [i32; 64],
+    from: Spot,
+    budget: u32,
+) -> Counted
+    requires { ⌜ (now table ≡ tableOf (now image)) × Ready (now image) (memoryOf (now owners) (now codes) (now numbers) (now stack) (now lengths) (now items) (now promises) (now caches)) from ⌝ }
+    ensures { λ r. ⌜ Goes (now (image .entry)) r (memoryOf (now (owners .entry)) (now (codes .entry)) (now (numbers .entry)) (now (stack .entry)) (now (lengths .entry)) (now (items .entry)) (now (promises .entry)) (now (caches .entry))) (memoryOf (now (owners .exit)) (now (codes .exit)) (now (numbers .exit)) (now (stack .exit)) (now (lengths .exit)) (now (items .exit)) (now (promises .exit)) (now (caches .exit))) from budget ⌝ }
+{
+    let mut spot = from;
+    let mut n: u32 = 0;
+    while n < budget {
+        match step(
+            image,
+            table,
+            owners,
+            codes,
+            numbers,
+            stack,
+            lengths,
+            items,
+            promises,
+            caches,
+            spot,
+        ) {
+            Turn::On => {
+                spot.at = spot.at + layout::size_at(image, spot.at);
+                spot.next = spot.next + 1;
+                n += 1;
+            }
+            Turn::Stack(calls, depth) => {
+                spot = places::locate(image, table, owners, stack, calls, depth);
+                n += 1;
+            }
+            Turn::Integer(z) => {
+                return Counted {
+                    turn: Turn::Integer(z),
+                    calls: spot.calls,
+                    depth: spot.depth,
+                    steps: n + 1,
+                };
+            }
+            Turn::Vector(v) => {
+                return Counted {
+                    turn: Turn::Vector(v),
+                    calls: spot.calls,
+                    depth: spot.depth,
+                    steps: n + 1,
+                };
+            }
+            Turn::Stuck => {
+                return Counted {
+                    turn: Turn::Stuck,
+                    calls: spot.calls,
+                    depth: spot.depth,
+                    steps: n,
+                };
+            }
+            Turn::Stop(e) => {
+                return Counted {
+                    turn: Turn::Stop(e),
+                    calls: spot.calls,
+                    depth: spot.depth,
+                    steps: n + last_step(e),
+                };
+            }
+        }
+    }
+    Counted {
+        turn: Turn::On,
+        calls: spot.calls,
+        depth: spot.depth,
+        steps: n,
+    }
+}
