@@ -90,7 +90,7 @@ fn load_activation(activation: Activation, i: usize, stack: &mut [u8; 192])
 
 /// Loads the activations of a state.
 pub fn load_activations(activations: [Activation; 32], stack: &mut [u8; 192])
-    ensures { λ _. ⌜ upTo (activationIn (now (stack .exit))) 0 32 ≡ activations ⌝ }
+    ensures { λ _. ⌜ (upTo (activationIn (now (stack .exit))) 0 32 ≡ activations) × (length (now (stack .exit)) ≡ 192) ⌝ }
 {
     *stack = [0; 192];
     let mut i: usize = 0;
@@ -170,7 +170,7 @@ fn load_promise(promise: Promise, p: usize, flags: &mut [u8; 192], caches: &mut 
 
 /// Loads the promises of a state.
 pub fn load_promises(promises: [Promise; 64], flags: &mut [u8; 192], caches: &mut [i32; 64])
-    ensures { λ _. ⌜ upTo (promiseIn (now (flags .exit)) (now (caches .exit))) 0 64 ≡ promises ⌝ }
+    ensures { λ _. ⌜ (upTo (promiseIn (now (flags .exit)) (now (caches .exit))) 0 64 ≡ promises) × (length (now (flags .exit)) ≡ 192) × (length (now (caches .exit)) ≡ 64) ⌝ }
 {
     *flags = [0; 192];
     *caches = [0; 64];
@@ -247,7 +247,7 @@ fn load_vector(vector: Vector, v: usize, lengths: &mut [u8; 64], items: &mut [i3
 
 /// Loads the vectors of a state.
 pub fn load_vectors(vectors: [Vector; 64], lengths: &mut [u8; 64], items: &mut [i32; 1024])
-    ensures { λ _. ⌜ upTo (vectorIn (now (lengths .exit)) (now (items .exit))) 0 64 ≡ vectors ⌝ }
+    ensures { λ _. ⌜ (upTo (vectorIn (now (lengths .exit)) (now (items .exit))) 0 64 ≡ vectors) × (length (now (lengths .exit)) ≡ 64) × (length (now (items .exit)) ≡ 1024) ⌝ }
 {
     *lengths = [0; 64];
     *items = [0; 1024];
@@ -429,7 +429,7 @@ pub fn load_frames(
     codes: &mut [u16; 768],
     numbers: &mut [i32; 768],
 )
-    ensures { λ _. ⌜ upTo (frameIn (now (owners .exit)) (now (codes .exit)) (now (numbers .exit))) 0 32 ≡ frames ⌝ }
+    ensures { λ _. ⌜ (upTo (frameIn (now (owners .exit)) (now (codes .exit)) (now (numbers .exit))) 0 32 ≡ frames) × (length (now (owners .exit)) ≡ 64) × (length (now (codes .exit)) ≡ 768) × (length (now (numbers .exit)) ≡ 768) ⌝ }
 {
     *owners = [0; 64];
     *codes = [0; 768];

@@ -24,7 +24,7 @@ use Rattle.memory.specs.Parts.{withOpen}
 use Rattle.places.specs.Standing.{Located, Spotted}
 use Rattle.places.specs.declared.Spot.{Spot}
 use Rattle.instructions.specs.declared.Turn.{Turn}
-use Rattle.stepping.specs.Going.{Advanced, Goes, Ready, Steps, nextSpot, ranOf}
+use Rattle.stepping.specs.Going.{Advanced, Goes, Placed, Ready, Steps, nextSpot, ranOf}
 
 -- a budget that is left has a step
 left : (budget n : ℕ) → n < budget → budget - n ≡ suc (budget - (n + 1))
@@ -73,7 +73,7 @@ pub record Going (s : List ℕ) (budget : ℕ) (M : List ℤ → ℕ → ℕ →
   pub ready : Ready s N q
   pub same : (R : List ℤ) → runFrom (programOf s) (budget - n) (stateOf (N R (q .calls) (q .depth))) n ≡ runFrom (programOf s) budget (stateOf (M R (p .calls) (p .depth))) 0
 
-at-numbers : (s : List ℕ) (N : ℕ → ℕ → Memory) (c d : ℕ) (q : Spot) (x y : ℕ) → x ≡ c → y ≡ d → Long (N c d) × Spotted s (N c d) q → Long (N x y) × Spotted s (N x y) q
+pub at-numbers : (s : List ℕ) (N : ℕ → ℕ → Memory) (c d : ℕ) (q : Spot) (x y : ℕ) → x ≡ c → y ≡ d → Long (N c d) × Spotted s (N c d) q → Long (N x y) × Spotted s (N x y) q
 at-numbers s N c d q x y e f t = rw (e, f) t
 
 module _ (s : List ℕ) (budget : ℕ) (M : List ℤ → ℕ → ℕ → Memory) (p : Spot) where
@@ -94,7 +94,7 @@ module _ (s : List ℕ) (budget : ℕ) (M : List ℤ → ℕ → ℕ → Memory)
 
     -- in another activation
     pub going-stack : (N′ : List ℤ → ℕ → ℕ → Memory) (c d : ℕ) (q′ : Spot) → Steps s (Turn.Stack c d) N N′ q → ((R : List ℤ) → Spotted s (N′ R c d) q′) → ((R : List ℤ) → (N′ R c d .calls ≡ c) × (N′ R c d .depth ≡ d)) → Going s budget M p N′ q′ (n + 1)
-    unfolding Steps Advanced
+    unfolding Steps Advanced Placed
     going-stack N′ c d q′ t spotted counted = record {
       within = omega (arith, h);
       ready = record {
@@ -110,23 +110,24 @@ module _ (s : List ℕ) (budget : ℕ) (M : List ℤ → ℕ → ℕ → Memory)
     going-located owners codes numbers stack lengths items promises caches c d q′ t l = going-stack (memoryOf owners codes numbers stack lengths items promises caches) c d q′ t (λ R. l (memoryOf owners codes numbers stack lengths items promises caches R c d)) (λ R. (refl, refl))
 
     pub going-stuck : (N′ : List ℤ → ℕ → ℕ → Memory) → Steps s Turn.Stuck N N′ q → Goes s (record { turn = Turn.Stuck; calls = q .calls; depth = q .depth; steps = n }) M N′ p budget
-    unfolding Steps Advanced
-    going-stuck N′ t = record { calls = g .ready .calls; depth = g .ready .depth; ran = λ R. rw (t R .1) (sym (turn-stuck (programOf s) (N R (q .calls) (q .depth)) budget n h (t R .0)) ∙ g .same R) }
+    unfolding Steps Advanced Placed
+    going-stuck N′ t = record { calls = g .ready .calls; depth = g .ready .depth; placed = tt; ran = λ R. rw (t R .1) (sym (turn-stuck (programOf s) (N R (q .calls) (q .depth)) budget n h (t R .0)) ∙ g .same R) }
 
     pub going-stop : (N′ : List ℤ → ℕ → ℕ → Memory) (x : End) → Steps s (Turn.Stop x) N N′ q → Goes s (record { turn = Turn.Stop x; calls = q .calls; depth = q .depth; steps = n + lastStep x }) M N′ p budget
-    unfolding Steps Advanced
-    going-stop N′ x t = record { calls = g .ready .calls; depth = g .ready .depth; ran = λ R. rw (t R .1) (sym (turn-stop (programOf s) (N R (q .calls) (q .depth)) budget n h x (t R .0)) ∙ g .same R) }
+    unfolding Steps Advanced Placed
+    going-stop N′ x t = record { calls = g .ready .calls; depth = g .ready .depth; placed = tt; ran = λ R. rw (t R .1) (sym (turn-stop (programOf s) (N R (q .calls) (q .depth)) budget n h x (t R .0)) ∙ g .same R) }
 
     pub going-integer : (N′ : List ℤ → ℕ → ℕ → Memory) (z : ℤ) → Steps s (Turn.Integer z) N N′ q → Goes s (record { turn = Turn.Integer z; calls = q .calls; depth = q .depth; steps = n + 1 }) M N′ p budget
-    unfolding Steps Advanced
-    going-integer N′ z t = record { calls = g .ready .calls; depth = g .ready .depth; ran = λ R. rw (t R .1) (sym (turn-integer (programOf s) (N R (q .calls) (q .depth)) budget n h z (t R .0)) ∙ g .same R) }
+    unfolding Steps Advanced Placed
+    going-integer N′ z t = record { calls = g .ready .calls; depth = g .ready .depth; placed = tt; ran = λ R. rw (t R .1) (sym (turn-integer (programOf s) (N R (q .calls) (q .depth)) budget n h z (t R .0)) ∙ g .same R) }
 
     pub going-vector : (N′ : List ℤ → ℕ → ℕ → Memory) (v : ℕ) → Steps s (Turn.Vector v) N N′ q → Goes s (record { turn = Turn.Vector v; calls = q .calls; depth = q .depth; steps = n + 1 }) M N′ p budget
-    unfolding Steps Advanced
-    going-vector N′ v t = record { calls = g .ready .calls; depth = g .ready .depth; ran = λ R. rw (t R .2) (sym (turn-vector (programOf s) (N R (q .calls) (q .depth)) budget n h v (t R .1) (t R .0)) ∙ g .same R) }
+    unfolding Steps Advanced Placed
+    going-vector N′ v t = record { calls = g .ready .calls; depth = g .ready .depth; placed = t [] .1; ran = λ R. rw (t R .2) (sym (turn-vector (programOf s) (N R (q .calls) (q .depth)) budget n h v (t R .1) (t R .0)) ∙ g .same R) }
 
   pub going-none : (N : List ℤ → ℕ → ℕ → Memory) (q : Spot) (n : ℕ) → Going s budget M p N q n → budget ≤ n → Goes s (record { turn = Turn.On; calls = q .calls; depth = q .depth; steps = n }) M N p budget
-  going-none N q n g h = record { calls = g .ready .calls; depth = g .ready .depth; ran = λ R. sym (turn-none (programOf s) (N R (q .calls) (q .depth)) budget n h) ∙ g .same R }
+  unfolding Placed
+  going-none N q n g h = record { calls = g .ready .calls; depth = g .ready .depth; placed = tt; ran = λ R. sym (turn-none (programOf s) (N R (q .calls) (q .depth)) budget n h) ∙ g .same R }
 
 -- ---- numbers stay in their widths
 

@@ -61,9 +61,19 @@ ranOf (Turn.Vector v) M n =
 ranOf Turn.Stuck M n = record { state = stateOf M; answer = Answer.Stuck; steps = n }
 ranOf (Turn.Stop e) M n = record { state = withEnd (stateOf M) (M .result) e; answer = Answer.Ended e; steps = n }
 
+-- a vector that ends a run is at one of the places
+unfoldable pub Placed : Turn → Type 0
+Placed Turn.On = Unit {0}
+Placed (Turn.Stack c d) = Unit {0}
+Placed (Turn.Integer z) = Unit {0}
+Placed (Turn.Vector v) = v < 64
+Placed Turn.Stuck = Unit {0}
+Placed (Turn.Stop e) = Unit {0}
+
 pub record Goes (s : List ℕ) (r : Counted) (M N : List ℤ → ℕ → ℕ → Memory) (p : Spot) (budget : ℕ) : Type 0 where
   pub calls : r .calls < 256
   pub depth : r .depth < 256
+  pub placed : Placed (r .turn)
   pub ran : (R : List ℤ) → ranOf (r .turn) (N R (r .calls) (r .depth)) (r .steps) ≡ runFrom (programOf s) budget (stateOf (M R (p .calls) (p .depth))) 0
 
 -- ---- parts of a step

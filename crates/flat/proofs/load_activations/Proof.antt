@@ -41,7 +41,7 @@ loop-again : tie.Need-loop-again Inv-loop μ-loop
 loop-again c = (omega arith, load-one _ _ _ _ _ (search (needs, length-mapped)) (c .load-activation .ensures .is) (λ j h. activation-kept _ _ _ _ h (c .load-activation .ensures .kept)) (c .before .before .before .before .loop .inv .1), c .load-activation .ensures .kept .sized ∙ c .before .before .before .before .loop .inv .2)
 
 returns : tie.Need-returns Inv-loop μ-loop
-returns c = all-done _ _ 32 _ (search (needs, length-mapped)) (c .before .loop .inv .0) (c .loop-test .left) (c .before .loop .inv .1)
+returns c = (all-done _ _ 32 _ (search (needs, length-mapped)) (c .before .loop .inv .0) (c .loop-test .left) (c .before .loop .inv .1), c .before .loop .inv .2)
 
 pub load-activations-spec : {M : Type 1} → statement M
 load-activations-spec =

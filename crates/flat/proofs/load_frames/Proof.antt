@@ -41,7 +41,7 @@ loop-again : tie.Need-loop-again Inv-loop μ-loop
 loop-again c = (omega arith, load-one _ _ _ _ _ (search (needs, length-mapped)) (c .load-frame .ensures .is) (λ j h. frame-kept _ _ _ _ _ _ _ _ h (c .load-frame .ensures .owners) (c .load-frame .ensures .codes) (c .load-frame .ensures .numbers)) (c .before .before .before .before .before .before .loop .inv .1), c .load-frame .ensures .owners .sized ∙ c .before .before .before .before .before .before .loop .inv .2, c .load-frame .ensures .codes .sized ∙ c .before .before .before .before .before .before .loop .inv .3, c .load-frame .ensures .numbers .sized ∙ c .before .before .before .before .before .before .loop .inv .4)
 
 returns : tie.Need-returns Inv-loop μ-loop
-returns c = all-done _ _ 32 _ (search (needs, length-mapped)) (c .before .loop .inv .0) (c .loop-test .left) (c .before .loop .inv .1)
+returns c = (all-done _ _ 32 _ (search (needs, length-mapped)) (c .before .loop .inv .0) (c .loop-test .left) (c .before .loop .inv .1), c .before .loop .inv .2, c .before .loop .inv .3, c .before .loop .inv .4)
 
 pub load-frames-spec : {M : Type 1} → statement M
 load-frames-spec =

@@ -41,7 +41,7 @@ loop-again : tie.Need-loop-again Inv-loop μ-loop
 loop-again c = (omega arith, load-one _ _ _ _ _ (search (needs, length-mapped)) (c .load-promise .ensures .is) (λ j h. promise-kept _ _ _ _ _ _ h (c .load-promise .ensures .flags) (c .load-promise .ensures .caches)) (c .before .before .before .before .before .loop .inv .1), c .load-promise .ensures .flags .sized ∙ c .before .before .before .before .before .loop .inv .2, c .load-promise .ensures .caches .sized ∙ c .before .before .before .before .before .loop .inv .3)
 
 returns : tie.Need-returns Inv-loop μ-loop
-returns c = all-done _ _ 64 _ (search (needs, length-mapped)) (c .before .loop .inv .0) (c .loop-test .left) (c .before .loop .inv .1)
+returns c = (all-done _ _ 64 _ (search (needs, length-mapped)) (c .before .loop .inv .0) (c .loop-test .left) (c .before .loop .inv .1), c .before .loop .inv .2, c .before .loop .inv .3)
 
 pub load-promises-spec : {M : Type 1} → statement M
 load-promises-spec =

@@ -41,7 +41,7 @@ loop-again : tie.Need-loop-again Inv-loop μ-loop
 loop-again c = (omega arith, load-one _ _ _ _ _ (search (needs, length-mapped)) (c .load-vector .ensures .is) (λ j h. vector-kept _ _ _ _ _ _ h (c .load-vector .ensures .lengths) (c .load-vector .ensures .items)) (c .before .before .before .before .before .loop .inv .1), c .load-vector .ensures .lengths .sized ∙ c .before .before .before .before .before .loop .inv .2, c .load-vector .ensures .items .sized ∙ c .before .before .before .before .before .loop .inv .3)
 
 returns : tie.Need-returns Inv-loop μ-loop
-returns c = all-done _ _ 64 _ (search (needs, length-mapped)) (c .before .loop .inv .0) (c .loop-test .left) (c .before .loop .inv .1)
+returns c = (all-done _ _ 64 _ (search (needs, length-mapped)) (c .before .loop .inv .0) (c .loop-test .left) (c .before .loop .inv .1), c .before .loop .inv .2, c .before .loop .inv .3)
 
 pub load-vectors-spec : {M : Type 1} → statement M
 load-vectors-spec =

@@ -1,0 +1,46 @@
+//! What a budget's answer leaves in the lent buffer.
+ghost use mathlib.Core.Path.{_≡_};
+ghost use Prim.Native.Nat.{_≤_};
+ghost use lib.ListN.{length, take};
+ghost use Rattle.machine.specs.States.{over};
+ghost use Rattle.delivery.specs.Delivered.{delivered};
+use machine::Answer;
+use machine::End;
+
+/// The most items of a vector.
+const ITEMS: usize = 16;
+
+/// Writes the first `n` items, all where there are fewer, from the place 0 on; all else stays.
+fn put_items(buffer: &mut [i32], result: [i32; 16], n: usize)
+    requires { ⌜ 16 ≤ length (now buffer) ⌝ }
+    ensures { λ _. ⌜ now (buffer .exit) ≡ over (take n result) (now (buffer .entry)) ⌝ }
+{
+    let mut j: usize = 0;
+    while j < ITEMS {
+        if n <= j {
+            return;
+        }
+        buffer[j] = result[j];
+        j += 1;
+    }
+}
+
+/// Writes what an answer gives into the lent buffer from the place 0 on: the items of a vector result; all else stays.
+pub fn deliver(buffer: &mut [i32], result: [i32; 16], answer: Answer)
+    requires { ⌜ 16 ≤ length (now buffer) ⌝ }
+    ensures { λ _. ⌜ now (buffer .exit) ≡ over (delivered answer result) (now (buffer .entry)) ⌝ }
+{
+    match answer {
+        Answer::Refused(_, _) => {}
+        Answer::Steps => {}
+        Answer::Ended(end) => match end {
+            End::Integer(_) => {}
+            End::Vector(n) => put_items(buffer, result, n as usize),
+            End::Undef => {}
+            End::Deep => {}
+            End::Vectors => {}
+            End::Promises => {}
+        },
+        Answer::Stuck => {}
+    }
+}

@@ -1,0 +1,339 @@
+//! The engine: begins a run, takes a single step, goes on under a budget, or runs from the start.
+ghost use mathlib.Core.Path.{_≡_};
+ghost use Prim.Native.Nat.{_<_, _≤_};
+ghost use lib.ListN.{length};
+ghost use Rattle.machine.specs.Begin.{beginOf, programOf, runOf};
+ghost use Rattle.machine.specs.Runs.{budgetIn, budgetOf, bufferOf, runFrom, stepOf};
+ghost use Rattle.machine.specs.Calls.{closed};
+ghost use Rattle.machine.specs.States.{withEnd};
+ghost use Rattle.machine.specs.declared.Status.{Status};
+ghost use Rattle.memory.specs.Memory.{memoryOf, stateOf};
+ghost use Rattle.stepping.specs.Going.{Placed, ranOf};
+ghost use Rattle.engine.specs.Parts.{doneWith, saidOf};
+ghost use mathlib.Core.Bool.{cond};
+ghost use lib.Dec.{ltb};
+use instructions::Turn;
+use machine::Answer;
+use machine::Begun;
+use machine::End;
+use machine::Entry;
+use machine::Ran;
+use machine::Said;
+use machine::Status;
+use machine::Stepped;
+use program::lookup;
+use stepping::Counted;
+
+/// The items of a vector, and the fewest places of a result buffer.
+const ITEMS: usize = 16;
+
+/// A run between two calls of whoever drives it. What lies above a count of its state means nothing.
+pub struct State {
+    pub inner: machine::State,
+}
+
+/// The state that the arrays stand for.
+fn standing(
+    owners: &[u8; 64],
+    codes: &[u16; 768],
+    numbers: &[i32; 768],
+    stack: &[u8; 192],
+    lengths: &[u8; 64],
+    items: &[i32; 1024],
+    promises: &[u8; 192],
+    caches: &[i32; 64],
+    result: [i32; 16],
+    calls: usize,
+    depth: usize,
+) -> machine::State
+    requires { ⌜ (calls < 256) × (depth < 256) ⌝ }
+    ensures { λ r. ⌜ r ≡ stateOf (memoryOf (now (owners .entry)) (now (codes .entry)) (now (numbers .entry)) (now (stack .entry)) (now (lengths .entry)) (now (items .entry)) (now (promises .entry)) (now (caches .entry)) result calls depth) ⌝ }
+{
+    let frames = flat::frames(owners, codes, numbers);
+    let activations = flat::activations(stack);
+    let vectors = flat::vectors(lengths, items);
+    let delayed = flat::promises(promises, caches);
+    machine::State {
+        frames: frames,
+        calls: calls as u8,
+        activations: activations,
+        depth: depth as u8,
+        vectors: vectors,
+        promises: delayed,
+        result: result,
+        status: Status::Running,
+    }
+}
+
+/// The state with its end, and the items of a vector that it ended with.
+fn ended(state: machine::State, result: [i32; 16], end: End) -> machine::State
+    ensures { λ r. ⌜ r ≡ withEnd state result end ⌝ }
+{
+    let frames = state.frames;
+    let activations = state.activations;
+    let vectors = state.vectors;
+    let promises = state.promises;
+    machine::State {
+        frames: frames,
+        calls: state.calls,
+        activations: activations,
+        depth: state.depth,
+        vectors: vectors,
+        promises: promises,
+        result: result,
+        status: Status::Ended(end),
+    }
+}
+
+/// The state with no call and no activation left.
+fn emptied(state: machine::State) -> machine::State
+    ensures { λ r. ⌜ r ≡ closed state ⌝ }
+{
+    let mut left = state;
+    left.calls = 0;
+    left.depth = 0;
+    left
+}
+
+/// A run that is done.
+fn finished(state: machine::State, result: [i32; 16], end: End, steps: u32) -> Ran
+    ensures { λ r. ⌜ r ≡ doneWith state result end steps ⌝ }
+{
+    let left = emptied(state);
+    let last = ended(left, result, end);
+    Ran {
+        state: last,
+        answer: Answer::Ended(end),
+        steps: steps,
+    }
+}
+
+/// How many items a vector of that length shows.
+fn shown(n: u8) -> u8
+    ensures { λ r. ⌜ r ≡ cond (ltb n 16) n 16 ⌝ }
+{
+    if n < 16 { n } else { 16 }
+}
+
+/// What the steps that were taken come to, by the last turn.
+fn rebuilt(
+    owners: &[u8; 64],
+    codes: &[u16; 768],
+    numbers: &[i32; 768],
+    stack: &[u8; 192],
+    lengths: &[u8; 64],
+    items: &[i32; 1024],
+    promises: &[u8; 192],
+    caches: &[i32; 64],
+    result: [i32; 16],
+    counted: Counted,
+) -> Ran
+    requires { ⌜ (counted .calls < 256) × (counted .depth < 256) × Placed (counted .turn) ⌝ }
+    ensures { λ r. ⌜ r ≡ ranOf (counted .turn) (memoryOf (now (owners .entry)) (now (codes .entry)) (now (numbers .entry)) (now (stack .entry)) (now (lengths .entry)) (now (items .entry)) (now (promises .entry)) (now (caches .entry)) result (counted .calls) (counted .depth)) (counted .steps) ⌝ }
+{
+    let state = standing(
+        owners,
+        codes,
+        numbers,
+        stack,
+        lengths,
+        items,
+        promises,
+        caches,
+        result,
+        counted.calls,
+        counted.depth,
+    );
+    let steps = counted.steps;
+    let turn = counted.turn;
+    match turn {
+        Turn::On => Ran {
+            state: state,
+            answer: Answer::Steps,
+            steps: steps,
+        },
+        Turn::Stack(_, _) => Ran {
+            state: state,
+            answer: Answer::Steps,
+            steps: steps,
+        },
+        Turn::Integer(z) => finished(state, result, End::Integer(z), steps),
+        Turn::Vector(v) => {
+            let vectors = state.vectors;
+            let w = vectors[v];
+            let last = w.items;
+            let n = shown(w.length);
+            finished(state, last, End::Vector(n), steps)
+        }
+        Turn::Stuck => Ran {
+            state: state,
+            answer: Answer::Stuck,
+            steps: steps,
+        },
+        Turn::Stop(e) => {
+            let last = ended(state, result, e);
+            Ran {
+                state: last,
+                answer: Answer::Ended(e),
+                steps: steps,
+            }
+        }
+    }
+}
+
+/// Goes on with a run that has not ended, at most `budget` steps.
+fn resumed(state: machine::State, image: &[u8], budget: u32) -> Ran
+    requires { ⌜ state .status ≡ Status.Running ⌝ }
+    ensures { λ r. ⌜ r ≡ runFrom (programOf (now (image .entry))) budget state 0 ⌝ }
+{
+    let mut owners = [0u8; 64];
+    let mut codes = [0u16; 768];
+    let mut numbers = [0i32; 768];
+    let mut stack = [0u8; 192];
+    let mut lengths = [0u8; 64];
+    let mut items = [0i32; 1024];
+    let mut promises = [0u8; 192];
+    let mut caches = [0i32; 64];
+    let frames = state.frames;
+    flat::load_frames(frames, &mut owners, &mut codes, &mut numbers);
+    let activations = state.activations;
+    flat::load_activations(activations, &mut stack);
+    let vectors = state.vectors;
+    flat::load_vectors(vectors, &mut lengths, &mut items);
+    let delayed = state.promises;
+    flat::load_promises(delayed, &mut promises, &mut caches);
+    let table = lookup::versions(image);
+    let spot = places::locate(
+        image,
+        &table,
+        &owners,
+        &stack,
+        state.calls as usize,
+        state.depth as usize,
+    );
+    let counted = stepping::go(
+        image,
+        &table,
+        &mut owners,
+        &mut codes,
+        &mut numbers,
+        &mut stack,
+        &mut lengths,
+        &mut items,
+        &mut promises,
+        &mut caches,
+        spot,
+        budget,
+    );
+    let result = state.result;
+    rebuilt(
+        &owners,
+        &codes,
+        &numbers,
+        &stack,
+        &lengths,
+        &items,
+        &promises,
+        &caches,
+        result,
+        counted,
+    )
+}
+
+/// What a single step says, by the answer of a budget of one.
+fn said(answer: Answer) -> Said
+    ensures { λ r. ⌜ r ≡ saidOf answer ⌝ }
+{
+    match answer {
+        Answer::Refused(_, _) => Said::Stuck,
+        Answer::Steps => Said::GoesOn,
+        Answer::Ended(e) => Said::Ended(e),
+        Answer::Stuck => Said::Stuck,
+    }
+}
+
+/// Goes on with a run, or gives its end again.
+fn under(state: machine::State, image: &[u8], budget: u32) -> Ran
+    ensures { λ r. ⌜ r ≡ budgetIn (programOf (now (image .entry))) state budget (state .status) ⌝ }
+{
+    let status = state.status;
+    match status {
+        Status::Running => resumed(state, image, budget),
+        Status::Ended(e) => Ran {
+            state: state,
+            answer: Answer::Ended(e),
+            steps: 0,
+        },
+    }
+}
+
+impl State {
+    /// A single step: the state after it, and whether the run goes on, has ended or is stuck.
+    pub fn step(self, image: &[u8]) -> Stepped
+        ensures { λ r. ⌜ r ≡ stepOf (programOf (now (image .entry))) (self .inner) ⌝ }
+    {
+        let state = self.inner;
+        let ran = under(state, image, 1);
+        let after = ran.state;
+        let answer = ran.answer;
+        Stepped {
+            state: after,
+            said: said(answer),
+        }
+    }
+
+    /// At most `budget` steps, after question 13 to the lent buffer: the state after them, the answer and the steps taken.
+    /// A vector that the run is done with is written to the buffer from the place 0 on.
+    pub fn budget(self, image: &[u8], budget: u32, buffer: &mut [i32]) -> Ran
+        ensures { λ r. ⌜ (r ≡ budgetOf (programOf (now (image .entry))) (self .inner) budget (now (buffer .entry))) × (now (buffer .exit) ≡ bufferOf r (now (buffer .entry))) ⌝ }
+    {
+        let state = self.inner;
+        if buffer.len() < ITEMS {
+            return Ran {
+                state: state,
+                answer: Answer::Refused(13, 0),
+                steps: 0,
+            };
+        }
+        let ran = under(state, image, budget);
+        let after = ran.state;
+        let result = after.result;
+        let answer = ran.answer;
+        delivery::deliver(buffer, result, answer);
+        ran
+    }
+}
+
+/// Begins a run of a version of a function of an image: its state before the first step, or a refusal. Nothing is written.
+pub fn begin(image: &[u8], function: usize, version: usize, words: &[i32], buffer: &[i32]) -> Begun
+    ensures { λ r. ⌜ r ≡ beginOf (now (image .entry)) function version (now (words .entry)) (now (buffer .entry)) ⌝ }
+{
+    begin::begin(image, function, version, words, buffer)
+}
+
+/// Begins a run and goes on with it under its first budget.
+pub fn run(
+    image: &[u8],
+    function: usize,
+    version: usize,
+    words: &[i32],
+    budget: u32,
+    buffer: &mut [i32],
+) -> Ran
+    ensures { λ r. ⌜ (r ≡ runOf (now (image .entry)) function version (now (words .entry)) budget (now (buffer .entry))) × (now (buffer .exit) ≡ bufferOf r (now (buffer .entry))) ⌝ }
+{
+    let begun = begin::begin(image, function, version, words, buffer);
+    let state = begun.state;
+    let entry = begun.entry;
+    match entry {
+        Entry::Refused(q, p) => Ran {
+            state: state,
+            answer: Answer::Refused(q, p),
+            steps: 0,
+        },
+        Entry::Begun => {
+            let first = State { inner: state };
+            first.budget(image, budget, buffer)
+        }
+    }
+}
