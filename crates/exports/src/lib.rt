@@ -10,6 +10,8 @@ use checker::Verdict;
 use checker::questions;
 use checker::report;
 
+pub mod answers;
+
 /// The number of the question that refuses the image; 0 where it is accepted.
 #[no_mangle]
 pub extern "C" fn fir_verdict_number(image: &[u8]) -> u8

@@ -1,0 +1,87 @@
+use mir.Val.{SFits}
+use mir.Syntax.{w32}
+use mir.Facts.{toZ-ofZ}
+use Rattle.exports.specs.Numbers.{endValue}
+use borrow.Author.Needs.{needs}
+use Rattle.exports.proofs.answers.end_value.Statement.{statement}
+use Rattle.exports.proofs.answers.end_value.Tie as tie
+use Rattle.exports.proofs.answers.end_value.Reads as reads
+use Rattle.exports.proofs.answers.end_value.Lts as lts
+
+-- src/answers.rt:76:22
+enum-known-end : tie.Need-enum-known-end
+enum-known-end c = search needs
+
+-- src/answers.rt:77:27
+enum-told : tie.Need-enum-told
+enum-told c = search needs
+
+-- src/answers.rt:78:23
+enum-told-2 : tie.Need-enum-told-2
+enum-told-2 c = search needs
+
+-- src/answers.rt:79:22
+enum-told-3 : tie.Need-enum-told-3
+enum-told-3 c = search needs
+
+-- src/answers.rt:80:25
+enum-told-4 : tie.Need-enum-told-4
+enum-told-4 c = search needs
+
+-- src/answers.rt:81:26
+enum-told-5 : tie.Need-enum-told-5
+enum-told-5 c = search needs
+
+-- src/answers.rt:72:1
+returns : tie.Need-returns
+unfolding endValue
+returns c =
+    let s : SFits w32 ((c .before .end) .given .0 .0) = search needs in
+    rw (toZ-ofZ s, (c .before .end) .given .1)
+
+-- src/answers.rt:72:1
+returns-2 : tie.Need-returns-2
+unfolding endValue
+returns-2 c =
+    rw ((c .enum-told) .given .1)
+
+-- src/answers.rt:72:1
+returns-3 : tie.Need-returns-3
+unfolding endValue
+returns-3 c =
+    rw ((c .enum-told2) .given .1)
+
+-- src/answers.rt:72:1
+returns-4 : tie.Need-returns-4
+unfolding endValue
+returns-4 c =
+    rw ((c .enum-told3) .given .1)
+
+-- src/answers.rt:72:1
+returns-5 : tie.Need-returns-5
+unfolding endValue
+returns-5 c =
+    rw ((c .enum-told4) .given .1)
+
+-- src/answers.rt:72:1
+returns-6 : tie.Need-returns-6
+unfolding endValue
+returns-6 c =
+    rw ((c .enum-told5) .given .1)
+
+pub end-value-spec : {M : Type 1} → statement M
+end-value-spec =
+    tie.close
+    (tie.spec
+    enum-known-end
+    enum-told
+    enum-told-2
+    enum-told-3
+    enum-told-4
+    enum-told-5
+    returns
+    returns-2
+    returns-3
+    returns-4
+    returns-5
+    returns-6)

@@ -1,0 +1,154 @@
+//! A run of the reference under its monitor of demand 3.
+
+use reference::bounds::{Steps, ITEMS};
+use reference::monitor::{check_state, check_step};
+use reference::{kinds, Answer, End, Instruction, Integer, Program, Said, State, Status, Value};
+
+/// A run of the reference; demand 3 is asserted at its start and at each step.
+pub struct Watched<'p> {
+    program: &'p Program,
+    state: State,
+    /// The steps that were tried while the run went on.
+    tried: usize,
+}
+
+impl<'p> Watched<'p> {
+    /// A run that has begun.
+    #[track_caller]
+    pub fn new(program: &'p Program, state: State) -> Watched<'p> {
+        assert_eq!(check_state(program, &state), Ok(()), "at the start");
+        Watched {
+            program,
+            state,
+            tried: 0,
+        }
+    }
+
+    /// The state of the run.
+    pub fn state(&self) -> &State {
+        &self.state
+    }
+
+    /// Has the run ended?
+    pub fn ended(&self) -> bool {
+        self.state.status != Status::Running
+    }
+
+    /// The steps that were tried while the run went on.
+    pub fn tried(&self) -> usize {
+        self.tried
+    }
+
+    /// A single step; what it says.
+    #[track_caller]
+    pub fn step(&mut self) -> Said {
+        let (after, said) = self.state.clone().step(self.program);
+        self.tried += usize::from(!self.ended());
+        let checked = check_step(self.program, &self.state, said);
+        let checked = checked.and_then(|()| check_state(self.program, &after));
+        assert_eq!(checked, Ok(()), "at step {}", self.tried);
+        if let Said::Ended(end) = said {
+            self.assert_kept(&after, end);
+        }
+        self.state = after;
+        said
+    }
+
+    /// A budget; its answer and the steps taken under it. The same steps are
+    /// done one by one too.
+    #[track_caller]
+    pub fn budget(&mut self, budget: Steps, buffer: &mut [Integer]) -> (Answer, Steps) {
+        let before = self.state.clone();
+        let (after, answer, steps) = before.budget(self.program, budget, buffer);
+        for _ in 0..steps {
+            self.step();
+        }
+        if matches!(answer, Answer::Ended(end) if !end.counts()) {
+            self.step();
+        }
+        assert_eq!(self.state, after, "a budget does what its steps do");
+        (answer, steps)
+    }
+
+    /// Asserts that an end other than DONE leaves all but the status.
+    #[track_caller]
+    fn assert_kept(&self, after: &State, end: End) {
+        if !matches!(end, End::Integer(_) | End::Vector(_)) {
+            let mut restored = after.clone();
+            restored.status = self.state.status;
+            assert_eq!(restored, self.state, "{end:?} changes nothing else");
+        }
+    }
+
+    /// How the run ended, with the cause of UNDEF; none while it goes on.
+    pub fn ending(&self) -> Option<&'static str> {
+        let Status::Ended(end) = self.state.status else {
+            return None;
+        };
+        Some(match end {
+            End::Integer(_) => "DONE, integer",
+            End::Vector(0) => "DONE, vector of no item",
+            End::Vector(ITEMS) => "DONE, vector of 16 items",
+            End::Vector(_) => "DONE, vector",
+            End::Undef => self.cause(),
+            End::Deep => "DEEP",
+            End::Vectors => "VECTORS",
+            End::Promises => "PROMISES",
+        })
+    }
+
+    /// Why the instruction that the run stopped at made UNDEF.
+    fn cause(&self) -> &'static str {
+        let instruction = self.state.instruction(self.program);
+        let top = self.state.activations.last().expect("a call lives");
+        let registers = &self.state.frames[top.frame].registers;
+        match *instruction.expect("UNDEF at an instruction") {
+            Instruction::Arith { op, b, .. } => {
+                arith_cause(op, registers[usize::from(b)] == Some(Value::Integer(0)))
+            }
+            Instruction::Get { .. } => "UNDEF, GET outside",
+            Instruction::Set { .. } => "UNDEF, SET outside",
+            Instruction::Cast { .. } => "UNDEF, failed CAST",
+            Instruction::Named { .. } => "UNDEF, unset name of NAMED",
+            Instruction::Peek { .. } => "UNDEF, unset name of PEEK",
+            Instruction::Force { .. } => "UNDEF, promise being forced",
+            Instruction::Dispatch { .. } => "UNDEF, DISPATCH with no fit",
+            _ => "UNDEF, without a cause",
+        }
+    }
+}
+
+/// Why an operation made UNDEF.
+fn arith_cause(op: u8, by_zero: bool) -> &'static str {
+    match op {
+        kinds::ADD => "UNDEF, sum out of range",
+        kinds::SUBTRACT => "UNDEF, difference out of range",
+        kinds::MULTIPLY => "UNDEF, product out of range",
+        kinds::DIVIDE if by_zero => "UNDEF, division by 0",
+        kinds::DIVIDE => "UNDEF, quotient out of range",
+        _ => "UNDEF, without a cause",
+    }
+}
+
+/// How runs may end.
+pub const ENDINGS: [&str; 19] = [
+    "DONE, integer",
+    "DONE, vector",
+    "DONE, vector of no item",
+    "DONE, vector of 16 items",
+    "DEEP",
+    "VECTORS",
+    "PROMISES",
+    "UNDEF, sum out of range",
+    "UNDEF, difference out of range",
+    "UNDEF, product out of range",
+    "UNDEF, quotient out of range",
+    "UNDEF, division by 0",
+    "UNDEF, GET outside",
+    "UNDEF, SET outside",
+    "UNDEF, failed CAST",
+    "UNDEF, unset name of NAMED",
+    "UNDEF, unset name of PEEK",
+    "UNDEF, promise being forced",
+    "UNDEF, DISPATCH with no fit",
+];

@@ -1,0 +1,150 @@
+//! The runs that the paper names, worked out by hand, asked of the proved
+//! engine, the reference and the tuned interpreter.
+
+use differential::edges::{image, IDENTITY};
+use differential::engine;
+use differential::tuned::{Code, Machine};
+use reference::bounds::{Steps, BUFFER};
+use reference::{Answer, End, Integer, Program, Refusal, Said, State};
+
+/// What the places of a lent buffer hold before a run.
+const UNTOUCHED: Integer = 77;
+
+/// Asserts what a budget at the start of a run of version 0.0 gives, by each
+/// of the three, and that a vector's items alone are written.
+#[track_caller]
+fn gives(
+    image: &[u8],
+    words: &[Integer],
+    budget: Steps,
+    answer: Answer,
+    steps: Steps,
+    items: &[Integer],
+) {
+    let expected = (answer, steps);
+    let mut buffer = vec![UNTOUCHED; BUFFER + 4];
+    buffer[..items.len()].copy_from_slice(items);
+
+    let mut found = vec![UNTOUCHED; BUFFER + 4];
+    let (state, begun) = engine::begin(image, (0, 0), words, &found);
+    assert_eq!(begun, Ok(()), "the proved engine begins");
+    let (_, answer, steps) = engine::budget(image, &state, budget, &mut found);
+    assert_eq!((answer, steps), expected, "by the proved engine");
+    assert_eq!(found, buffer, "by the proved engine");
+
+    let program = Program::accept(image).expect("an accepted image");
+    let mut found = vec![UNTOUCHED; BUFFER + 4];
+    let begun = State::begin(&program, 0, 0, words, &found).expect("the reference begins");
+    let (_, answer, steps) = begun.clone().budget(&program, budget, &mut found);
+    assert_eq!((answer, steps), expected, "by the reference");
+    assert_eq!(found, buffer, "by the reference");
+
+    let code = Code::new(&program);
+    let mut tuned = Machine::new(&program, &code, &begun);
+    assert_eq!(tuned.budget(budget), expected, "by the tuned interpreter");
+    assert_eq!(tuned.result(), items, "by the tuned interpreter");
+}
+
+/// DONE with an integer.
+fn done(integer: Integer) -> Answer {
+    Answer::Ended(End::Integer(integer))
+}
+
+#[test]
+fn p2_identity_of_7_is_done_with_7_after_1_step() {
+    gives(&IDENTITY, &[-1, 7], 1, done(7), 1, &[]);
+}
+
+#[test]
+fn p3_identity_with_budget_0_is_steps_after_0() {
+    gives(&IDENTITY, &[-1, 7], 0, Answer::Steps, 0, &[]);
+}
+
+/// DUP of a shared vector, place 0 set to 42, returned owned.
+fn set_42() -> Vec<u8> {
+    image(
+        "version 0.0(r0: vector) -> own vector
+           registers r1: own vector, r2: int, r3: int
+           block 0 quiet -> r1
+             r1 = dup r0
+             r2 = lit 0
+             r3 = lit 42
+             set r1[r2] = r3",
+    )
+}
+
+#[test]
+fn p7_dup_and_set_of_a_vector_is_done_with_42() {
+    let answer = Answer::Ended(End::Vector(1));
+    gives(&set_42(), &[1, 1], 100, answer, 5, &[42]);
+    gives(&set_42(), &[1, 1], 4, Answer::Steps, 4, &[]);
+    let answer = Answer::Ended(End::Vector(3));
+    gives(&set_42(), &[3, 1, 2, 3], 5, answer, 5, &[42, 2, 3]);
+}
+
+#[test]
+fn p8_set_on_an_empty_vector_is_undef() {
+    gives(&set_42(), &[0], 100, Answer::Ended(End::Undef), 4, &[]);
+}
+
+#[test]
+fn p10_minus_7_divided_by_2_is_minus_3() {
+    let image = image(
+        "version 0.0(r0: int, r1: int) -> int
+           block 0 quiet -> r0
+             r0 = div r0, r1",
+    );
+    gives(&image, &[-1, -7, -1, 2], 2, done(-3), 2, &[]);
+    gives(&image, &[-1, 7, -1, -2], 2, done(-3), 2, &[]);
+    let undef = Answer::Ended(End::Undef);
+    gives(&image, &[-1, 7, -1, 0], 2, undef, 1, &[]);
+    gives(&image, &[-1, Integer::MIN, -1, -1], 2, undef, 1, &[]);
+}
+
+#[test]
+fn p11_a_body_that_calls_itself_is_deep_after_31_steps() {
+    let image = image(
+        "version 0.0(r0: int) -> int
+           block 0 quiet -> r0
+             r0 = call 0.0(r0)",
+    );
+    let deep = Answer::Ended(End::Deep);
+    gives(&image, &[-1, 0], 32, deep, 31, &[]);
+    // Budget is looked at first.
+    gives(&image, &[-1, 0], 31, Answer::Steps, 31, &[]);
+}
+
+#[test]
+fn vectors_is_said_at_the_65th_and_not_counted() {
+    // Each call holds two vectors and the words' one is held once: 1 + 2 × 31
+    // count in 31 calls, and the 32nd has room for one more.
+    let image = image(
+        "version 0.0(r0: vector) -> int
+           registers r1: vector, r2: vector, r3: int
+           block 0 quiet -> r3
+             r1 = vec []
+             r2 = vec []
+             r3 = call 0.0(r0)",
+    );
+    let vectors = Answer::Ended(End::Vectors);
+    gives(&image, &[0], 1000, vectors, 3 * 31 + 1, &[]);
+    gives(&image, &[0], 3 * 31 + 1, Answer::Steps, 3 * 31 + 1, &[]);
+}
+
+#[test]
+fn the_end_is_given_again_to_steps_and_budgets() {
+    let image = set_42();
+    let mut buffer = [UNTOUCHED; BUFFER];
+    let (state, _) = engine::begin(&image, (0, 0), &[1, 1], &buffer);
+    let (ended, ..) = engine::budget(&image, &state, 5, &mut buffer);
+    let (stepped, said) = engine::step(&image, &ended);
+    assert_eq!(said, Said::Ended(End::Vector(1)));
+    let mut buffer = [UNTOUCHED; BUFFER];
+    let (_, answer, steps) = engine::budget(&image, &stepped, 0, &mut buffer);
+    assert_eq!((answer, steps), (Answer::Ended(End::Vector(1)), 0));
+    assert_eq!(buffer[..2], [42, UNTOUCHED]);
+    let (number, offset) = (13, 0);
+    let refused = Answer::Refused(Refusal { number, offset });
+    let (_, answer, steps) = engine::budget(&image, &stepped, 1, &mut [0; BUFFER - 1]);
+    assert_eq!((answer, steps), (refused, 0));
+}
