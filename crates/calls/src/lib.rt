@@ -1,4 +1,5 @@
 //! Values that pass on: MOVE and CAST by their kinds, and the calls that open.
+//! Its functions serve the loop of the engine; what they require, the loop keeps.
 ghost use mathlib.Core.Path.{_≡_};
 ghost use Prim.Native.Nat.{_*_, _<_, _≤_};
 ghost use lib.IntN.{pos};

@@ -1,4 +1,5 @@
 //! The cells of a frame: the operands of a step, and what it writes.
+//! Its functions serve the loop of the engine; what they require, the loop keeps.
 ghost use mathlib.Core.Path.{_≡_};
 ghost use Prim.Native.Nat.{_+_, _*_, _<_};
 ghost use lib.Dec.{ltb};

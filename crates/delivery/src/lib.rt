@@ -1,4 +1,5 @@
 //! What a budget's answer leaves in the lent buffer.
+//! Its functions serve the loop of the engine; what they require, the loop keeps.
 ghost use mathlib.Core.Path.{_≡_};
 ghost use Prim.Native.Nat.{_≤_};
 ghost use lib.ListN.{length, take};

@@ -1,4 +1,5 @@
 //! Block ends: how activations of calls and forces end.
+//! Its functions serve the loop of the engine; what they require, the loop keeps.
 ghost use mathlib.Core.Path.{_≡_};
 ghost use Prim.Native.Nat.{_<_, _≤_};
 ghost use Rattle.program.specs.Places.{tableOf};

@@ -1,4 +1,5 @@
 //! The kinds of values by the codes of their cells, MOVE and CAST.
+//! Its functions serve the loop of the engine; what they require, the loop keeps.
 ghost use mathlib.Core.Path.{_≡_};
 ghost use Prim.Native.Nat.{_*_, _<_, _≤_};
 ghost use lib.IntN.{pos};

@@ -1,4 +1,5 @@
 //! Where a run stands in its image.
+//! Its functions serve the loop of the engine; what they require, the loop keeps.
 ghost use mathlib.Core.Path.{_≡_};
 ghost use Prim.Native.Nat.{_<_};
 ghost use Rattle.program.specs.Places.{tableOf};

@@ -1,4 +1,5 @@
 //! Names and promises: USE, STORE, PROM, FORCE, PEEK and POKE. The engine's loop alone calls them, in a frame below 32.
+//! Its functions serve the loop of the engine; what they require, the loop keeps.
 ghost use mathlib.Core.Path.{_≡_};
 ghost use mathlib.Core.Bool.{cond, not};
 ghost use Prim.Native.Nat.{_<_, _≤_};

@@ -1,4 +1,5 @@
 //! Vectors: their items, copies and new ones. The loop of the engine calls these, with a frame `k` below 32.
+//! Its functions serve the loop of the engine; what they require, the loop keeps.
 ghost use mathlib.Core.Path.{_≡_};
 ghost use mathlib.Core.Bool.{cond};
 ghost use Prim.Native.Nat.{_<_, _≤_};
