@@ -15,18 +15,14 @@ use Rattle.machine.specs.declared.State.{State}
 use Rattle.machine.specs.declared.Vector.{Vector}
 use Rattle.memory.specs.Lists.{upTo}
 use Rattle.memory.specs.Memory.{Long, Memory, activationIn, frameIn, framesOf, memoryOf, promiseIn, stateOf, vectorIn}
-use Rattle.memory.specs.Parts.{withOpen}
 use Rattle.memory.proofs.Heap.{items-count}
 use Rattle.memory.proofs.Lists.{getD-upTo}
 use Rattle.instructions.specs.declared.Turn.{Turn}
 use Rattle.machine.specs.Begin.{programOf}
 use Rattle.machine.specs.Runs.{runFrom}
 use Rattle.machine.specs.declared.Status.{Status}
-use Rattle.places.specs.Standing.{Located}
-use Rattle.places.specs.declared.Spot.{Spot}
-use Rattle.stepping.specs.Going.{Goes, Placed, Ready, ranOf}
+use Rattle.stepping.specs.Going.{Placed, Resumes, ranOf}
 use Rattle.stepping.specs.declared.Counted.{Counted}
-use Rattle.stepping.proofs.Running.{at-numbers}
 use Rattle.engine.specs.Parts.{doneWith}
 
 pub placed-vector : {t : Turn} {v : ℕ} → Placed t → t ≡ Turn.Vector v → v < 64
@@ -63,37 +59,12 @@ module _ (owners codes : List ℕ) (numbers : List ℤ) (stack lengths : List �
       let w : getD (state .vectors) v d ≡ vectorIn lengths items v = ap (λ (s : State). getD (s .vectors) v d) is ∙ getD-upTo (vectorIn lengths items) 64 v d h in
       rw (e, f, c, w, is, items-count lengths items v)
 
--- ---- before the first turn
+-- ---- the state that was loaded
 
-pub loaded : (owners codes : List ℕ) (numbers : List ℤ) (stack lengths : List ℕ) (items : List ℤ) (promises : List ℕ) (caches : List ℤ) (calls depth : ℕ) → length owners ≡ 64 → length codes ≡ 768 → length numbers ≡ 768 → length stack ≡ 192 → length lengths ≡ 64 → length items ≡ 1024 → length promises ≡ 192 → length caches ≡ 64 → (R : List ℤ) → Long (memoryOf owners codes numbers stack lengths items promises caches R calls depth)
-unfolding memoryOf
-loaded owners codes numbers stack lengths items promises caches calls depth a b c d e f g h = λ R. record { owners = a; codes = b; numbers = c; stack = d; lengths = e; items = f; promises = g; caches = h }
+module _ (s owners codes : List ℕ) (numbers : List ℤ) (stack lengths : List ℕ) (items : List ℤ) (promises : List ℕ) (caches : List ℤ) (state : State) (frames : upTo (frameIn owners codes numbers) 0 32 ≡ state .frames) (activations : upTo (activationIn stack) 0 32 ≡ state .activations) (vectors : upTo (vectorIn lengths items) 0 64 ≡ state .vectors) (delayed : upTo (promiseIn promises caches) 0 64 ≡ state .promises) (running : state .status ≡ Status.Running) where
+  the-state : stateOf (memoryOf owners codes numbers stack lengths items promises caches (state .result) (state .calls) (state .depth)) ≡ state
+  unfolding stateOf framesOf memoryOf
+  the-state = λ i. record { frames = frames i; calls = state .calls; activations = activations i; depth = state .depth; vectors = vectors i; promises = delayed i; result = state .result; status = sym running i }
 
-module _ (s owners codes : List ℕ) (numbers : List ℤ) (stack lengths : List ℕ) (items : List ℤ) (promises : List ℕ) (caches : List ℤ) (calls depth : ℕ) (p : Spot) where
-  pub ready : calls < 256 → depth < 256 → ((R : List ℤ) → Long (memoryOf owners codes numbers stack lengths items promises caches R calls depth)) → Located s owners calls stack depth p → Ready s (memoryOf owners codes numbers stack lengths items promises caches) p
-  unfolding Located withOpen memoryOf
-  ready few shallow long l = record {
-    calls = rw (l (memoryOf owners codes numbers stack lengths items promises caches [] calls depth) .calls) few;
-    depth = rw (l (memoryOf owners codes numbers stack lengths items promises caches [] calls depth) .depth) shallow;
-    stands = λ R.
-        let q = l (memoryOf owners codes numbers stack lengths items promises caches R calls depth) in
-        at-numbers s (memoryOf owners codes numbers stack lengths items promises caches R) calls depth p (p .calls) (p .depth) (q .calls) (q .depth) (long R, q);
-  }
-
-  -- and the state that was loaded
-  module _ (state : State) (frames : upTo (frameIn owners codes numbers) 0 32 ≡ state .frames) (activations : upTo (activationIn stack) 0 32 ≡ state .activations) (vectors : upTo (vectorIn lengths items) 0 64 ≡ state .vectors) (delayed : upTo (promiseIn promises caches) 0 64 ≡ state .promises)
-      (called : calls ≡ state .calls) (deep : depth ≡ state .depth) (running : state .status ≡ Status.Running) where
-    the-state : stateOf (memoryOf owners codes numbers stack lengths items promises caches (state .result) calls depth) ≡ state
-    unfolding stateOf framesOf memoryOf
-    the-state = λ i. record { frames = frames i; calls = called i; activations = activations i; depth = deep i; vectors = vectors i; promises = delayed i; result = state .result; status = sym running i }
-
-    pub resumes : {r : Ran} (budget : ℕ) (counted : Counted) (N : List ℤ → ℕ → ℕ → Memory) → Located s owners calls stack depth p → Goes s counted (memoryOf owners codes numbers stack lengths items promises caches) N p budget
-        → r ≡ ranOf (counted .turn) (N (state .result) (counted .calls) (counted .depth)) (counted .steps) → r ≡ runFrom (programOf s) budget state 0
-    unfolding Located withOpen memoryOf
-    resumes budget counted N l g e =
-        let q = l (memoryOf owners codes numbers stack lengths items promises caches (state .result) calls depth) in
-        e ∙ g .ran (state .result)
-        ∙ ap (λ (t : State). runFrom (programOf s) budget t 0) (at-both (memoryOf owners codes numbers stack lengths items promises caches (state .result)) (p .calls) (p .depth) (q .calls) (q .depth) ∙ the-state)
-      where
-        at-both : (N : ℕ → ℕ → Memory) (x y : ℕ) → x ≡ calls → y ≡ depth → stateOf (N x y) ≡ stateOf (N calls depth)
-        at-both N x y a b = rw (a, b)
+  pub resumed : {r : Ran} (budget : ℕ) (counted : Counted) (N : List ℤ → ℕ → ℕ → Memory) → Resumes s counted (memoryOf owners codes numbers stack lengths items promises caches) N (state .calls) (state .depth) budget → r ≡ ranOf (counted .turn) (N (state .result) (counted .calls) (counted .depth)) (counted .steps) → r ≡ runFrom (programOf s) budget state 0
+  resumed budget counted N g e = e ∙ g .ran (state .result) ∙ ap (λ (t : State). runFrom (programOf s) budget t 0) the-state

@@ -21,7 +21,6 @@ use machine::Ran;
 use machine::Said;
 use machine::Status;
 use machine::Stepped;
-use program::lookup;
 use stepping::Counted;
 
 /// The items of a vector, and the fewest places of a result buffer.
@@ -202,18 +201,8 @@ fn resumed(state: machine::State, image: &[u8], budget: u32) -> Ran
     flat::load_vectors(vectors, &mut lengths, &mut items);
     let delayed = state.promises;
     flat::load_promises(delayed, &mut promises, &mut caches);
-    let table = lookup::versions(image);
-    let spot = places::locate(
+    let counted = stepping::resume(
         image,
-        &table,
-        &owners,
-        &stack,
-        state.calls as usize,
-        state.depth as usize,
-    );
-    let counted = stepping::go(
-        image,
-        &table,
         &mut owners,
         &mut codes,
         &mut numbers,
@@ -222,7 +211,8 @@ fn resumed(state: machine::State, image: &[u8], budget: u32) -> Ran
         &mut items,
         &mut promises,
         &mut caches,
-        spot,
+        state.calls,
+        state.depth,
         budget,
     );
     let result = state.result;

@@ -24,7 +24,8 @@ use Rattle.memory.specs.Parts.{withOpen}
 use Rattle.places.specs.Standing.{Located, Spotted}
 use Rattle.places.specs.declared.Spot.{Spot}
 use Rattle.instructions.specs.declared.Turn.{Turn}
-use Rattle.stepping.specs.Going.{Advanced, Goes, Placed, Ready, Steps, nextSpot, ranOf}
+use Rattle.stepping.specs.declared.Counted.{Counted}
+use Rattle.stepping.specs.Going.{Advanced, Goes, Placed, Ready, Resumes, Sized, Steps, nextSpot, ranOf}
 
 -- a budget that is left has a step
 left : (budget n : ℕ) → n < budget → budget - n ≡ suc (budget - (n + 1))
@@ -134,3 +135,37 @@ module _ (s : List ℕ) (budget : ℕ) (M : List ℤ → ℕ → ℕ → Memory)
 pub next-fits : (s : List ℕ) (N N′ : List ℤ → ℕ → ℕ → Memory) (q : Spot) → Steps s Turn.On N N′ q → q .next < 48
 unfolding Steps Advanced
 next-fits s N N′ q t = t [] .3
+
+-- ---- before the first turn
+
+pub sized : (owners codes : List ℕ) (numbers : List ℤ) (stack lengths : List ℕ) (items : List ℤ) (promises : List ℕ) (caches : List ℤ) → length owners ≡ 64 → length codes ≡ 768 → length numbers ≡ 768 → length stack ≡ 192 → length lengths ≡ 64 → length items ≡ 1024 → length promises ≡ 192 → length caches ≡ 64 → Sized (memoryOf owners codes numbers stack lengths items promises caches)
+unfolding Sized memoryOf
+sized owners codes numbers stack lengths items promises caches a b c d e f g h = λ R calls depth. record { owners = a; codes = b; numbers = c; stack = d; lengths = e; items = f; promises = g; caches = h }
+
+module _ (s owners codes : List ℕ) (numbers : List ℤ) (stack lengths : List ℕ) (items : List ℤ) (promises : List ℕ) (caches : List ℤ) (calls depth : ℕ) (p : Spot) (l : Located s owners calls stack depth p) where
+  at-first : (R : List ℤ) → Spotted s (memoryOf owners codes numbers stack lengths items promises caches R calls depth) p
+  unfolding Located withOpen memoryOf
+  at-first R = l (memoryOf owners codes numbers stack lengths items promises caches R calls depth)
+
+  counted : (R : List ℤ) → (memoryOf owners codes numbers stack lengths items promises caches R calls depth .calls ≡ calls) × (memoryOf owners codes numbers stack lengths items promises caches R calls depth .depth ≡ depth)
+  unfolding memoryOf
+  counted R = (refl, refl)
+
+  pub ready : calls < 256 → depth < 256 → Sized (memoryOf owners codes numbers stack lengths items promises caches) → Ready s (memoryOf owners codes numbers stack lengths items promises caches) p
+  unfolding Sized
+  ready few shallow long = record {
+    calls = rw (at-first [] .calls, counted [] .0) few;
+    depth = rw (at-first [] .depth, counted [] .1) shallow;
+    stands = λ R. at-numbers s (memoryOf owners codes numbers stack lengths items promises caches R) calls depth p (p .calls) (p .depth) (at-first R .calls ∙ counted R .0) (at-first R .depth ∙ counted R .1) (long R calls depth, at-first R);
+  }
+
+  pub resumes : (budget : ℕ) (r : Counted) (N : List ℤ → ℕ → ℕ → Memory) → Goes s r (memoryOf owners codes numbers stack lengths items promises caches) N p budget → Resumes s r (memoryOf owners codes numbers stack lengths items promises caches) N calls depth budget
+  resumes budget r N g = record {
+    few = g .calls;
+    shallow = g .depth;
+    placed = g .placed;
+    ran = λ R. g .ran R ∙ ap (λ (t : State). runFrom (programOf s) budget t 0) (at-both (memoryOf owners codes numbers stack lengths items promises caches R) (p .calls) (p .depth) (at-first R .calls ∙ counted R .0) (at-first R .depth ∙ counted R .1));
+  }
+    where
+      at-both : (N : ℕ → ℕ → Memory) (x y : ℕ) → x ≡ calls → y ≡ depth → stateOf (N x y) ≡ stateOf (N calls depth)
+      at-both N x y a b = rw (a, b)

@@ -76,6 +76,17 @@ pub record Goes (s : List ℕ) (r : Counted) (M N : List ℤ → ℕ → ℕ →
   pub placed : Placed (r .turn)
   pub ran : (R : List ℤ) → ranOf (r .turn) (N R (r .calls) (r .depth)) (r .steps) ≡ runFrom (programOf s) budget (stateOf (M R (p .calls) (p .depth))) 0
 
+-- arrays of their lengths, whatever else the memory holds
+unfoldable pub Sized : (List ℤ → ℕ → ℕ → Memory) → Type 0
+Sized M = (R : List ℤ) (calls depth : ℕ) → Long (M R calls depth)
+
+-- the same of a memory with these numbers of live calls and activations, wherever it stands
+pub record Resumes (s : List ℕ) (r : Counted) (M N : List ℤ → ℕ → ℕ → Memory) (calls depth budget : ℕ) : Type 0 where
+  pub few : r .calls < 256
+  pub shallow : r .depth < 256
+  pub placed : Placed (r .turn)
+  pub ran : (R : List ℤ) → ranOf (r .turn) (N R (r .calls) (r .depth)) (r .steps) ≡ runFrom (programOf s) budget (stateOf (M R calls depth)) 0
+
 -- ---- parts of a step
 
 -- the end of a block as a turn

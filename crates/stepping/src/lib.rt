@@ -8,11 +8,12 @@ ghost use Rattle.places.specs.Standing.{isLine};
 ghost use Rattle.machine.specs.Runs.{lastStep};
 ghost use Rattle.program.specs.Places.{tableOf};
 ghost use Rattle.memory.specs.Memory.{memoryOf};
-ghost use Rattle.stepping.specs.Going.{Ready, Steps, Goes, closedOf};
+ghost use Rattle.stepping.specs.Going.{Ready, Steps, Goes, Resumes, Sized, closedOf};
 use ends::Closed;
 use instructions::Turn;
 use machine::End;
 use places::Spot;
+use program::lookup;
 
 /// So many steps: the last turn, the live calls and activations after it, and how many are counted.
 pub struct Counted {
@@ -247,4 +248,40 @@ pub fn go(
         depth: spot.depth,
         steps: n,
     }
+}
+
+/// Goes on with the run that the arrays stand for, at most `budget` steps. It requires of the arrays what their types say.
+pub fn resume(
+    image: &[u8],
+    owners: &mut [u8; 64],
+    codes: &mut [u16; 768],
+    numbers: &mut [i32; 768],
+    stack: &mut [u8; 192],
+    lengths: &mut [u8; 64],
+    items: &mut [i32; 1024],
+    promises: &mut [u8; 192],
+    caches: &mut [i32; 64],
+    calls: u8,
+    depth: u8,
+    budget: u32,
+) -> Counted
+    requires { ⌜ Sized (memoryOf (now owners) (now codes) (now numbers) (now stack) (now lengths) (now items) (now promises) (now caches)) ⌝ }
+    ensures { λ r. ⌜ Resumes (now (image .entry)) r (memoryOf (now (owners .entry)) (now (codes .entry)) (now (numbers .entry)) (now (stack .entry)) (now (lengths .entry)) (now (items .entry)) (now (promises .entry)) (now (caches .entry))) (memoryOf (now (owners .exit)) (now (codes .exit)) (now (numbers .exit)) (now (stack .exit)) (now (lengths .exit)) (now (items .exit)) (now (promises .exit)) (now (caches .exit))) calls depth budget ⌝ }
+{
+    let table = lookup::versions(image);
+    let spot = places::locate(image, &table, owners, stack, calls as usize, depth as usize);
+    go(
+        image,
+        &table,
+        owners,
+        codes,
+        numbers,
+        stack,
+        lengths,
+        items,
+        promises,
+        caches,
+        spot,
+        budget,
+    )
 }
