@@ -17,24 +17,24 @@ use memory::Whole;
 use program::decode;
 
 /// 1 where `a` is `b`, else 0.
-fn same(a: u16, b: u16) -> usize
+fn same(a: u16, b: u16) -> u16
     ensures { λ r. ⌜ (r ≡ cond (eqb a b) 1 0) × (r ≤ 1) ⌝ }
 {
     if a == b { 1 } else { 0 }
 }
 
-/// How many of the first `cells` cells have the code `c`.
+/// How many of the first `cells` cells have the code `c`. It counts in the width of a code, so that eight cells are compared at once.
 pub fn count(codes: &[u16; 768], cells: usize, c: u16) -> usize
     requires { ⌜ cells ≤ 768 ⌝ }
     ensures { λ r. ⌜ r ≡ occurrences (now (codes .entry)) cells c ⌝ }
 {
-    let mut n: usize = 0;
+    let mut n: u16 = 0;
     let mut i: usize = 0;
     while i < cells {
         n += same(codes[i], c);
         i += 1;
     }
-    n
+    n as usize
 }
 
 /// How many cells the live calls have.

@@ -50,6 +50,10 @@ loop-again : tie.Need-loop-again Inv-loop μ-loop
 loop-again c =
     (omega arith, omega arith, counted-on _ _ _ _ _ ((c .before .before .before .loop) .inv .2) ((c .same) .ensures .0))
 
+-- src/lib.rt:31:5
+cast-result : tie.Need-cast-result Inv-loop μ-loop
+cast-result c = search needs
+
 -- src/lib.rt:20:1
 returns : tie.Need-returns Inv-loop μ-loop
 returns c =
@@ -69,4 +73,5 @@ count-spec =
     add-i
     loop-less
     loop-again
+    cast-result
     returns)
