@@ -16,7 +16,7 @@ use Rattle.machine.specs.Steps.{execute}
 use Rattle.machine.specs.Try.{Try, got, stuck, stop, _>>=_, _>>_, orStuck, stuckUnless}
 use Rattle.machine.specs.declared.State.{State}
 use Rattle.memory.specs.Memory.{Long, Memory, cellIn, stateOf}
-use Rattle.memory.specs.Parts.{Does, withCells, withOpen, withPromises}
+use Rattle.memory.specs.Parts.{Does, endOf, withCells, withOpen, withPromises}
 use Rattle.memory.specs.Works.{Works, executed}
 use Rattle.memory.specs.declared.Did.{Did}
 use Rattle.kinds.specs.Kinds.{argumentKind}
@@ -44,7 +44,7 @@ module _ (P : Program) (M : Memory) (a b : Arrays) (promises : List ℕ) (calls 
     pub opens-in : (r : Did) → Entered r a b calls depth k d X rs n → Long before → k < calls → k < 32
         → Does r before (withArrays M b promises (onward r calls (calls + 1)) (onward r depth (depth + 1))) (enter (stateOf before) k d X rs (map (λ q. cellIn (a .codes) (a .numbers) (24 * k + q)) rs))
         × Long (withArrays M b promises (onward r calls (calls + 1)) (onward r depth (depth + 1)))
-    unfolding Entered Does onward withArrays withCells withOpen withPromises enteredArrays
+    unfolding Entered Does endOf onward withArrays withCells withOpen withPromises enteredArrays
     opens-in Did.On (shallow, near, e) long live low = (
       enter-in before long k d X rs n live low sized typed alike registers shallow near ∙ ap (λ (x : Arrays). got (stateOf (withArrays M x promises (calls + 1) (depth + 1)))) (sym e),
       subst (λ (x : Arrays). Long (withArrays M x promises (calls + 1) (depth + 1))) (sym e) (after-long before long k d X rs n live low sized typed alike registers shallow near),
@@ -54,7 +54,7 @@ module _ (P : Program) (M : Memory) (a b : Arrays) (promises : List ℕ) (calls 
       subst (λ (x : Arrays). Long (withArrays M x promises calls depth)) (sym e) long,
     )
     opens-in (Did.Stop x) (deep, z, e) long live low = (
-      (enter-deep before long k d X rs n live low sized typed alike registers deep ∙ ap stop (sym z), ap (λ (x : Arrays). withArrays M x promises calls depth) e),
+      (enter-deep before long k d X rs n live low sized typed alike registers deep ∙ ap (λ h. stop (endOf h)) (sym z), ap (λ (x : Arrays). withArrays M x promises calls depth) e),
       subst (λ (x : Arrays). Long (withArrays M x promises calls depth)) (sym e) long,
     )
 

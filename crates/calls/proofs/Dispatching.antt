@@ -21,9 +21,10 @@ use Rattle.machine.specs.Try.{Try, got, stuck, stop, _>>=_, orStuck}
 use Rattle.machine.specs.declared.End.{End}
 use Rattle.machine.specs.declared.State.{State}
 use Rattle.memory.specs.Memory.{Memory, cellIn, stateOf}
-use Rattle.memory.specs.Parts.{Does, withCells, withOpen, withPromises}
+use Rattle.memory.specs.Parts.{Does, endOf, withCells, withOpen, withPromises}
 use Rattle.memory.specs.Works.{Works, executed}
 use Rattle.memory.specs.declared.Did.{Did}
+use Rattle.memory.specs.declared.Halt.{Halt}
 use Rattle.kinds.specs.Kinds.{argumentKind}
 use Rattle.calls.specs.Entering.{Arrays, Dispatched, Entered, knownIn, lowestAt, onward, orElse, passedAt, passesIn, withArrays}
 use Rattle.calls.proofs.Arguments.{allOf, arguments-in}
@@ -152,8 +153,8 @@ module _ (s : List ℕ) (a : Arrays) (promises : List ℕ) (calls depth k at d f
     alike : (pairs : List Argument) → instrAt s at ≡ DISPATCH d f mark ret pairs → length pairs ≡ n → (ks : List ℕ) → allOf (argumentKind (programOf s) (a .owners) promises calls (a .codes) k) (registers pairs) ≡ some ks → (X : Version) → passing X ≡ dispatches mark ret pairs ks X
     alike pairs ei el ks e X = let l = listed-registers s at d f mark ret pairs ei in rw (l .0, l .1) (passes-in (programOf s) (a .owners) promises calls (a .codes) k mark ret n pairs ks el (registers-length pairs ∙ el) e X)
 
-    pub dispatched-undef : lowestAt s f passing 4 0 ≡ Nothing → Dispatched s (Did.Stop End.Undef) a a promises calls depth k at d f mark ret n
-    unfolding Dispatched Works Does onward withArrays withCells withOpen withPromises picked
+    pub dispatched-undef : lowestAt s f passing 4 0 ≡ Nothing → Dispatched s (Did.Stop Halt.Undef) a a promises calls depth k at d f mark ret n
+    unfolding Dispatched Works Does onward withArrays withCells withOpen withPromises picked endOf
     dispatched-undef e = λ M W pairs ei el long live low.
         let m = kinds-of pairs ei el in
         let t = sym (lowest-same s f passing (dispatches mark ret pairs (m .0)) (alike pairs ei el (m .0) (m .1)) 4 0) ∙ lowest-none s f passing 4 0 e in

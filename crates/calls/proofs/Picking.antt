@@ -14,8 +14,7 @@ use Rattle.layout.specs.Tests.{_and_}
 use Rattle.layout.specs.declared.Found.{Found}
 use Rattle.layout.specs.declared.Found.the-variants.{Nothing, At}
 use Rattle.program.proofs.Lookups.{version-found}
-use Rattle.program.proofs.Tables.{listed-right}
-use Rattle.program.specs.Places.{listedIn, tableOf, versionAt, versionPlace}
+use Rattle.program.specs.Places.{versionAt, versionPlace}
 use Rattle.program.specs.Program.{Argument, Program, Version, findVersion, markOf, parameterTypes}
 use Rattle.rules.specs.Types.{kindOf, ownershipOf, within}
 use Rattle.machine.proofs.Matching.{same-length}
@@ -152,9 +151,9 @@ module _ (s : List ℕ) (f : ℕ) (p : Version → Bool) (w : ℕ) where
   unfolding passedAt
   passed-missing e = rw (found-none p e) refl
 
-  module _ (t : List ℕ) (o : Found) (tabled : t ≡ tableOf s) (looked : o ≡ listedIn s t f w) (v : ℕ) (there : o ≡ At v) where
+  module _ (o : Found) (looked : o ≡ versionPlace s f w) (v : ℕ) (there : o ≡ At v) where
     placed : versionPlace s f w ≡ At v
-    placed = sym (listed-right s t f w tabled) ∙ sym looked ∙ there
+    placed = sym looked ∙ there
 
     pub passed-met : p (versionAt s v) ≡ true → At v ≡ passedAt s f p w
     unfolding passedAt

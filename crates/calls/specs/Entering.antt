@@ -15,11 +15,11 @@ use Rattle.program.specs.Places.{instrAt, versionPlace}
 use Rattle.program.specs.Program.{Argument, Program, Version, CALL, DISPATCH, findVersion, markOf}
 use Rattle.rules.specs.Types.{kindOf, ownershipOf, within}
 use Rattle.machine.specs.Begin.{programOf}
-use Rattle.machine.specs.declared.End.{End}
 use Rattle.memory.specs.Memory.{Memory}
 use Rattle.memory.specs.Parts.{withCells, withOpen, withPromises}
 use Rattle.memory.specs.Works.{Works}
 use Rattle.memory.specs.declared.Did.{Did}
+use Rattle.memory.specs.declared.Halt.{Halt}
 use Rattle.calls.specs.Frames.{enteredCodes, few, ownedBy, passedTo, pushed}
 use Rattle.kinds.specs.Kinds.{argumentKind}
 
@@ -111,7 +111,7 @@ enteredArrays a calls depth k d X rs n = record {
 unfoldable pub Entered : Did → Arrays → Arrays → ℕ → ℕ → ℕ → ℕ → Version → List ℕ → ℕ → Type 0
 Entered Did.On a b calls depth k d X rs n = (depth < 32) × (calls < 32) × (b ≡ enteredArrays a calls depth k d X rs n)
 Entered Did.Stuck a b calls depth k d X rs n = (depth < 32) × (32 ≤ calls) × (b ≡ a)
-Entered (Did.Stop e) a b calls depth k d X rs n = (32 ≤ depth) × (e ≡ End.Deep) × (b ≡ a)
+Entered (Did.Stop e) a b calls depth k d X rs n = (32 ≤ depth) × (e ≡ Halt.Deep) × (b ≡ a)
 
 -- CALL with n registers, whatever else the memory holds
 unfoldable pub Called : List ℕ → Did → Arrays → Arrays → List ℕ → ℕ → ℕ → ℕ → ℕ → ℕ → ℕ → ℕ → ℕ → Type 0

@@ -4,7 +4,8 @@ ghost use mathlib.Core.Path.{_≡_};
 ghost use Prim.Native.Nat.{_*_, _<_, _≤_};
 ghost use lib.IntN.{pos};
 ghost use Rattle.layout.specs.Records.{_!_};
-ghost use Rattle.program.specs.Places.{instrAt, tableOf, versionAt};
+ghost use Rattle.program.specs.Places.{instrAt, versionAt};
+ghost use Rattle.index.specs.Indexed.{Indexed};
 ghost use Rattle.program.specs.Program.{MOVE, CAST};
 ghost use Rattle.program.specs.Shapes.{listedRegisters, listedTypes};
 ghost use Rattle.machine.specs.Begin.{programOf};
@@ -13,9 +14,9 @@ ghost use Rattle.kinds.specs.Kinds.{heldKind, kindOr, Kinded, argumentKind, typ
 ghost use Rattle.calls.specs.Frames.{clearedTo, passedTo, emptiedTo, few, pushed};
 ghost use Rattle.calls.specs.Entering.{Within, fitsKind, parametersOf, isThere, matchesIn, knownIn, sameIn, passesIn, passedAt, lowestAt, Entered, Called, Dispatched};
 use layout::Found;
-use machine::End;
 use memory::Did;
 use memory::Gives;
+use memory::Halt;
 use program::decode;
 use program::lookup;
 use typing::types;
@@ -43,7 +44,7 @@ fn parameters_of(image: &[u8], v: usize) -> usize
 /// Is what the instruction at `at` lists as its register `i`, in the frame `k`, an argument for the parameter `i` of the version at `v`?
 fn fits(
     image: &[u8],
-    table: &[usize; 128],
+    table: &[u16; 1152],
     owners: &[u8; 64],
     codes: &[u16; 768],
     promises: &[u8; 192],
@@ -53,7 +54,7 @@ fn fits(
     v: usize,
     i: usize,
 ) -> bool
-    requires { ⌜ (now table ≡ tableOf (now image)) × (k < 32) ⌝ }
+    requires { ⌜ Indexed (now image) (now table) × (k < 32) ⌝ }
     ensures { λ r. ⌜ r ≡ fitsKind (argumentKind (programOf (now (image .entry))) (now (owners .entry)) (now (promises .entry)) calls (now (codes .entry)) k (listedRegisters (instrAt (now (image .entry)) at) ! i)) (versionAt (now (image .entry)) v .types ! i) ⌝ }
 {
     let r = decode::listed_register(image, at, i);
@@ -67,7 +68,7 @@ fn fits(
 /// Are the `n` registers that the instruction at `at` lists, in the frame `k`, arguments for the version at `v`?
 fn matching(
     image: &[u8],
-    table: &[usize; 128],
+    table: &[u16; 1152],
     owners: &[u8; 64],
     codes: &[u16; 768],
     promises: &[u8; 192],
@@ -77,7 +78,7 @@ fn matching(
     v: usize,
     n: usize,
 ) -> bool
-    requires { ⌜ (now table ≡ tableOf (now image)) × (k < 32) ⌝ }
+    requires { ⌜ Indexed (now image) (now table) × (k < 32) ⌝ }
     ensures { λ r. ⌜ r ≡ matchesIn (programOf (now (image .entry))) (now (owners .entry)) (now (promises .entry)) calls (now (codes .entry)) k (listedRegisters (instrAt (now (image .entry)) at)) (versionAt (now (image .entry)) v) n ⌝ }
 {
     if n != parameters_of(image, v) {
@@ -184,7 +185,7 @@ fn enter(
     ensures { λ r. ⌜ Entered r (record { owners = now (owners .entry); codes = now (codes .entry); numbers = now (numbers .entry); stack = now (stack .entry) }) (record { owners = now (owners .exit); codes = now (codes .exit); numbers = now (numbers .exit); stack = now (stack .exit) }) calls depth k d (versionAt (now (image .entry)) v) (listedRegisters (instrAt (now (image .entry)) at)) n ⌝ }
 {
     if 32 <= depth {
-        return Did::Stop(End::Deep);
+        return Did::Stop(Halt::Deep);
     }
     if 32 <= calls {
         return Did::Stuck;
@@ -198,10 +199,10 @@ fn enter(
     Did::On
 }
 
-/// CALL: opens a call of the version that is named. The table is the image's.
+/// CALL: opens a call of the version that is named. The table is the image's index.
 pub fn call(
     image: &[u8],
-    table: &[usize; 128],
+    table: &[u16; 1152],
     owners: &mut [u8; 64],
     codes: &mut [u16; 768],
     numbers: &mut [i32; 768],
@@ -216,10 +217,10 @@ pub fn call(
     version: u8,
     n: u8,
 ) -> Did
-    requires { ⌜ (now table ≡ tableOf (now image)) × (k < 32) ⌝ }
+    requires { ⌜ Indexed (now image) (now table) × (k < 32) ⌝ }
     ensures { λ r. ⌜ Called (now (image .entry)) r (record { owners = now (owners .entry); codes = now (codes .entry); numbers = now (numbers .entry); stack = now (stack .entry) }) (record { owners = now (owners .exit); codes = now (codes .exit); numbers = now (numbers .exit); stack = now (stack .exit) }) (now (promises .entry)) calls depth k at d function version n × Within r calls depth ⌝ }
 {
-    let Found::At(v) = lookup::listed(image, table, function as usize, version as usize) else {
+    let Found::At(v) = index::version(image, table, function as usize, version as usize) else {
         return Did::Stuck;
     };
     if matching(
@@ -256,7 +257,7 @@ pub fn call(
 /// Are all `n` registers there that the instruction at `at` lists, in the frame `k`?
 fn known(
     image: &[u8],
-    table: &[usize; 128],
+    table: &[u16; 1152],
     owners: &[u8; 64],
     codes: &[u16; 768],
     promises: &[u8; 192],
@@ -265,7 +266,7 @@ fn known(
     at: usize,
     n: usize,
 ) -> bool
-    requires { ⌜ (now table ≡ tableOf (now image)) × (k < 32) ⌝ }
+    requires { ⌜ Indexed (now image) (now table) × (k < 32) ⌝ }
     ensures { λ r. ⌜ r ≡ knownIn (programOf (now (image .entry))) (now (owners .entry)) (now (promises .entry)) calls (now (codes .entry)) k (listedRegisters (instrAt (now (image .entry)) at)) n ⌝ }
 {
     let mut i: usize = 0;
@@ -300,7 +301,7 @@ fn same_ownerships(image: &[u8], at: usize, v: usize, n: usize) -> bool
 /// Does the DISPATCH at `at` pass the version at `v`?
 fn passes(
     image: &[u8],
-    table: &[usize; 128],
+    table: &[u16; 1152],
     owners: &[u8; 64],
     codes: &[u16; 768],
     promises: &[u8; 192],
@@ -312,7 +313,7 @@ fn passes(
     returns: u8,
     n: usize,
 ) -> bool
-    requires { ⌜ (now table ≡ tableOf (now image)) × (k < 32) ⌝ }
+    requires { ⌜ Indexed (now image) (now table) × (k < 32) ⌝ }
     ensures { λ r. ⌜ r ≡ passesIn (programOf (now (image .entry))) (now (owners .entry)) (now (promises .entry)) calls (now (codes .entry)) k (listedTypes (instrAt (now (image .entry)) at)) (listedRegisters (instrAt (now (image .entry)) at)) mark returns n (versionAt (now (image .entry)) v) ⌝ }
 {
     if !same_ownerships(image, at, v, n) {
@@ -335,7 +336,7 @@ fn passes(
 /// Where the version `w` of the function `f` stands, if the DISPATCH at `at` passes it.
 fn passed(
     image: &[u8],
-    table: &[usize; 128],
+    table: &[u16; 1152],
     owners: &[u8; 64],
     codes: &[u16; 768],
     promises: &[u8; 192],
@@ -348,10 +349,10 @@ fn passed(
     returns: u8,
     n: usize,
 ) -> Found
-    requires { ⌜ (now table ≡ tableOf (now image)) × (k < 32) ⌝ }
+    requires { ⌜ Indexed (now image) (now table) × (k < 32) ⌝ }
     ensures { λ r. ⌜ r ≡ passedAt (now (image .entry)) f (passesIn (programOf (now (image .entry))) (now (owners .entry)) (now (promises .entry)) calls (now (codes .entry)) k (listedTypes (instrAt (now (image .entry)) at)) (listedRegisters (instrAt (now (image .entry)) at)) mark returns n) w ⌝ }
 {
-    let Found::At(v) = lookup::listed(image, table, f, w) else {
+    let Found::At(v) = index::version(image, table, f, w) else {
         return Found::Nothing;
     };
     if passes(
@@ -377,7 +378,7 @@ fn passed(
 /// Where the lowest version of the function `f` stands that the DISPATCH at `at` passes.
 fn pick(
     image: &[u8],
-    table: &[usize; 128],
+    table: &[u16; 1152],
     owners: &[u8; 64],
     codes: &[u16; 768],
     promises: &[u8; 192],
@@ -389,7 +390,7 @@ fn pick(
     returns: u8,
     n: usize,
 ) -> Found
-    requires { ⌜ (now table ≡ tableOf (now image)) × (k < 32) ⌝ }
+    requires { ⌜ Indexed (now image) (now table) × (k < 32) ⌝ }
     ensures { λ r. ⌜ r ≡ lowestAt (now (image .entry)) f (passesIn (programOf (now (image .entry))) (now (owners .entry)) (now (promises .entry)) calls (now (codes .entry)) k (listedTypes (instrAt (now (image .entry)) at)) (listedRegisters (instrAt (now (image .entry)) at)) mark returns n) 4 0 ⌝ }
 {
     let mut w: usize = 0;
@@ -416,10 +417,10 @@ fn pick(
     Found::Nothing
 }
 
-/// DISPATCH: opens a call of the lowest version that passes. The table is the image's.
+/// DISPATCH: opens a call of the lowest version that passes. The table is the image's index.
 pub fn dispatch(
     image: &[u8],
-    table: &[usize; 128],
+    table: &[u16; 1152],
     owners: &mut [u8; 64],
     codes: &mut [u16; 768],
     numbers: &mut [i32; 768],
@@ -435,7 +436,7 @@ pub fn dispatch(
     returns: u8,
     n: u8,
 ) -> Did
-    requires { ⌜ (now table ≡ tableOf (now image)) × (k < 32) ⌝ }
+    requires { ⌜ Indexed (now image) (now table) × (k < 32) ⌝ }
     ensures { λ r. ⌜ Dispatched (now (image .entry)) r (record { owners = now (owners .entry); codes = now (codes .entry); numbers = now (numbers .entry); stack = now (stack .entry) }) (record { owners = now (owners .exit); codes = now (codes .exit); numbers = now (numbers .exit); stack = now (stack .exit) }) (now (promises .entry)) calls depth k at d function mark returns n × Within r calls depth ⌝ }
 {
     if !known(
@@ -465,7 +466,7 @@ pub fn dispatch(
         returns,
         n as usize,
     ) else {
-        return Did::Stop(End::Undef);
+        return Did::Stop(Halt::Undef);
     };
     enter(
         image,

@@ -12,7 +12,7 @@ use Rattle.machine.specs.Values as values
 use Rattle.machine.specs.declared.State.{State}
 use Rattle.machine.specs.declared.Value.{Value}
 use Rattle.memory.specs.Memory.{Memory, stateOf, frameIn, valueOf}
-use Rattle.memory.specs.Parts.{givesOf}
+use Rattle.memory.specs.Parts.{endOf, givesOf}
 use Rattle.memory.specs.Works.{executed, Feeds}
 use Rattle.memory.specs.declared.Gives.{Gives}
 use Rattle.cells.specs.Operands.{arithIn, integerIn, namedIn, selectIn}
@@ -36,7 +36,7 @@ bind-got a f = refl
 
 module _ (P : Program) (W : Version) (M : Memory) (k d : ℕ) where
   pub lit-feeds : (z : ℤ) → Feeds P W (Gives.Cell 1 z) M k d (LIT d z)
-  unfolding Feeds executed execute givesOf valueOf _>>=_
+  unfolding Feeds executed execute givesOf valueOf _>>=_ endOf
   lit-feeds z = λ long live few. refl
 
   pub arith-feeds : (g : Gives) (op a b : ℕ) → givesOf g ≡ arithIn (M .codes) (M .numbers) k op a b → Feeds P W g M k d (ARITH d op a b)

@@ -8,11 +8,11 @@ use lib.ListN.{length, length-set, set}
 use lib.Dec.{ltb}
 use borrow.Author.Tests.{ltb-true, ltb-false}
 use Rattle.machine.specs.Try.{got, stuck, stop, _>>=_}
-use Rattle.machine.specs.declared.End.{End}
 use Rattle.memory.specs.Memory.{Long, Memory, stateOf, valueOf}
-use Rattle.memory.specs.Parts.{Does, givesOf, withCells}
+use Rattle.memory.specs.Parts.{Does, endOf, givesOf, withCells}
 use Rattle.memory.specs.declared.Did.{Did}
 use Rattle.memory.specs.declared.Gives.{Gives}
+use Rattle.memory.specs.declared.Halt.{Halt}
 use Rattle.memory.proofs.Frames.{assign-in, assign-outside}
 use Rattle.cells.specs.Changes.{Gave}
 use Rattle.cells.specs.Operands.{written}
@@ -35,7 +35,7 @@ long-cells M codes codes′ numbers numbers′ l e f = record {
 module _ (codes : List ℕ) (numbers : List ℤ) (k d : ℕ) where
   -- a cell, into a register that is there
   pub gave-cell : {codes′ : List ℕ} {numbers′ : List ℤ} {g : Gives} {c : ℕ} {z : ℤ} → k < 32 → g ≡ Gives.Cell c z → true ≡ ltb d 16 → codes′ ≡ written codes (24 * k) 16 d c → numbers′ ≡ written numbers (24 * k) 16 d z → Gave Did.On codes codes′ numbers numbers′ k d g
-  unfolding Gave Does givesOf withCells _>>=_
+  unfolding Gave Does givesOf withCells _>>=_ endOf
   gave-cell {codes′} {numbers′} {c = c} {z = z} h g inside e f = λ M long live.
       let i = ltb-true d 16 (sym inside) in
       let e′ = e ∙ written-in codes (24 * k) 16 d c i in
@@ -46,7 +46,7 @@ module _ (codes : List ℕ) (numbers : List ℤ) (k d : ℕ) where
 
   -- into one that is not
   pub gave-outside : {codes′ : List ℕ} {numbers′ : List ℤ} {g : Gives} {c : ℕ} {z : ℤ} → k < 32 → g ≡ Gives.Cell c z → false ≡ ltb d 16 → codes′ ≡ written codes (24 * k) 16 d c → numbers′ ≡ written numbers (24 * k) 16 d z → Gave Did.Stuck codes codes′ numbers numbers′ k d g
-  unfolding Gave Does givesOf withCells _>>=_
+  unfolding Gave Does givesOf withCells _>>=_ endOf
   gave-outside {codes′} {numbers′} {c = c} {z = z} h g outside e f = λ M long live.
       let o = ltb-false d 16 (sym outside) in
       let e′ = e ∙ written-out codes (24 * k) 16 d c o in
@@ -56,9 +56,9 @@ module _ (codes : List ℕ) (numbers : List ℤ) (k d : ℕ) where
       )
 
   pub gave-stuck : {g : Gives} → g ≡ Gives.Stuck → Gave Did.Stuck codes codes numbers numbers k d g
-  unfolding Gave Does givesOf _>>=_
+  unfolding Gave Does givesOf _>>=_ endOf
   gave-stuck g = λ M long live. ((rw g, refl), long)
 
-  pub gave-stop : {g : Gives} {e : End} → g ≡ Gives.Stop e → Gave (Did.Stop e) codes codes numbers numbers k d g
-  unfolding Gave Does givesOf _>>=_
+  pub gave-stop : {g : Gives} {e : Halt} → g ≡ Gives.Stop e → Gave (Did.Stop e) codes codes numbers numbers k d g
+  unfolding Gave Does givesOf _>>=_ endOf
   gave-stop g = λ M long live. ((rw g, refl), long)

@@ -8,9 +8,9 @@ ghost use Rattle.cells.specs.Operands.{isInteger, isVector, isPromise, i
 ghost use Rattle.cells.specs.Changes.{Gave};
 use integers::Computed;
 use layout::Found;
-use machine::End;
 use memory::Did;
 use memory::Gives;
+use memory::Halt;
 use memory::Whole;
 
 /// Is it the code of a vector?
@@ -151,7 +151,7 @@ pub fn named(codes: &[u16; 768], numbers: &[i32; 768], k: usize, x: u8) -> Gives
     if is_promise(c) {
         Gives::Stuck
     } else {
-        Gives::Stop(End::Undef)
+        Gives::Stop(Halt::Undef)
     }
 }
 
@@ -168,7 +168,7 @@ pub fn arith(codes: &[u16; 768], numbers: &[i32; 768], k: usize, op: u8, a: u8, 
     };
     match integers::arith(op, x, y) {
         Computed::Integer(z) => Gives::Cell(1, z),
-        Computed::Undef => Gives::Stop(End::Undef),
+        Computed::Undef => Gives::Stop(Halt::Undef),
         Computed::Stuck => Gives::Stuck,
     }
 }
@@ -246,6 +246,6 @@ pub fn give(codes: &mut [u16; 768], numbers: &mut [i32; 768], k: usize, d: u8, g
             }
         }
         Gives::Stuck => Did::Stuck,
-        Gives::Stop(e) => Did::Stop(e),
+        Gives::Stop(h) => Did::Stop(h),
     }
 }

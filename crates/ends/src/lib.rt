@@ -2,7 +2,7 @@
 //! Its functions serve the loop of the engine; what they require, the loop keeps.
 ghost use mathlib.Core.Path.{_≡_};
 ghost use Prim.Native.Nat.{_<_, _≤_};
-ghost use Rattle.program.specs.Places.{tableOf};
+ghost use Rattle.index.specs.Indexed.{Indexed};
 ghost use Rattle.memory.specs.Memory.{memoryOf};
 ghost use Rattle.ends.specs.Closing.{Backs, CallEnds, Closes, Fewer, Finished, ForceEnds};
 use layout::Found;
@@ -103,7 +103,7 @@ fn finished(c: u16, z: i32) -> Closed
 /// The end of a call in the frame `k` of the version at `v`, whose result is the cell `i`.
 fn end_call(
     image: &[u8],
-    table: &[usize; 128],
+    table: &[u16; 1152],
     owners: &[u8; 64],
     codes: &mut [u16; 768],
     numbers: &mut [i32; 768],
@@ -115,7 +115,7 @@ fn end_call(
     v: usize,
     i: usize,
 ) -> Closed
-    requires { ⌜ (now table ≡ tableOf (now image)) × (0 < depth) × (depth ≤ 32) × (k < 32) × (i < 768) ⌝ }
+    requires { ⌜ Indexed (now image) (now table) × (0 < depth) × (depth ≤ 32) × (k < 32) × (i < 768) ⌝ }
     ensures { λ r. ⌜ CallEnds (now (image .entry)) r (now (owners .entry)) (now (codes .entry)) (now (codes .exit)) (now (numbers .entry)) (now (numbers .exit)) (now (stack .entry)) (now (promises .entry)) calls depth k v i × Fewer r ⌝ }
 {
     let c = codes[i];
@@ -155,7 +155,7 @@ fn end_call(
 /// The end of the block that a run stands at.
 pub fn finish(
     image: &[u8],
-    table: &[usize; 128],
+    table: &[u16; 1152],
     owners: &[u8; 64],
     codes: &mut [u16; 768],
     numbers: &mut [i32; 768],
@@ -166,7 +166,7 @@ pub fn finish(
     caches: &mut [i32; 64],
     spot: Spot,
 ) -> Closed
-    requires { ⌜ (now table ≡ tableOf (now image)) × (0 < spot .depth) × (spot .depth ≤ 32) × (spot .frame < 32) × (spot .calls < 256) ⌝ }
+    requires { ⌜ Indexed (now image) (now table) × (0 < spot .depth) × (spot .depth ≤ 32) × (spot .frame < 32) × (spot .calls < 256) ⌝ }
     ensures { λ r. ⌜ Closes (now (image .entry)) r (memoryOf (now (owners .entry)) (now (codes .entry)) (now (numbers .entry)) (now (stack .entry)) (now (lengths .entry)) (now (items .entry)) (now (promises .entry)) (now (caches .entry))) (memoryOf (now (owners .entry)) (now (codes .exit)) (now (numbers .exit)) (now (stack .entry)) (now (lengths .entry)) (now (items .entry)) (now (promises .exit)) (now (caches .exit))) spot × Fewer r ⌝ }
 {
     let r = layout::field(image, spot.block, 1) as u8;

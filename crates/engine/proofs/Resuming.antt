@@ -4,10 +4,10 @@ use mathlib.Core.List.{List, []}
 use mathlib.Core.Bool.{cond}
 use Prim.Native.Nat.{ℕ, _<_}
 use lib.IntN.{ℤ}
-use lib.ListN.{getD, length}
+use lib.ListN.{length}
 use lib.Dec.{ltb}
-use Rattle.layout.specs.Records.{_!_}
-use Rattle.machine.specs.States.{itemsOf, withEnd}
+use Rattle.machine.specs.Calls.{closed}
+use Rattle.machine.specs.States.{itemsOf, withEnd, withStack}
 use Rattle.machine.specs.declared.Answer.{Answer}
 use Rattle.machine.specs.declared.End.{End}
 use Rattle.machine.specs.declared.Ran.{Ran}
@@ -15,49 +15,32 @@ use Rattle.machine.specs.declared.State.{State}
 use Rattle.machine.specs.declared.Vector.{Vector}
 use Rattle.memory.specs.Lists.{upTo}
 use Rattle.memory.specs.Memory.{Long, Memory, activationIn, frameIn, framesOf, memoryOf, promiseIn, stateOf, vectorIn}
+use Rattle.memory.specs.Parts.{endOf}
+use Rattle.memory.specs.declared.Halt.{Halt}
 use Rattle.memory.proofs.Heap.{items-count}
-use Rattle.memory.proofs.Lists.{getD-upTo}
 use Rattle.instructions.specs.declared.Turn.{Turn}
 use Rattle.machine.specs.Begin.{programOf}
 use Rattle.machine.specs.Runs.{runFrom}
 use Rattle.machine.specs.declared.Status.{Status}
 use Rattle.stepping.specs.Going.{Placed, Resumes, ranOf}
 use Rattle.stepping.specs.declared.Counted.{Counted}
-use Rattle.engine.specs.Parts.{doneWith}
+use Rattle.engine.specs.Parts.{endedWith, goingWith, outcomeOf, stateWith}
+use Rattle.engine.specs.declared.Outcome.{Outcome}
 
 pub placed-vector : {t : Turn} {v : ℕ} → Placed t → t ≡ Turn.Vector v → v < 64
 unfolding Placed
 placed-vector p e = rw e at p
 
-module _ (owners codes : List ℕ) (numbers : List ℤ) (stack lengths : List ℕ) (items : List ℤ) (promises : List ℕ) (caches result : List ℤ) (calls depth n : ℕ) (state : State) (is : state ≡ stateOf (memoryOf owners codes numbers stack lengths items promises caches result calls depth)) where
-  the : Memory
-  the = memoryOf owners codes numbers stack lengths items promises caches result calls depth
-
-  pub ran-on : {t : Turn} → t ≡ Turn.On → record { state = state; answer = Answer.Steps; steps = n } ≡ ranOf t (memoryOf owners codes numbers stack lengths items promises caches result calls depth) n
-  unfolding ranOf
-  ran-on e = rw (e, is)
-
-  pub ran-stack : {t : Turn} (c d : ℕ) → t ≡ Turn.Stack c d → record { state = state; answer = Answer.Steps; steps = n } ≡ ranOf t (memoryOf owners codes numbers stack lengths items promises caches result calls depth) n
-  unfolding ranOf
-  ran-stack c d e = rw (e, is)
-
-  pub ran-stuck : {t : Turn} → t ≡ Turn.Stuck → record { state = state; answer = Answer.Stuck; steps = n } ≡ ranOf t (memoryOf owners codes numbers stack lengths items promises caches result calls depth) n
-  unfolding ranOf
-  ran-stuck e = rw (e, is)
-
-  pub ran-stop : {t : Turn} {last : State} (x : End) → t ≡ Turn.Stop x → last ≡ withEnd state result x → record { state = last; answer = Answer.Ended x; steps = n } ≡ ranOf t (memoryOf owners codes numbers stack lengths items promises caches result calls depth) n
-  unfolding ranOf memoryOf
-  ran-stop x e f = rw (e, f, is)
-
-  pub ran-integer : {t : Turn} {r : Ran} (z : ℤ) → t ≡ Turn.Integer z → r ≡ doneWith state result (End.Integer z) n → r ≡ ranOf t (memoryOf owners codes numbers stack lengths items promises caches result calls depth) n
-  unfolding ranOf doneWith memoryOf
-  ran-integer z e f = rw (e, f, is)
-
-  pub ran-vector : {t : Turn} {r : Ran} (v m : ℕ) (d : Vector) → t ≡ Turn.Vector v → v < 64 → m ≡ cond (ltb (getD (state .vectors) v d .length) 16) (getD (state .vectors) v d .length) 16 → r ≡ doneWith state (getD (state .vectors) v d .items) (End.Vector m) n → r ≡ ranOf t (memoryOf owners codes numbers stack lengths items promises caches result calls depth) n
-  unfolding ranOf doneWith memoryOf vectorIn stateOf
-  ran-vector v m d e h c f =
-      let w : getD (state .vectors) v d ≡ vectorIn lengths items v = ap (λ (s : State). getD (s .vectors) v d) is ∙ getD-upTo (vectorIn lengths items) 64 v d h in
-      rw (e, f, c, w, is, items-count lengths items v)
+-- the arrays with their outcome are what the run has come to
+pub come : (t : Turn) (owners codes : List ℕ) (numbers : List ℤ) (stack lengths : List ℕ) (items : List ℤ) (promises : List ℕ) (caches result : List ℤ) (calls depth n : ℕ) (o : Outcome) → o ≡ outcomeOf t lengths items result calls depth
+    → record { state = stateWith (memoryOf owners codes numbers stack lengths items promises caches (o .result) (o .calls) (o .depth)) (o .status); answer = o .answer; steps = n } ≡ ranOf t (memoryOf owners codes numbers stack lengths items promises caches result calls depth) n
+unfolding outcomeOf goingWith endedWith stateWith stateOf framesOf memoryOf ranOf withEnd closed withStack
+come Turn.On owners codes numbers stack lengths items promises caches result calls depth n o e = rw e
+come (Turn.Stack c d) owners codes numbers stack lengths items promises caches result calls depth n o e = rw e
+come (Turn.Integer z) owners codes numbers stack lengths items promises caches result calls depth n o e = rw e
+come (Turn.Vector v) owners codes numbers stack lengths items promises caches result calls depth n o e = rw e
+come Turn.Stuck owners codes numbers stack lengths items promises caches result calls depth n o e = rw e
+come (Turn.Stop h) owners codes numbers stack lengths items promises caches result calls depth n o e = rw e
 
 -- ---- the state that was loaded
 
@@ -68,3 +51,30 @@ module _ (s owners codes : List ℕ) (numbers : List ℤ) (stack lengths : List 
 
   pub resumed : {r : Ran} (budget : ℕ) (counted : Counted) (N : List ℤ → ℕ → ℕ → Memory) → Resumes s counted (memoryOf owners codes numbers stack lengths items promises caches) N (state .calls) (state .depth) budget → r ≡ ranOf (counted .turn) (N (state .result) (counted .calls) (counted .depth)) (counted .steps) → r ≡ runFrom (programOf s) budget state 0
   resumed budget counted N g e = e ∙ g .ran (state .result) ∙ ap (λ (t : State). runFrom (programOf s) budget t 0) the-state
+
+-- ---- the outcome, by the last turn
+
+module _ (lengths : List ℕ) (items result : List ℤ) (calls depth : ℕ) {r : Outcome} {t : Turn} where
+  pub out-on : t ≡ Turn.On → r ≡ goingWith calls depth result Answer.Steps → r ≡ outcomeOf t lengths items result calls depth
+  unfolding outcomeOf
+  out-on e f = rw e f
+
+  pub out-stack : (c d : ℕ) → t ≡ Turn.Stack c d → r ≡ goingWith calls depth result Answer.Steps → r ≡ outcomeOf t lengths items result calls depth
+  unfolding outcomeOf
+  out-stack c d e f = rw e f
+
+  pub out-integer : (z : ℤ) → t ≡ Turn.Integer z → r ≡ endedWith 0 0 result (End.Integer z) → r ≡ outcomeOf t lengths items result calls depth
+  unfolding outcomeOf
+  out-integer z e f = rw e f
+
+  pub out-vector : (v m : ℕ) (w : Vector) → t ≡ Turn.Vector v → w ≡ vectorIn lengths items v → m ≡ cond (ltb (w .length) 16) (w .length) 16 → r ≡ endedWith 0 0 (w .items) (End.Vector m) → r ≡ outcomeOf t lengths items result calls depth
+  unfolding outcomeOf vectorIn
+  out-vector v m w e g c f = rw (e, f, c, g, items-count lengths items v)
+
+  pub out-stuck : t ≡ Turn.Stuck → r ≡ goingWith calls depth result Answer.Stuck → r ≡ outcomeOf t lengths items result calls depth
+  unfolding outcomeOf
+  out-stuck e f = rw e f
+
+  pub out-stop : (h : Halt) (x : End) → t ≡ Turn.Stop h → x ≡ endOf h → r ≡ endedWith calls depth result x → r ≡ outcomeOf t lengths items result calls depth
+  unfolding outcomeOf
+  out-stop h x e g f = rw (e, f, g)

@@ -4,12 +4,10 @@ ghost use Prim.Native.Nat.{_<_, _≤_};
 ghost use lib.ListN.{length};
 ghost use Rattle.machine.specs.Begin.{beginOf, programOf, runOf};
 ghost use Rattle.machine.specs.Runs.{budgetIn, budgetOf, bufferOf, runFrom, stepOf};
-ghost use Rattle.machine.specs.Calls.{closed};
-ghost use Rattle.machine.specs.States.{withEnd};
 ghost use Rattle.machine.specs.declared.Status.{Status};
-ghost use Rattle.memory.specs.Memory.{memoryOf, stateOf};
-ghost use Rattle.stepping.specs.Going.{Placed, ranOf};
-ghost use Rattle.engine.specs.Parts.{doneWith, saidOf};
+ghost use Rattle.memory.specs.Memory.{memoryOf};
+ghost use Rattle.stepping.specs.Going.{Placed};
+ghost use Rattle.engine.specs.Parts.{endedWith, goingWith, outcomeOf, saidOf, stateWith};
 ghost use mathlib.Core.Bool.{cond};
 ghost use lib.Dec.{ltb};
 use instructions::Turn;
@@ -31,6 +29,15 @@ pub struct State {
     pub inner: machine::State,
 }
 
+/// What a run comes to beside its arrays.
+struct Outcome {
+    calls: u8,
+    depth: u8,
+    result: [i32; 16],
+    status: Status,
+    answer: Answer,
+}
+
 /// The state that the arrays stand for.
 fn standing(
     owners: &[u8; 64],
@@ -41,69 +48,21 @@ fn standing(
     items: &[i32; 1024],
     promises: &[u8; 192],
     caches: &[i32; 64],
-    result: [i32; 16],
-    calls: usize,
-    depth: usize,
+    outcome: Outcome,
 ) -> machine::State
-    requires { ⌜ (calls < 256) × (depth < 256) ⌝ }
-    ensures { λ r. ⌜ r ≡ stateOf (memoryOf (now (owners .entry)) (now (codes .entry)) (now (numbers .entry)) (now (stack .entry)) (now (lengths .entry)) (now (items .entry)) (now (promises .entry)) (now (caches .entry)) result calls depth) ⌝ }
+    ensures { λ r. ⌜ r ≡ stateWith (memoryOf (now (owners .entry)) (now (codes .entry)) (now (numbers .entry)) (now (stack .entry)) (now (lengths .entry)) (now (items .entry)) (now (promises .entry)) (now (caches .entry)) (outcome .result) (outcome .calls) (outcome .depth)) (outcome .status) ⌝ }
 {
-    let frames = flat::frames(owners, codes, numbers);
-    let activations = flat::activations(stack);
-    let vectors = flat::vectors(lengths, items);
-    let delayed = flat::promises(promises, caches);
+    let result = outcome.result;
+    let status = outcome.status;
     machine::State {
-        frames: frames,
-        calls: calls as u8,
-        activations: activations,
-        depth: depth as u8,
-        vectors: vectors,
-        promises: delayed,
+        frames: flat::frames(owners, codes, numbers),
+        calls: outcome.calls,
+        activations: flat::activations(stack),
+        depth: outcome.depth,
+        vectors: flat::vectors(lengths, items),
+        promises: flat::promises(promises, caches),
         result: result,
-        status: Status::Running,
-    }
-}
-
-/// The state with its end, and the items of a vector that it ended with.
-fn ended(state: machine::State, result: [i32; 16], end: End) -> machine::State
-    ensures { λ r. ⌜ r ≡ withEnd state result end ⌝ }
-{
-    let frames = state.frames;
-    let activations = state.activations;
-    let vectors = state.vectors;
-    let promises = state.promises;
-    machine::State {
-        frames: frames,
-        calls: state.calls,
-        activations: activations,
-        depth: state.depth,
-        vectors: vectors,
-        promises: promises,
-        result: result,
-        status: Status::Ended(end),
-    }
-}
-
-/// The state with no call and no activation left.
-fn emptied(state: machine::State) -> machine::State
-    ensures { λ r. ⌜ r ≡ closed state ⌝ }
-{
-    let mut left = state;
-    left.calls = 0;
-    left.depth = 0;
-    left
-}
-
-/// A run that is done.
-fn finished(state: machine::State, result: [i32; 16], end: End, steps: u32) -> Ran
-    ensures { λ r. ⌜ r ≡ doneWith state result end steps ⌝ }
-{
-    let left = emptied(state);
-    let last = ended(left, result, end);
-    Ran {
-        state: last,
-        answer: Answer::Ended(end),
-        steps: steps,
+        status: status,
     }
 }
 
@@ -114,69 +73,52 @@ fn shown(n: u8) -> u8
     if n < 16 { n } else { 16 }
 }
 
-/// What the steps that were taken come to, by the last turn.
-fn rebuilt(
-    owners: &[u8; 64],
-    codes: &[u16; 768],
-    numbers: &[i32; 768],
-    stack: &[u8; 192],
-    lengths: &[u8; 64],
-    items: &[i32; 1024],
-    promises: &[u8; 192],
-    caches: &[i32; 64],
-    result: [i32; 16],
-    counted: Counted,
-) -> Ran
-    requires { ⌜ (counted .calls < 256) × (counted .depth < 256) × Placed (counted .turn) ⌝ }
-    ensures { λ r. ⌜ r ≡ ranOf (counted .turn) (memoryOf (now (owners .entry)) (now (codes .entry)) (now (numbers .entry)) (now (stack .entry)) (now (lengths .entry)) (now (items .entry)) (now (promises .entry)) (now (caches .entry)) result (counted .calls) (counted .depth)) (counted .steps) ⌝ }
+/// A run with its calls and activations, which goes on or is stuck.
+fn going(calls: u8, depth: u8, result: [i32; 16], answer: Answer) -> Outcome
+    ensures { λ r. ⌜ r ≡ goingWith calls depth result answer ⌝ }
 {
-    let state = standing(
-        owners,
-        codes,
-        numbers,
-        stack,
-        lengths,
-        items,
-        promises,
-        caches,
-        result,
-        counted.calls,
-        counted.depth,
-    );
-    let steps = counted.steps;
+    Outcome {
+        calls: calls,
+        depth: depth,
+        result: result,
+        status: Status::Running,
+        answer: answer,
+    }
+}
+
+/// A run that has ended.
+fn ended(calls: u8, depth: u8, result: [i32; 16], end: End) -> Outcome
+    ensures { λ r. ⌜ r ≡ endedWith calls depth result end ⌝ }
+{
+    Outcome {
+        calls: calls,
+        depth: depth,
+        result: result,
+        status: Status::Ended(end),
+        answer: Answer::Ended(end),
+    }
+}
+
+/// What the steps that were taken come to, by the last turn.
+fn come_to(lengths: &[u8; 64], items: &[i32; 1024], result: [i32; 16], counted: Counted) -> Outcome
+    requires { ⌜ (counted .calls < 256) × (counted .depth < 256) × Placed (counted .turn) ⌝ }
+    ensures { λ r. ⌜ r ≡ outcomeOf (counted .turn) (now (lengths .entry)) (now (items .entry)) result (counted .calls) (counted .depth) ⌝ }
+{
+    let calls = counted.calls as u8;
+    let depth = counted.depth as u8;
     let turn = counted.turn;
     match turn {
-        Turn::On => Ran {
-            state: state,
-            answer: Answer::Steps,
-            steps: steps,
-        },
-        Turn::Stack(_, _) => Ran {
-            state: state,
-            answer: Answer::Steps,
-            steps: steps,
-        },
-        Turn::Integer(z) => finished(state, result, End::Integer(z), steps),
+        Turn::On => going(calls, depth, result, Answer::Steps),
+        Turn::Stack(_, _) => going(calls, depth, result, Answer::Steps),
+        Turn::Integer(z) => ended(0, 0, result, End::Integer(z)),
         Turn::Vector(v) => {
-            let vectors = state.vectors;
-            let w = vectors[v];
+            let w = flat::vector(lengths, items, v);
             let last = w.items;
             let n = shown(w.length);
-            finished(state, last, End::Vector(n), steps)
+            ended(0, 0, last, End::Vector(n))
         }
-        Turn::Stuck => Ran {
-            state: state,
-            answer: Answer::Stuck,
-            steps: steps,
-        },
-        Turn::Stop(e) => {
-            let last = ended(state, result, e);
-            Ran {
-                state: last,
-                answer: Answer::Ended(e),
-                steps: steps,
-            }
-        }
+        Turn::Stuck => going(calls, depth, result, Answer::Stuck),
+        Turn::Stop(h) => ended(calls, depth, result, memory::end_of(h)),
     }
 }
 
@@ -216,18 +158,23 @@ fn resumed(state: machine::State, image: &[u8], budget: u32) -> Ran
         budget,
     );
     let result = state.result;
-    rebuilt(
-        &owners,
-        &codes,
-        &numbers,
-        &stack,
-        &lengths,
-        &items,
-        &promises,
-        &caches,
-        result,
-        counted,
-    )
+    let outcome = come_to(&lengths, &items, result, counted);
+    let answer = outcome.answer;
+    Ran {
+        state: standing(
+            &owners,
+            &codes,
+            &numbers,
+            &stack,
+            &lengths,
+            &items,
+            &promises,
+            &caches,
+            outcome,
+        ),
+        answer: answer,
+        steps: counted.steps,
+    }
 }
 
 /// What a single step says, by the answer of a budget of one.

@@ -195,8 +195,8 @@ fn items_of(items: &[i32; 1024], v: usize) -> [i32; 16]
     all
 }
 
-/// The vector `v`.
-fn vector(lengths: &[u8; 64], items: &[i32; 1024], v: usize) -> Vector
+/// The vector `v`. The engine asks for one that is there.
+pub fn vector(lengths: &[u8; 64], items: &[i32; 1024], v: usize) -> Vector
     requires { ⌜ v < 64 ⌝ }
     ensures { λ r. ⌜ r ≡ vectorIn (now (lengths .entry)) (now (items .entry)) v ⌝ }
 {

@@ -10,12 +10,12 @@ use Rattle.program.specs.Program.{ARITH, Argument, CALL, CAST, DISPATCH, DUP, F
 use Rattle.machine.specs.Begin.{programOf}
 use Rattle.machine.specs.States.{assign}
 use Rattle.machine.specs.Try.{got, stuck, stop, _>>=_}
-use Rattle.machine.specs.declared.End.{End}
 use Rattle.memory.specs.Memory.{Long, Memory, memoryOf, stateOf}
-use Rattle.memory.specs.Parts.{Does, givesOf, withCells, withLive, withOpen, withPromises, withVectors}
+use Rattle.memory.specs.Parts.{Does, endOf, givesOf, withCells, withLive, withOpen, withPromises, withVectors}
 use Rattle.memory.specs.Works.{Feeds, Works, executed}
 use Rattle.memory.specs.declared.Did.{Did}
 use Rattle.memory.specs.declared.Gives.{Gives}
+use Rattle.memory.specs.declared.Halt.{Halt}
 use Rattle.cells.specs.Changes.{Gave}
 use Rattle.cells.specs.Operands.{arithIn, namedIn, selectIn}
 use Rattle.cells.proofs.Feeding.{arith-feeds, lit-feeds, named-feeds, select-feeds}
@@ -153,8 +153,8 @@ module _ (s owners codes : List ℕ) (numbers : List ℤ) (stack lengths : List 
         let w = (rw e at h) (programOf s) (versionAt s v) (memoryOf owners codes numbers stack lengths items promises caches R calls depth) long live few in
         rw (is, w .1, w .2, w .3) (w .0, refl)
 
-    pub stopped-arm : (r : Forced) (x : End) → Forces r codes codes′ numbers numbers′ stack stack′ promises caches depth k d a → r ≡ Forced.Stop x → Instructs s (Turn.Stop x) (memoryOf owners codes numbers stack lengths items promises caches) (memoryOf owners codes′ numbers′ stack′ lengths items promises caches) calls depth k v at
-    unfolding the memoryOf Instructs Turns Forces ForcedTo withForced withPromises withOpen withCells
+    pub stopped-arm : (r : Forced) (x : Halt) → Forces r codes codes′ numbers numbers′ stack stack′ promises caches depth k d a → r ≡ Forced.Stop x → Instructs s (Turn.Stop x) (memoryOf owners codes numbers stack lengths items promises caches) (memoryOf owners codes′ numbers′ stack′ lengths items promises caches) calls depth k v at
+    unfolding the memoryOf Instructs Turns Forces ForcedTo withForced withPromises withOpen withCells endOf
     stopped-arm r x h e = λ R long live few.
         let w = (rw e at h) (programOf s) (versionAt s v) (memoryOf owners codes numbers stack lengths items promises caches R calls depth) long live few in
         rw (is, w .1, w .2, w .3) (w .0, refl)

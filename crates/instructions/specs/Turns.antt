@@ -8,6 +8,7 @@ use Rattle.machine.specs.Begin.{programOf}
 use Rattle.machine.specs.Try.{Try, got, stuck, stop}
 use Rattle.machine.specs.declared.State.{State}
 use Rattle.memory.specs.Memory.{Long, Memory, stateOf}
+use Rattle.memory.specs.Parts.{endOf}
 use Rattle.memory.specs.Works.{executed}
 use Rattle.memory.specs.declared.Did.{Did}
 use Rattle.instructions.specs.declared.Turn.{Turn}
@@ -20,7 +21,7 @@ Turns (Turn.Stack c d) M N t = (t ≡ got (stateOf (N c d))) × Long (N c d) × 
 Turns (Turn.Integer z) M N t = ⊥
 Turns (Turn.Vector v) M N t = ⊥
 Turns Turn.Stuck M N t = (t ≡ stuck) × (N (M .calls) (M .depth) ≡ M)
-Turns (Turn.Stop e) M N t = (t ≡ stop e) × (N (M .calls) (M .depth) ≡ M)
+Turns (Turn.Stop h) M N t = (t ≡ stop (endOf h)) × (N (M .calls) (M .depth) ≡ M)
 
 -- of what has been done
 unfoldable pub turnOf : Did → Turn

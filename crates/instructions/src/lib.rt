@@ -1,12 +1,12 @@
 //! One instruction of a run over flat arrays.
 ghost use mathlib.Core.Path.{_≡_};
 ghost use Prim.Native.Nat.{_<_, _≤_};
-ghost use Rattle.program.specs.Places.{tableOf};
+ghost use Rattle.index.specs.Indexed.{Indexed};
 ghost use Rattle.memory.specs.Memory.{memoryOf};
 ghost use Rattle.instructions.specs.Turns.{Instructs, openedOf, turnOf};
-use machine::End;
 use memory::Did;
 use memory::Gives;
+use memory::Halt;
 use program::Instruction;
 use program::decode;
 use promises::Forced;
@@ -19,7 +19,7 @@ pub enum Turn {
     Integer(i32),
     Vector(usize),
     Stuck,
-    Stop(End),
+    Stop(Halt),
 }
 
 /// The turn of an instruction that opens nothing.
@@ -29,7 +29,7 @@ fn turned(did: Did) -> Turn
     match did {
         Did::On => Turn::On,
         Did::Stuck => Turn::Stuck,
-        Did::Stop(e) => Turn::Stop(e),
+        Did::Stop(h) => Turn::Stop(h),
     }
 }
 
@@ -40,7 +40,7 @@ fn opened(did: Did, calls: usize, depth: usize) -> Turn
     match did {
         Did::On => Turn::Stack(calls, depth),
         Did::Stuck => Turn::Stuck,
-        Did::Stop(e) => Turn::Stop(e),
+        Did::Stop(h) => Turn::Stop(h),
     }
 }
 
@@ -48,7 +48,7 @@ fn opened(did: Did, calls: usize, depth: usize) -> Turn
 /// The loop's own part: what it requires is what the loop keeps.
 pub fn instruct(
     image: &[u8],
-    table: &[usize; 128],
+    table: &[u16; 1152],
     owners: &mut [u8; 64],
     codes: &mut [u16; 768],
     numbers: &mut [i32; 768],
@@ -63,7 +63,7 @@ pub fn instruct(
     v: usize,
     at: usize,
 ) -> Turn
-    requires { ⌜ (now table ≡ tableOf (now image)) × (k < 32) × (calls < 256) × (depth ≤ 32) ⌝ }
+    requires { ⌜ Indexed (now image) (now table) × (k < 32) × (calls < 256) × (depth ≤ 32) ⌝ }
     ensures { λ r. ⌜ Instructs (now (image .entry)) r (memoryOf (now (owners .entry)) (now (codes .entry)) (now (numbers .entry)) (now (stack .entry)) (now (lengths .entry)) (now (items .entry)) (now (promises .entry)) (now (caches .entry))) (memoryOf (now (owners .exit)) (now (codes .exit)) (now (numbers .exit)) (now (stack .exit)) (now (lengths .exit)) (now (items .exit)) (now (promises .exit)) (now (caches .entry))) calls depth k v at ⌝ }
 {
     match decode::decode(image, at) {
@@ -148,6 +148,7 @@ pub fn instruct(
         Instruction::Store { x, a } => turned(promises::store(codes, numbers, k, x, a)),
         Instruction::Prom { d, block } => turned(promises::prom(
             image,
+            table,
             codes,
             numbers,
             stack,
@@ -173,7 +174,7 @@ pub fn instruct(
             Forced::Cached => Turn::On,
             Forced::Opened => Turn::Stack(calls, depth + 1),
             Forced::Stuck => Turn::Stuck,
-            Forced::Stop(e) => Turn::Stop(e),
+            Forced::Stop(h) => Turn::Stop(h),
         },
         Instruction::Peek { d, a, x } => {
             let g = promises::peek(codes, numbers, promises, calls, k, a, x);

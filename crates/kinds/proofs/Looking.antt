@@ -13,21 +13,20 @@ use Rattle.layout.specs.Records.{_!_, bodyAt}
 use Rattle.layout.specs.Tests.{_and_}
 use Rattle.layout.specs.declared.Found.{Found}
 use Rattle.layout.specs.declared.Found.the-variants.{Nothing, At}
-use Rattle.program.specs.Places.{blockAt, blockPlace, listedIn, tableOf, versionAt}
+use Rattle.program.specs.Places.{blockAt, blockPlace, versionAt, versionPlace}
 use Rattle.program.specs.Program.{Block, Program, Version, findVersion}
 use Rattle.program.proofs.Lookups.{version-found, version-missing, block-found, block-missing}
-use Rattle.program.proofs.Tables.{listed-right}
 use Rattle.machine.specs.Begin.{programOf}
 use Rattle.kinds.specs.Kinds.{blockKind, heldKind, codeKind, kindOr, argumentKind}
 
--- ---- versions by the table
+-- ---- versions by their numbers
 
-module _ (s t : List ℕ) (f w : ℕ) (o : Found) (tabled : t ≡ tableOf s) (looked : o ≡ listedIn s t f w) where
+module _ (s : List ℕ) (f w : ℕ) (o : Found) (looked : o ≡ versionPlace s f w) where
   pub listed-found : (v : ℕ) → o ≡ At v → findVersion (programOf s) f w ≡ some (versionAt s v)
-  listed-found v e = version-found s f w v (sym (listed-right s t f w tabled) ∙ sym looked ∙ e) .0
+  listed-found v e = version-found s f w v (sym looked ∙ e) .0
 
   pub listed-missing : o ≡ Nothing → findVersion (programOf s) f w ≡ none
-  listed-missing e = version-missing s f w (sym (listed-right s t f w tabled) ∙ sym looked ∙ e)
+  listed-missing e = version-missing s f w (sym looked ∙ e)
 
 -- ---- the kind of a promise
 

@@ -4,14 +4,15 @@ ghost use mathlib.Core.Path.{_≡_};
 ghost use Prim.Native.Nat.{_*_, _<_, _≤_};
 ghost use lib.IntN.{pos};
 ghost use Rattle.layout.specs.Records.{_!_};
-ghost use Rattle.program.specs.Places.{tableOf, versionAt};
+ghost use Rattle.program.specs.Places.{versionAt};
+ghost use Rattle.index.specs.Indexed.{Indexed};
 ghost use Rattle.program.specs.Program.{MOVE, CAST};
 ghost use Rattle.machine.specs.Begin.{programOf};
 ghost use Rattle.memory.specs.Parts.{givesOf};
 ghost use Rattle.kinds.specs.Kinds.{heldKind, kindOr, Kinded, argumentKind, typedIn, Fed};
 use layout::Found;
-use machine::End;
 use memory::Gives;
+use memory::Halt;
 use program::lookup;
 use typing::types;
 
@@ -25,13 +26,13 @@ fn wide(x: u8) -> usize
 /// The kind of the promise `p`, 0 where its block is not there.
 fn promise_kind(
     image: &[u8],
-    table: &[usize; 128],
+    table: &[u16; 1152],
     owners: &[u8; 64],
     promises: &[u8; 192],
     calls: usize,
     p: usize,
 ) -> usize
-    requires { ⌜ (now table ≡ tableOf (now image)) × (p < 64) ⌝ }
+    requires { ⌜ Indexed (now image) (now table) × (p < 64) ⌝ }
     ensures { λ r. ⌜ r ≡ kindOr (heldKind (programOf (now (image .entry))) (now (owners .entry)) (now (promises .entry)) calls p) ⌝ }
 {
     let f = wide(promises[3 * p]);
@@ -41,26 +42,26 @@ fn promise_kind(
     if 32 <= f {
         return 0;
     }
-    let Found::At(v) = lookup::listed(image, table, wide(owners[2 * f]), wide(owners[2 * f + 1]))
+    let Found::At(v) = index::version(image, table, wide(owners[2 * f]), wide(owners[2 * f + 1]))
     else {
         return 0;
     };
-    let Found::At(b) = lookup::block(image, v, wide(promises[3 * p + 1])) else {
+    let Found::At(b) = index::block(image, table, v, wide(promises[3 * p + 1])) else {
         return 0;
     };
     4 + layout::field(image, b, 0)
 }
 
-/// The kind of the value of a cell with the code `c`, 0 where it has none. The table is the image's.
+/// The kind of the value of a cell with the code `c`, 0 where it has none. The table is the image's index.
 pub fn kind_of(
     image: &[u8],
-    table: &[usize; 128],
+    table: &[u16; 1152],
     owners: &[u8; 64],
     promises: &[u8; 192],
     calls: usize,
     c: u16,
 ) -> usize
-    requires { ⌜ now table ≡ tableOf (now image) ⌝ }
+    requires { ⌜ Indexed (now image) (now table) ⌝ }
     ensures { λ r. ⌜ Kinded (programOf (now (image .entry))) r (now (owners .entry)) (now (promises .entry)) calls c ⌝ }
 {
     if c == 1 {
@@ -85,7 +86,7 @@ pub fn kind_of(
 /// The kind of what the register `r` of the frame `k` holds, 0 where it has none.
 pub fn argument_kind(
     image: &[u8],
-    table: &[usize; 128],
+    table: &[u16; 1152],
     owners: &[u8; 64],
     codes: &[u16; 768],
     promises: &[u8; 192],
@@ -93,7 +94,7 @@ pub fn argument_kind(
     k: usize,
     r: usize,
 ) -> usize
-    requires { ⌜ (now table ≡ tableOf (now image)) × (k < 32) ⌝ }
+    requires { ⌜ Indexed (now image) (now table) × (k < 32) ⌝ }
     ensures { λ m. ⌜ m ≡ kindOr (argumentKind (programOf (now (image .entry))) (now (owners .entry)) (now (promises .entry)) calls (now (codes .entry)) k r) ⌝ }
 {
     if 16 <= r {
@@ -105,7 +106,7 @@ pub fn argument_kind(
 /// What the register `a` of the frame `k` gives the register `d` of the version at `v`; where it does not fit, UNDEF or stuck.
 fn typed(
     image: &[u8],
-    table: &[usize; 128],
+    table: &[u16; 1152],
     owners: &[u8; 64],
     codes: &[u16; 768],
     numbers: &[i32; 768],
@@ -117,7 +118,7 @@ fn typed(
     a: u8,
     undef: bool,
 ) -> Gives
-    requires { ⌜ (now table ≡ tableOf (now image)) × (k < 32) ⌝ }
+    requires { ⌜ Indexed (now image) (now table) × (k < 32) ⌝ }
     ensures { λ r. ⌜ givesOf r ≡ typedIn (programOf (now (image .entry))) (versionAt (now (image .entry)) v) (now (owners .entry)) (now (promises .entry)) calls (now (codes .entry)) (now (numbers .entry)) k d a undef ⌝ }
 {
     let i = a as usize;
@@ -136,16 +137,16 @@ fn typed(
         return Gives::Cell(codes[24 * k + i], numbers[24 * k + i]);
     }
     if undef {
-        Gives::Stop(End::Undef)
+        Gives::Stop(Halt::Undef)
     } else {
         Gives::Stuck
     }
 }
 
-/// MOVE: what the register `d` gets, in the frame `k` of the version at `v`. The table is the image's.
+/// MOVE: what the register `d` gets, in the frame `k` of the version at `v`. The table is the image's index.
 pub fn moved(
     image: &[u8],
-    table: &[usize; 128],
+    table: &[u16; 1152],
     owners: &[u8; 64],
     codes: &[u16; 768],
     numbers: &[i32; 768],
@@ -156,7 +157,7 @@ pub fn moved(
     d: u8,
     a: u8,
 ) -> Gives
-    requires { ⌜ (now table ≡ tableOf (now image)) × (k < 32) ⌝ }
+    requires { ⌜ Indexed (now image) (now table) × (k < 32) ⌝ }
     ensures { λ r. ⌜ Fed (programOf (now (image .entry))) (versionAt (now (image .entry)) v) r (now (owners .entry)) (now (codes .entry)) (now (numbers .entry)) (now (promises .entry)) calls k d (MOVE d a) ⌝ }
 {
     typed(
@@ -175,10 +176,10 @@ pub fn moved(
     )
 }
 
-/// CAST: what the register `d` gets, in the frame `k` of the version at `v`. The table is the image's.
+/// CAST: what the register `d` gets, in the frame `k` of the version at `v`. The table is the image's index.
 pub fn cast(
     image: &[u8],
-    table: &[usize; 128],
+    table: &[u16; 1152],
     owners: &[u8; 64],
     codes: &[u16; 768],
     numbers: &[i32; 768],
@@ -189,7 +190,7 @@ pub fn cast(
     d: u8,
     a: u8,
 ) -> Gives
-    requires { ⌜ (now table ≡ tableOf (now image)) × (k < 32) ⌝ }
+    requires { ⌜ Indexed (now image) (now table) × (k < 32) ⌝ }
     ensures { λ r. ⌜ Fed (programOf (now (image .entry))) (versionAt (now (image .entry)) v) r (now (owners .entry)) (now (codes .entry)) (now (numbers .entry)) (now (promises .entry)) calls k d (CAST d a) ⌝ }
 {
     typed(

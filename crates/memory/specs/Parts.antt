@@ -18,6 +18,7 @@ use Rattle.memory.specs.Lists.{countTo}
 use Rattle.memory.specs.Memory.{Memory, cellIn, stateOf, valueOf}
 use Rattle.memory.specs.declared.Did.{Did}
 use Rattle.memory.specs.declared.Gives.{Gives}
+use Rattle.memory.specs.declared.Halt.{Halt}
 use Rattle.memory.specs.declared.Whole.{Whole}
 
 -- ---- operands of the frame k
@@ -53,11 +54,18 @@ unfoldable pub cellOf : List ℕ → List ℤ → Found → Try Value
 cellOf codes numbers (At i) = got (cellIn codes numbers i)
 cellOf codes numbers Nothing = stuck
 
+-- the end of a run that a step stopped
+unfoldable pub endOf : Halt → End
+endOf Halt.Undef = End.Undef
+endOf Halt.Deep = End.Deep
+endOf Halt.Vectors = End.Vectors
+endOf Halt.Promises = End.Promises
+
 -- what goes into a register: a cell's code and integer, stuck, or a stop
 unfoldable pub givesOf : Gives → Try Value
 givesOf (Gives.Cell c z) = got (valueOf c z)
 givesOf Gives.Stuck = stuck
-givesOf (Gives.Stop e) = stop e
+givesOf (Gives.Stop h) = stop (endOf h)
 
 -- a kind, 0 where stuck
 unfoldable pub kindTry : ℕ → Try ℕ
@@ -67,7 +75,7 @@ kindTry k = cond (eqb k 0) stuck (got k)
 unfoldable pub Does : Did → Memory → Memory → Try State → Type 0
 Does Did.On M N t = t ≡ got (stateOf N)
 Does Did.Stuck M N t = (t ≡ stuck) × (N ≡ M)
-Does (Did.Stop e) M N t = (t ≡ stop e) × (N ≡ M)
+Does (Did.Stop h) M N t = (t ≡ stop (endOf h)) × (N ≡ M)
 
 -- ---- memory with some of its parts anew
 

@@ -12,10 +12,9 @@ use Rattle.layout.specs.Records.{_!_, sizeAt}
 use Rattle.layout.specs.declared.Found.{Found}
 use Rattle.layout.specs.declared.Found.the-variants.{Nothing, At}
 use Rattle.layout.proofs.Walk.{size-in}
-use Rattle.program.specs.Places.{blockAt, blockPlace, listedIn, past, tableOf, versionAt, viewAt}
+use Rattle.program.specs.Places.{blockAt, blockPlace, past, versionAt, versionPlace, viewAt}
 use Rattle.program.specs.Program.{findVersion}
 use Rattle.program.proofs.Lookups.{version-found, version-missing, block-found, block-missing}
-use Rattle.program.proofs.Tables.{listed-right}
 use Rattle.machine.specs.Begin.{programOf}
 use Rattle.machine.specs.Steps.{advance}
 use Rattle.machine.specs.Try.{stuck}
@@ -39,12 +38,12 @@ room s p m h g = go (eqb (sizeAt s p) 0) refl
 pub record Owned (s owners : List ℕ) (k v : ℕ) : Type 0 where
   pub version : findVersion (programOf s) (owners ! (2 * k)) (owners ! (2 * k + 1)) ≡ some (versionAt s v)
 
-module _ (s t owners : List ℕ) (k f w : ℕ) (o : Found) (tabled : t ≡ tableOf s) (ef : f ≡ owners ! (2 * k)) (ew : w ≡ owners ! (2 * k + 1)) (found : o ≡ listedIn s t f w) where
+module _ (s owners : List ℕ) (k f w : ℕ) (o : Found) (ef : f ≡ owners ! (2 * k)) (ew : w ≡ owners ! (2 * k + 1)) (found : o ≡ versionPlace s f w) where
   pub owner-found : (v : ℕ) → o ≡ At v → Owned s owners k v
-  owner-found v e = record { version = rw (← ef, ← ew) (version-found s f w v (sym (listed-right s t f w tabled) ∙ sym found ∙ e) .0) }
+  owner-found v e = record { version = rw (← ef, ← ew) (version-found s f w v (sym found ∙ e) .0) }
 
   owner-missing : o ≡ Nothing → findVersion (programOf s) (owners ! (2 * k)) (owners ! (2 * k + 1)) ≡ none
-  owner-missing e = rw (← ef, ← ew) (version-missing s f w (sym (listed-right s t f w tabled) ∙ sym found ∙ e))
+  owner-missing e = rw (← ef, ← ew) (version-missing s f w (sym found ∙ e))
 
 -- the activation on top is of the live frame k
 pub record Top (stack : List ℕ) (calls depth k : ℕ) : Type 0 where
@@ -88,9 +87,9 @@ module _ (s owners stack : List ℕ) (calls depth : ℕ) (r : Spot) (none-there 
     depth-begun : 0 < depth
     depth-begun = omega (arith, q .begun)
 
-    pub unknown : (t : List ℕ) (f w : ℕ) (o : Found) → t ≡ tableOf s → f ≡ owners ! (2 * k) → w ≡ owners ! (2 * k + 1) → o ≡ listedIn s t f w → o ≡ Nothing → Located s owners calls stack depth r
+    pub unknown : (f w : ℕ) (o : Found) → f ≡ owners ! (2 * k) → w ≡ owners ! (2 * k + 1) → o ≡ versionPlace s f w → o ≡ Nothing → Located s owners calls stack depth r
     unfolding withOpen topOf
-    unknown t f w o tabled ef ew found g = let e = owner-missing s t owners k f w o tabled ef ew found g in stuck-spot (λ M. stuck-unknown s (withOpen M owners calls stack depth) depth-begun (q .shallow) k (q .framed) (q .live) (q .few) e)
+    unknown f w o ef ew found g = let e = owner-missing s owners k f w o ef ew found g in stuck-spot (λ M. stuck-unknown s (withOpen M owners calls stack depth) depth-begun (q .shallow) k (q .framed) (q .live) (q .few) e)
 
     module _ (v : ℕ) (w : Owned s owners k v) where
       pub unblocked : (n : ℕ) (o : Found) → n ≡ stack ! (6 * (depth - 1) + 4) → o ≡ blockPlace s v n → o ≡ Nothing → Located s owners calls stack depth r

@@ -2,10 +2,9 @@
 //! Its functions serve the loop of the engine; what they require, the loop keeps.
 ghost use mathlib.Core.Path.{_≡_};
 ghost use Prim.Native.Nat.{_<_};
-ghost use Rattle.program.specs.Places.{tableOf};
+ghost use Rattle.index.specs.Indexed.{Indexed};
 ghost use Rattle.places.specs.Standing.{isLine, skipped, nowhere, Located};
 use layout::Found;
-use program::lookup;
 
 /// Where a run stands: its live calls and activations, and `here` where it stands at an instruction or a block end:
 /// its frame, and the offsets of its version, its block and what is next, with the number of that in the block.
@@ -79,13 +78,13 @@ fn nowhere(calls: usize, depth: usize) -> Spot
 /// Where the activation on top stands.
 pub fn locate(
     image: &[u8],
-    table: &[usize; 128],
+    table: &[u16; 1152],
     owners: &[u8; 64],
     stack: &[u8; 192],
     calls: usize,
     depth: usize,
 ) -> Spot
-    requires { ⌜ now table ≡ tableOf (now image) ⌝ }
+    requires { ⌜ Indexed (now image) (now table) ⌝ }
     ensures { λ r. ⌜ Located (now (image .entry)) (now (owners .entry)) calls (now (stack .entry)) depth r ⌝ }
 {
     if depth == 0 {
@@ -102,11 +101,11 @@ pub fn locate(
     if 32 <= f {
         return nowhere(calls, depth);
     }
-    let Found::At(v) = lookup::listed(image, table, wide(owners[2 * f]), wide(owners[2 * f + 1]))
+    let Found::At(v) = index::version(image, table, wide(owners[2 * f]), wide(owners[2 * f + 1]))
     else {
         return nowhere(calls, depth);
     };
-    let Found::At(b) = lookup::block(image, v, wide(stack[6 * top + 4])) else {
+    let Found::At(b) = index::block(image, table, v, wide(stack[6 * top + 4])) else {
         return nowhere(calls, depth);
     };
     let next = wide(stack[6 * top + 5]);

@@ -20,11 +20,12 @@ use Rattle.machine.specs.declared.End.{End}
 use Rattle.machine.specs.declared.Opener.{Opener}
 use Rattle.memory.specs.Memory.{Memory, activationIn, cacheOf, framesOf, openerOf, stateOf, valueOf}
 use Rattle.memory.specs.Memory as memory
-use Rattle.memory.specs.Parts.{withCells, withOpen, withPromises}
+use Rattle.memory.specs.Parts.{endOf, withCells, withOpen, withPromises}
 use Rattle.memory.specs.Works.{executed}
 use Rattle.memory.proofs.Frames.{assign-in, assign-outside}
 use Rattle.memory.proofs.Heap.{promise-at, promise-outside}
 use Rattle.memory.proofs.Stack.{activation-same, forces, opened-deep, opened-in, pendingIn, pending-in, pending-met, pending-passed}
+use Rattle.memory.specs.declared.Halt.{Halt}
 use Rattle.cells.specs.Operands.{promiseIn, written}
 use Rattle.cells.proofs.Codes.{bound-got, bound-stuck, written-in, written-out}
 use Rattle.cells.proofs.Giving.{long-cells}
@@ -162,8 +163,8 @@ module _ (codes : List ℕ) (numbers : List ℤ) (stack promises : List ℕ) (ca
     force-by true r {codes′ = codes′} {numbers′ = numbers′} q i g c n = subst (λ (x : Forced). Forces x codes codes′ numbers numbers′ stack stack promises caches depth k d a) (sym g) (force-cached q i c n)
     force-by false r {codes′ = codes′} {numbers′ = numbers′} q i g c n = subst (λ (x : Forced). Forces x codes codes′ numbers numbers′ stack stack promises caches depth k d a) (sym g) (force-nowhere q i c n)
 
-    pub force-again : {b : Bool} → promises ! (3 * p + 2) ≡ 0 → Pends b stack depth p → b ≡ true → Forces (Forced.Stop End.Undef) codes codes numbers numbers stack stack promises caches depth k d a
-    unfolding Forces ForcedTo Pends withForced withOpen withPromises withCells endUnless _>>_ stateOf framesOf
+    pub force-again : {b : Bool} → promises ! (3 * p + 2) ≡ 0 → Pends b stack depth p → b ≡ true → Forces (Forced.Stop Halt.Undef) codes codes numbers numbers stack stack promises caches depth k d a
+    unfolding Forces ForcedTo Pends withForced withOpen withPromises withCells endUnless _>>_ stateOf framesOf endOf
     force-again q w t = λ P W M long live few. (reached P W M ∙ uncached M q ∙ rw (sym (w (memoryOf M)) ∙ t), refl, refl, refl)
 
     module _ {b : Bool} (q : promises ! (3 * p + 2) ≡ 0) (w : Pends b stack depth p) (t : b ≡ false) where
@@ -172,8 +173,8 @@ module _ (codes : List ℕ) (numbers : List ℤ) (stack promises : List ℕ) (ca
       unfolding Pends withForced withOpen withPromises withCells endUnless _>>_ stateOf framesOf
       opens P W M = reached P W M ∙ uncached M q ∙ rw (sym (w (memoryOf M)) ∙ t)
 
-      pub force-deep : 32 ≤ depth → Forces (Forced.Stop End.Deep) codes codes numbers numbers stack stack promises caches depth k d a
-      unfolding Forces ForcedTo withForced withOpen withPromises withCells
+      pub force-deep : 32 ≤ depth → Forces (Forced.Stop Halt.Deep) codes codes numbers numbers stack stack promises caches depth k d a
+      unfolding Forces ForcedTo withForced withOpen withPromises withCells endOf
       force-deep g = λ P W M long live few. (opens P W M ∙ opened-deep (memoryOf M) _ g, refl, refl, refl)
 
       pub force-opened : {stack′ : List ℕ} → depth < 32 → stack′ ≡ pushed stack depth 1 p d (promises ! (3 * p)) (promises ! (3 * p + 1)) → Forces Forced.Opened codes codes numbers numbers stack stack′ promises caches depth k d a

@@ -24,9 +24,10 @@ use Rattle.machine.specs.declared.End.{End}
 use Rattle.machine.specs.declared.Promise.{Promise}
 use Rattle.machine.specs.declared.Value.{Value}
 use Rattle.memory.specs.Memory.{Memory, cacheOf, framesOf, promiseIn, stateOf}
-use Rattle.memory.specs.Parts.{Does, liveCells, occurrences, withCells, withOpen, withPromises}
+use Rattle.memory.specs.Parts.{Does, endOf, liveCells, occurrences, withCells, withOpen, withPromises}
 use Rattle.memory.specs.Works.{Works, executed}
 use Rattle.memory.specs.declared.Did.{Did}
+use Rattle.memory.specs.declared.Halt.{Halt}
 use Rattle.memory.proofs.Counts.{promise-held}
 use Rattle.memory.proofs.Frames.{assign-in, assign-outside}
 use Rattle.memory.proofs.Heap.{new-promise}
@@ -169,8 +170,8 @@ module _ (image codes : List ℕ) (numbers : List ℤ) (stack promises : List �
       unfolding Frees withProm withCells withOpen withPromises stateOf framesOf
       frees M = f (before M)
 
-      pub prom-full : w ≡ Nothing → Proms (Did.Stop End.Promises) image codes codes numbers numbers stack promises promises calls depth k v d block
-      unfolding Proms Works Does promiseFound
+      pub prom-full : w ≡ Nothing → Proms (Did.Stop Halt.Promises) image codes codes numbers numbers stack promises promises calls depth k v d block
+      unfolding Proms Works Does promiseFound endOf
       prom-full z = λ M long live few. ((there M ∙ bound-stop _ (frees M ∙ ap promiseFound z), refl), long)
 
       module _ (n : ℕ) (g : w ≡ At n) (few′ : n < 64) where

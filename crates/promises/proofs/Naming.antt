@@ -20,7 +20,7 @@ use Rattle.machine.specs.declared.State.{State}
 use Rattle.machine.specs.declared.Value.{Value}
 use Rattle.memory.specs.Memory.{Memory, cellIn, frameIn, stateOf}
 use Rattle.memory.specs.Memory as memory
-use Rattle.memory.specs.Parts.{Does, givesOf, withCells, withLive, withOpen, withPromises}
+use Rattle.memory.specs.Parts.{Does, endOf, givesOf, withCells, withLive, withOpen, withPromises}
 use Rattle.memory.specs.Works.{Feeds, Works, executed}
 use Rattle.memory.specs.declared.Did.{Did}
 use Rattle.memory.specs.declared.Gives.{Gives}
@@ -135,7 +135,7 @@ module _ (codes : List ℕ) (numbers : List ℤ) (promises : List ℕ) (calls k 
       (subst (λ t. Does did (memoryOf M) (withCells (withDelayed M promises calls) codes′ numbers′) t) (sym s) (w .0), w .1)
 
   pub peek-stuck : {r : Found} → FrameOf codes promises calls k a r → r ≡ Nothing → Peeks Gives.Stuck codes numbers promises calls k a x
-  unfolding Peeks Feeds executed execute givesOf _>>=_ withDelayed withLive withOpen withPromises withCells memory.promiseIn
+  unfolding Peeks Feeds executed execute givesOf _>>=_ withDelayed withLive withOpen withPromises withCells memory.promiseIn endOf
   peek-stuck (none n p) h = λ P W M d long live few. bound-stuck _ (promise-in (M .owners) codes numbers k a ∙ p)
   peek-stuck (outside q n p b) h = λ P W M d long live few. bound-got _ (promise-in (M .owners) codes numbers k a ∙ p) ∙ bound-stuck _ (promise-outside (memoryOf M) q b)
   peek-stuck (ended q n p b c) h = λ P W M d long live few.

@@ -16,7 +16,7 @@ use Rattle.machine.specs.States.{freePromise, pending, plain, promiseCounts, st
 use Rattle.machine.specs.declared.End.{End}
 use Rattle.machine.specs.declared.State.{State}
 use Rattle.memory.specs.Memory.{Long, Memory, frameIn, stateOf}
-use Rattle.memory.specs.Parts.{Does, withCells, withLive, withOpen, withPromises}
+use Rattle.memory.specs.Parts.{Does, endOf, withCells, withLive, withOpen, withPromises}
 use Rattle.memory.specs.Works.{Feeds, Works, executed}
 use Rattle.memory.specs.declared.Did.{Did}
 use Rattle.memory.specs.declared.Gives.{Gives}
@@ -76,7 +76,7 @@ ForcedTo Forced.Cached M codes numbers stack t = (t ≡ got (stateOf (withCells 
 ForcedTo Forced.Opened M codes numbers stack t =
     (t ≡ got (stateOf (withOpen M (M .owners) (M .calls) stack (M .depth + 1)))) × (codes ≡ M .codes) × (numbers ≡ M .numbers) × Long (withOpen M (M .owners) (M .calls) stack (M .depth + 1))
 ForcedTo Forced.Stuck M codes numbers stack t = (t ≡ stuck) × (codes ≡ M .codes) × (numbers ≡ M .numbers) × (stack ≡ M .stack)
-ForcedTo (Forced.Stop e) M codes numbers stack t = (t ≡ stop e) × (codes ≡ M .codes) × (numbers ≡ M .numbers) × (stack ≡ M .stack)
+ForcedTo (Forced.Stop h) M codes numbers stack t = (t ≡ stop (endOf h)) × (codes ≡ M .codes) × (numbers ≡ M .numbers) × (stack ≡ M .stack)
 
 -- memory with the arrays that a FORCE reads
 unfoldable pub withForced : Memory → List ℕ → List ℤ → List ℕ → List ℕ → List ℤ → ℕ → Memory

@@ -6,12 +6,12 @@ ghost use Prim.Native.Nat.{_<_, _≤_};
 ghost use lib.Dec.{eqb, ltb};
 ghost use Rattle.layout.specs.Tests.{_and_};
 ghost use Rattle.program.specs.Program.{USE, STORE};
+ghost use Rattle.index.specs.Indexed.{Indexed};
 ghost use Rattle.promises.specs.Changes.{Changed, Named, FrameOf, Peeks, Pokes, Pends, pushed, cachedBy, Forces, Counts, Frees, Below, Proms};
 use layout::Found;
-use machine::End;
 use memory::Did;
 use memory::Gives;
-use program::lookup;
+use memory::Halt;
 
 /// What a FORCE has done: its integer is in the register, one more activation is on the stack, or nothing, where it is
 /// stuck or stopped.
@@ -19,7 +19,7 @@ pub enum Forced {
     Cached,
     Opened,
     Stuck,
-    Stop(End),
+    Stop(Halt),
 }
 
 /// A byte as a number.
@@ -220,10 +220,10 @@ pub fn force(
         return cached(cells::put(codes, numbers, k, d, 1, caches[p]));
     }
     if pending(stack, depth, p) {
-        return Forced::Stop(End::Undef);
+        return Forced::Stop(Halt::Undef);
     }
     if 32 <= depth {
-        return Forced::Stop(End::Deep);
+        return Forced::Stop(Halt::Deep);
     }
     let frame = promises[3 * p];
     let block = promises[3 * p + 1];
@@ -256,9 +256,10 @@ pub fn free_promise(codes: &[u16; 768], stack: &[u8; 192], calls: usize, depth: 
     Found::Nothing
 }
 
-/// PROM: the register `d` gets a new promise of the block `block` in the frame `k` of the version at `v`.
+/// PROM: the register `d` gets a new promise of the block `block` in the frame `k` of the version at `v`. The table is the image's index.
 pub fn prom(
     image: &[u8],
+    table: &[u16; 1152],
     codes: &mut [u16; 768],
     numbers: &mut [i32; 768],
     stack: &[u8; 192],
@@ -270,14 +271,14 @@ pub fn prom(
     d: u8,
     block: u8,
 ) -> Did
-    requires { ⌜ k < 32 ⌝ }
+    requires { ⌜ Indexed (now image) (now table) × (k < 32) ⌝ }
     ensures { λ r. ⌜ Proms r (now (image .entry)) (now (codes .entry)) (now (codes .exit)) (now (numbers .entry)) (now (numbers .exit)) (now (stack .entry)) (now (promises .entry)) (now (promises .exit)) calls depth k v d block ⌝ }
 {
-    let Found::At(_b) = lookup::block(image, v, wide(block)) else {
+    let Found::At(_b) = index::block(image, table, v, wide(block)) else {
         return Did::Stuck;
     };
     let Found::At(n) = free_promise(codes, stack, calls, depth) else {
-        return Did::Stop(End::Promises);
+        return Did::Stop(Halt::Promises);
     };
     if 16 <= d {
         return Did::Stuck;

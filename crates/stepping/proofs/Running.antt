@@ -13,14 +13,14 @@ use Rattle.machine.specs.States.{itemsOf, withEnd, withStack}
 use Rattle.machine.specs.Steps.{advance}
 use Rattle.machine.specs.Try.{Try, got, stuck, stop, _>>=_, _>>_, at}
 use Rattle.machine.specs.declared.Answer.{Answer}
-use Rattle.machine.specs.declared.End.{End}
 use Rattle.machine.specs.declared.Ran.{Ran}
 use Rattle.machine.specs.declared.State.{State}
 use Rattle.machine.specs.declared.Value.{Value}
 use Rattle.memory.specs.Memory.{Long, Memory, memoryOf, stateOf, vectorIn}
 use Rattle.memory.proofs.Heap.{vector-at}
 use Rattle.machine.specs.Begin.{programOf}
-use Rattle.memory.specs.Parts.{withOpen}
+use Rattle.memory.specs.Parts.{endOf, withOpen}
+use Rattle.memory.specs.declared.Halt.{Halt}
 use Rattle.places.specs.Standing.{Located, Spotted}
 use Rattle.places.specs.declared.Spot.{Spot}
 use Rattle.instructions.specs.declared.Turn.{Turn}
@@ -47,8 +47,8 @@ module _ (P : Program) (M : Memory) (budget n : ℕ) (h : n < budget) where
   unfolding continued settled ranOf
   turn-stuck e = one ∙ rw e
 
-  pub turn-stop : (x : End) → advance P (stateOf M) ≡ stop x → runFrom P (budget - n) (stateOf M) n ≡ ranOf (Turn.Stop x) M (n + lastStep x)
-  unfolding continued settled ranOf stateOf
+  pub turn-stop : (x : Halt) → advance P (stateOf M) ≡ stop (endOf x) → runFrom P (budget - n) (stateOf M) n ≡ ranOf (Turn.Stop x) M (n + lastStep (endOf x))
+  unfolding continued settled ranOf stateOf endOf
   turn-stop x e = one ∙ rw e
 
   pub turn-integer : (z : ℤ) → advance P (stateOf M) ≡ done (stateOf M) (Value.Integer z) → runFrom P (budget - n) (stateOf M) n ≡ ranOf (Turn.Integer z) M (n + 1)
@@ -114,8 +114,8 @@ module _ (s : List ℕ) (budget : ℕ) (M : List ℤ → ℕ → ℕ → Memory)
     unfolding Steps Advanced Placed
     going-stuck N′ t = record { calls = g .ready .calls; depth = g .ready .depth; placed = tt; ran = λ R. rw (t R .1) (sym (turn-stuck (programOf s) (N R (q .calls) (q .depth)) budget n h (t R .0)) ∙ g .same R) }
 
-    pub going-stop : (N′ : List ℤ → ℕ → ℕ → Memory) (x : End) → Steps s (Turn.Stop x) N N′ q → Goes s (record { turn = Turn.Stop x; calls = q .calls; depth = q .depth; steps = n + lastStep x }) M N′ p budget
-    unfolding Steps Advanced Placed
+    pub going-stop : (N′ : List ℤ → ℕ → ℕ → Memory) (x : Halt) → Steps s (Turn.Stop x) N N′ q → Goes s (record { turn = Turn.Stop x; calls = q .calls; depth = q .depth; steps = n + lastStep (endOf x) }) M N′ p budget
+    unfolding Steps Advanced Placed endOf
     going-stop N′ x t = record { calls = g .ready .calls; depth = g .ready .depth; placed = tt; ran = λ R. rw (t R .1) (sym (turn-stop (programOf s) (N R (q .calls) (q .depth)) budget n h x (t R .0)) ∙ g .same R) }
 
     pub going-integer : (N′ : List ℤ → ℕ → ℕ → Memory) (z : ℤ) → Steps s (Turn.Integer z) N N′ q → Goes s (record { turn = Turn.Integer z; calls = q .calls; depth = q .depth; steps = n + 1 }) M N′ p budget

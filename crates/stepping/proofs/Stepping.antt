@@ -15,12 +15,12 @@ use Rattle.program.specs.Places.{instrAt, past, versionAt}
 use Rattle.machine.specs.Begin.{programOf}
 use Rattle.machine.specs.Steps.{advance}
 use Rattle.machine.specs.Try.{Try, got, stuck, stop}
-use Rattle.machine.specs.declared.End.{End}
 use Rattle.machine.specs.declared.State.{State}
 use Rattle.memory.specs.Memory.{Long, Memory, memoryOf, stateOf}
 use Rattle.memory.specs.Parts.{withOpen}
 use Rattle.memory.specs.Works.{executed}
 use Rattle.memory.proofs.Stack.{passed-in}
+use Rattle.memory.specs.declared.Halt.{Halt}
 use Rattle.places.specs.Standing.{Spotted, Standing, Stands, isLine, topOf}
 use Rattle.places.specs.declared.Spot.{Spot}
 use Rattle.places.proofs.Standings.{at-end-full, at-end-short, at-instruction, next-line}
@@ -181,7 +181,7 @@ module _ (s owners codes : List ℕ) (numbers : List ℤ) (stack lengths : List 
           let w = turns Turn.Stuck i R in
           (w .0, restored R (w .1))
 
-      pub line-stop : (x : End) → Instructs s (Turn.Stop x) (memoryOf owners codes numbers behind lengths items promises caches) after (p .calls) (p .depth) (p .frame) (p .version) (p .at) → Steps s (Turn.Stop x) (memoryOf owners codes numbers stack lengths items promises caches) (memoryOf owners′ codes′ numbers′ (set stack′ (6 * (p .depth - 1) + 5) (p .next)) lengths′ items′ promises′ caches) p
+      pub line-stop : (x : Halt) → Instructs s (Turn.Stop x) (memoryOf owners codes numbers behind lengths items promises caches) after (p .calls) (p .depth) (p .frame) (p .version) (p .at) → Steps s (Turn.Stop x) (memoryOf owners codes numbers stack lengths items promises caches) (memoryOf owners′ codes′ numbers′ (set stack′ (6 * (p .depth - 1) + 5) (p .next)) lengths′ items′ promises′ caches) p
       unfolding Steps Advanced Turns passed-by the memoryOf
       line-stop x i = λ R.
           let w = turns (Turn.Stop x) i R in

@@ -18,6 +18,7 @@ use Rattle.machine.specs.declared.Ran.{Ran}
 use Rattle.machine.specs.declared.State.{State}
 use Rattle.machine.specs.declared.Value.{Value}
 use Rattle.memory.specs.Memory.{Long, Memory, stateOf, vectorIn}
+use Rattle.memory.specs.Parts.{endOf}
 use Rattle.places.specs.Standing.{Spotted}
 use Rattle.places.specs.declared.Spot.{Spot}
 use Rattle.ends.specs.declared.Closed.{Closed}
@@ -37,7 +38,7 @@ Advanced s (Turn.Stack c d) M N p = (advance (programOf s) (stateOf M) ≡ got (
 Advanced s (Turn.Integer z) M N p = (advance (programOf s) (stateOf M) ≡ done (stateOf M) (Value.Integer z)) × (N (p .calls) (p .depth) ≡ M)
 Advanced s (Turn.Vector v) M N p = (advance (programOf s) (stateOf M) ≡ done (stateOf M) (Value.Vector v)) × (v < 64) × (N (p .calls) (p .depth) ≡ M)
 Advanced s Turn.Stuck M N p = (advance (programOf s) (stateOf M) ≡ stuck) × (N (p .calls) (p .depth) ≡ M)
-Advanced s (Turn.Stop e) M N p = (advance (programOf s) (stateOf M) ≡ stop e) × (N (p .calls) (p .depth) ≡ M)
+Advanced s (Turn.Stop h) M N p = (advance (programOf s) (stateOf M) ≡ stop (endOf h)) × (N (p .calls) (p .depth) ≡ M)
 
 -- a memory, whatever its result, at its spot
 pub record Ready (s : List ℕ) (M : List ℤ → ℕ → ℕ → Memory) (p : Spot) : Type 0 where
@@ -59,7 +60,7 @@ ranOf (Turn.Vector v) M n =
     let w = vectorIn (M .lengths) (M .items) v in
     record { state = withEnd (closed (stateOf M)) (w .items) (End.Vector (length (itemsOf w))); answer = Answer.Ended (End.Vector (length (itemsOf w))); steps = n }
 ranOf Turn.Stuck M n = record { state = stateOf M; answer = Answer.Stuck; steps = n }
-ranOf (Turn.Stop e) M n = record { state = withEnd (stateOf M) (M .result) e; answer = Answer.Ended e; steps = n }
+ranOf (Turn.Stop h) M n = record { state = withEnd (stateOf M) (M .result) (endOf h); answer = Answer.Ended (endOf h); steps = n }
 
 -- a vector that ends a run is at one of the places
 unfoldable pub Placed : Turn → Type 0

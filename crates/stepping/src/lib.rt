@@ -6,14 +6,14 @@ ghost use lib.Dec.{ltb};
 ghost use Rattle.layout.specs.Tests.{_and_};
 ghost use Rattle.places.specs.Standing.{isLine};
 ghost use Rattle.machine.specs.Runs.{lastStep};
-ghost use Rattle.program.specs.Places.{tableOf};
+ghost use Rattle.index.specs.Indexed.{Indexed};
 ghost use Rattle.memory.specs.Memory.{memoryOf};
+ghost use Rattle.memory.specs.Parts.{endOf};
 ghost use Rattle.stepping.specs.Going.{Ready, Steps, Goes, Resumes, Sized, closedOf};
 use ends::Closed;
 use instructions::Turn;
-use machine::End;
+use memory::Halt;
 use places::Spot;
-use program::lookup;
 
 /// So many steps: the last turn, the live calls and activations after it, and how many are counted.
 pub struct Counted {
@@ -23,17 +23,15 @@ pub struct Counted {
     pub steps: u32,
 }
 
-/// The steps that an end adds: DEEP, VECTORS and PROMISES add none.
-fn last_step(e: End) -> u32
-    ensures { λ r. ⌜ (r ≡ lastStep e) × (r ≤ 1) ⌝ }
+/// The steps that a halt adds: DEEP, VECTORS and PROMISES add none.
+fn last_step(halt: Halt) -> u32
+    ensures { λ r. ⌜ (r ≡ lastStep (endOf halt)) × (r ≤ 1) ⌝ }
 {
-    match e {
-        End::Integer(_) => 1,
-        End::Vector(_) => 1,
-        End::Undef => 1,
-        End::Deep => 0,
-        End::Vectors => 0,
-        End::Promises => 0,
+    match halt {
+        Halt::Undef => 1,
+        Halt::Deep => 0,
+        Halt::Vectors => 0,
+        Halt::Promises => 0,
     }
 }
 
@@ -64,7 +62,7 @@ fn closed(end: Closed, depth: usize) -> Turn
 /// The instruction that the spot stands at. The activation on top is put behind it first, and back where nothing was done.
 fn line(
     image: &[u8],
-    table: &[usize; 128],
+    table: &[u16; 1152],
     owners: &mut [u8; 64],
     codes: &mut [u16; 768],
     numbers: &mut [i32; 768],
@@ -75,7 +73,7 @@ fn line(
     caches: &mut [i32; 64],
     spot: Spot,
 ) -> Turn
-    requires { ⌜ (now table ≡ tableOf (now image)) × Ready (now image) (memoryOf (now owners) (now codes) (now numbers) (now stack) (now lengths) (now items) (now promises) (now caches)) spot × (spot .here ≡ true) × (spot .next < 48) × (isLine (now image) (spot .at) ≡ true) ⌝ }
+    requires { ⌜ Indexed (now image) (now table) × Ready (now image) (memoryOf (now owners) (now codes) (now numbers) (now stack) (now lengths) (now items) (now promises) (now caches)) spot × (spot .here ≡ true) × (spot .next < 48) × (isLine (now image) (spot .at) ≡ true) ⌝ }
     ensures { λ r. ⌜ Steps (now (image .entry)) r (memoryOf (now (owners .entry)) (now (codes .entry)) (now (numbers .entry)) (now (stack .entry)) (now (lengths .entry)) (now (items .entry)) (now (promises .entry)) (now (caches .entry))) (memoryOf (now (owners .exit)) (now (codes .exit)) (now (numbers .exit)) (now (stack .exit)) (now (lengths .exit)) (now (items .exit)) (now (promises .exit)) (now (caches .exit))) spot ⌝ }
 {
     let i = 6 * (spot.depth - 1) + 5;
@@ -106,9 +104,9 @@ fn line(
             stack[i] = n;
             Turn::Stuck
         }
-        Turn::Stop(e) => {
+        Turn::Stop(h) => {
             stack[i] = n;
-            Turn::Stop(e)
+            Turn::Stop(h)
         }
     }
 }
@@ -116,7 +114,7 @@ fn line(
 /// One step of a run that stands at the spot. The loop's own part: what it requires is what the loop keeps.
 pub fn step(
     image: &[u8],
-    table: &[usize; 128],
+    table: &[u16; 1152],
     owners: &mut [u8; 64],
     codes: &mut [u16; 768],
     numbers: &mut [i32; 768],
@@ -127,7 +125,7 @@ pub fn step(
     caches: &mut [i32; 64],
     spot: Spot,
 ) -> Turn
-    requires { ⌜ (now table ≡ tableOf (now image)) × Ready (now image) (memoryOf (now owners) (now codes) (now numbers) (now stack) (now lengths) (now items) (now promises) (now caches)) spot ⌝ }
+    requires { ⌜ Indexed (now image) (now table) × Ready (now image) (memoryOf (now owners) (now codes) (now numbers) (now stack) (now lengths) (now items) (now promises) (now caches)) spot ⌝ }
     ensures { λ r. ⌜ Steps (now (image .entry)) r (memoryOf (now (owners .entry)) (now (codes .entry)) (now (numbers .entry)) (now (stack .entry)) (now (lengths .entry)) (now (items .entry)) (now (promises .entry)) (now (caches .entry))) (memoryOf (now (owners .exit)) (now (codes .exit)) (now (numbers .exit)) (now (stack .exit)) (now (lengths .exit)) (now (items .exit)) (now (promises .exit)) (now (caches .exit))) spot ⌝ }
 {
     let here = spot.here;
@@ -168,7 +166,7 @@ pub fn step(
 /// Steps from the spot on, at most `budget`.
 pub fn go(
     image: &[u8],
-    table: &[usize; 128],
+    table: &[u16; 1152],
     owners: &mut [u8; 64],
     codes: &mut [u16; 768],
     numbers: &mut [i32; 768],
@@ -180,7 +178,7 @@ pub fn go(
     from: Spot,
     budget: u32,
 ) -> Counted
-    requires { ⌜ (now table ≡ tableOf (now image)) × Ready (now image) (memoryOf (now owners) (now codes) (now numbers) (now stack) (now lengths) (now items) (now promises) (now caches)) from ⌝ }
+    requires { ⌜ Indexed (now image) (now table) × Ready (now image) (memoryOf (now owners) (now codes) (now numbers) (now stack) (now lengths) (now items) (now promises) (now caches)) from ⌝ }
     ensures { λ r. ⌜ Goes (now (image .entry)) r (memoryOf (now (owners .entry)) (now (codes .entry)) (now (numbers .entry)) (now (stack .entry)) (now (lengths .entry)) (now (items .entry)) (now (promises .entry)) (now (caches .entry))) (memoryOf (now (owners .exit)) (now (codes .exit)) (now (numbers .exit)) (now (stack .exit)) (now (lengths .exit)) (now (items .exit)) (now (promises .exit)) (now (caches .exit))) from budget ⌝ }
 {
     let mut spot = from;
@@ -232,12 +230,12 @@ pub fn go(
                     steps: n,
                 };
             }
-            Turn::Stop(e) => {
+            Turn::Stop(h) => {
                 return Counted {
-                    turn: Turn::Stop(e),
+                    turn: Turn::Stop(h),
                     calls: spot.calls,
                     depth: spot.depth,
-                    steps: n + last_step(e),
+                    steps: n + last_step(h),
                 };
             }
         }
@@ -268,7 +266,7 @@ pub fn resume(
     requires { ⌜ Sized (memoryOf (now owners) (now codes) (now numbers) (now stack) (now lengths) (now items) (now promises) (now caches)) ⌝ }
     ensures { λ r. ⌜ Resumes (now (image .entry)) r (memoryOf (now (owners .entry)) (now (codes .entry)) (now (numbers .entry)) (now (stack .entry)) (now (lengths .entry)) (now (items .entry)) (now (promises .entry)) (now (caches .entry))) (memoryOf (now (owners .exit)) (now (codes .exit)) (now (numbers .exit)) (now (stack .exit)) (now (lengths .exit)) (now (items .exit)) (now (promises .exit)) (now (caches .exit))) calls depth budget ⌝ }
 {
-    let table = lookup::versions(image);
+    let table = index::of(image);
     let spot = places::locate(image, &table, owners, stack, calls as usize, depth as usize);
     go(
         image,

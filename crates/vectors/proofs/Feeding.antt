@@ -16,9 +16,10 @@ use Rattle.machine.specs.Values.{index}
 use Rattle.machine.specs.declared.End.{End}
 use Rattle.machine.specs.declared.Value.{Value}
 use Rattle.memory.specs.Memory.{Memory, frameIn, stateOf, valueOf, vectorIn}
-use Rattle.memory.specs.Parts.{givesOf, withCells, withVectors}
+use Rattle.memory.specs.Parts.{endOf, givesOf, withCells, withVectors}
 use Rattle.memory.specs.Works.{Feeds, executed}
 use Rattle.memory.specs.declared.Gives.{Gives}
+use Rattle.memory.specs.declared.Halt.{Halt}
 use Rattle.memory.proofs.Heap.{vector-at, vector-outside, items-count, item-at}
 use Rattle.cells.specs.Operands as cells
 use Rattle.cells.proofs.Codes.{bound-got, bound-stuck, bound-stop}
@@ -58,15 +59,15 @@ module _ (P : Program) (W : Version) (M : Memory) (k a : ℕ) where
 
 module _ (codes lengths : List ℕ) (k a : ℕ) where
   pub measured-stuck : cells.vectorIn codes k a ≡ stuck → Measured Gives.Stuck codes lengths k a
-  unfolding Measured Feeds givesOf _>>=_ withAll withVectors withCells
+  unfolding Measured Feeds givesOf _>>=_ withAll withVectors withCells endOf
   measured-stuck e = λ M P W d long live h. len-stuck P W _ k a d e
 
   pub measured-outside : (v : ℕ) → cells.vectorIn codes k a ≡ got v → 64 ≤ v → Measured Gives.Stuck codes lengths k a
-  unfolding Measured Feeds givesOf _>>=_ withAll withVectors withCells
+  unfolding Measured Feeds givesOf _>>=_ withAll withVectors withCells endOf
   measured-outside v e q = λ M P W d long live h. len-outside P W _ k a d v e q
 
   pub measured : (v n : ℕ) → cells.vectorIn codes k a ≡ got v → v < 64 → n ≡ shownOf lengths v → Measured (Gives.Cell 1 (pos n)) codes lengths k a
-  unfolding Measured Feeds givesOf valueOf _>>=_ withAll withVectors withCells
+  unfolding Measured Feeds givesOf valueOf _>>=_ withAll withVectors withCells endOf
   measured v n e q r = λ M P W d long live h. len-done P W _ k a d v e q ∙ rw (sym r) refl
 
 -- ---- GET
@@ -109,23 +110,23 @@ module _ (P : Program) (W : Version) (M : Memory) (k a i d : ℕ) where
 
 module _ (codes : List ℕ) (numbers : List ℤ) (lengths : List ℕ) (items : List ℤ) (k a i : ℕ) where
   pub picked-stuck : cells.vectorIn codes k a ≡ stuck → Picked Gives.Stuck codes numbers lengths items k a i
-  unfolding Picked Feeds givesOf _>>=_ withAll withVectors withCells
+  unfolding Picked Feeds givesOf _>>=_ withAll withVectors withCells endOf
   picked-stuck e = λ M P W d long live h. get-stuck P W _ k a i d e
 
   module _ {v : ℕ} (e : cells.vectorIn codes k a ≡ got v) where
     pub picked-outside : 64 ≤ v → Picked Gives.Stuck codes numbers lengths items k a i
-    unfolding Picked Feeds givesOf _>>=_ withAll withVectors withCells
+    unfolding Picked Feeds givesOf _>>=_ withAll withVectors withCells endOf
     picked-outside q = λ M P W d long live h. get-outside P W _ k a i d v e q
 
     pub picked-other : v < 64 → cells.integerIn codes numbers k i ≡ stuck → Picked Gives.Stuck codes numbers lengths items k a i
-    unfolding Picked Feeds givesOf _>>=_ withAll withVectors withCells
+    unfolding Picked Feeds givesOf _>>=_ withAll withVectors withCells endOf
     picked-other q f = λ M P W d long live h. get-other P W _ k a i d v e q f
 
     module _ {z : ℤ} {n : ℕ} (q : v < 64) (f : cells.integerIn codes numbers k i ≡ got z) (s : n ≡ shownOf lengths v) where
-      pub picked-undef : index z n ≡ stop End.Undef → Picked (Gives.Stop End.Undef) codes numbers lengths items k a i
-      unfolding Picked Feeds givesOf _>>=_ withAll withVectors withCells
+      pub picked-undef : index z n ≡ stop End.Undef → Picked (Gives.Stop Halt.Undef) codes numbers lengths items k a i
+      unfolding Picked Feeds givesOf _>>=_ withAll withVectors withCells endOf
       picked-undef g = λ M P W d long live h. get-undef P W _ k a i d v e z q f (sym (ap (index z) s) ∙ g)
 
       pub picked : {j : ℕ} {x : ℤ} → index z n ≡ got j → x ≡ getD items (16 * v + j) (pos 0) → Picked (Gives.Cell 1 x) codes numbers lengths items k a i
-      unfolding Picked Feeds givesOf valueOf _>>=_ withAll withVectors withCells
+      unfolding Picked Feeds givesOf valueOf _>>=_ withAll withVectors withCells endOf
       picked {j} g x = λ M P W d long live h. get-done P W _ k a i d v e z q f j (sym (ap (index z) s) ∙ g) ∙ rw x refl

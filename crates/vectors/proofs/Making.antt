@@ -20,9 +20,10 @@ use Rattle.machine.specs.declared.Value.{Value}
 use Rattle.machine.specs.declared.Vector.{Vector}
 use Rattle.memory.specs.Lists.{upTo}
 use Rattle.memory.specs.Memory.{Long, Memory, frameIn, stateOf, vectorIn}
-use Rattle.memory.specs.Parts.{Does, withCells, withLive, withOpen, withVectors}
+use Rattle.memory.specs.Parts.{Does, endOf, withCells, withLive, withOpen, withVectors}
 use Rattle.memory.specs.Works.{Works, executed}
 use Rattle.memory.specs.declared.Did.{Did}
+use Rattle.memory.specs.declared.Halt.{Halt}
 use Rattle.memory.proofs.Frames.{frame-live, register-none}
 use Rattle.memory.proofs.Heap.{vector-at, vector-outside}
 use Rattle.cells.specs.Operands as cells
@@ -152,8 +153,8 @@ module _ (codes lengths : List ℕ) (items : List ℤ) (calls k d a : ℕ) where
     copied-outside h = λ M P W long live l. ((dup-outside P W _ k d a v p h, refl), long)
 
     module _ (h : v < 64) (r : Found) (u : Unused r codes calls) where
-      pub copied-full : r ≡ Nothing → Copied (Did.Stop End.Vectors) codes codes lengths lengths items items calls k d a
-      unfolding Copied Works Does withAll withVectors withCells withCalls withLive withOpen
+      pub copied-full : r ≡ Nothing → Copied (Did.Stop Halt.Vectors) codes codes lengths lengths items items calls k d a
+      unfolding Copied Works Does withAll withVectors withCells withCalls withLive withOpen endOf
       copied-full e = λ M P W long live l. ((dup-full P W _ k d a v p h (free-stop _ u e), refl), long)
 
       module _ {n : ℕ} (e : r ≡ At n) where
@@ -182,8 +183,8 @@ module _ (s : List ℕ) (p : ℕ) (codes : List ℕ) (numbers : List ℤ) (lengt
   made-stuck q = λ M P W rs e m long live l. ((vec-stuck P W _ k d rs (all-listed rs e m q), refl), long)
 
   module _ (q : t ≡ true) (r : Found) (u : Unused r codes calls) where
-    pub made-full : r ≡ Nothing → Made (Did.Stop End.Vectors) s p codes codes numbers lengths lengths items items calls k d n
-    unfolding Made Works Does withAll withVectors withCells withCalls withLive withOpen
+    pub made-full : r ≡ Nothing → Made (Did.Stop Halt.Vectors) s p codes codes numbers lengths lengths items items calls k d n
+    unfolding Made Works Does withAll withVectors withCells withCalls withLive withOpen endOf
     made-full f = λ M P W rs e m long live l. ((vec-full P W _ k d rs (all-listed rs e m q) (free-stop _ u f), refl), long)
 
     module _ {v : ℕ} (f : r ≡ At v) where

@@ -15,9 +15,10 @@ use Rattle.machine.specs.Steps.{alone, execute}
 use Rattle.machine.specs.Values.{index}
 use Rattle.machine.specs.declared.End.{End}
 use Rattle.memory.specs.Memory.{Long, Memory, stateOf, vectorIn}
-use Rattle.memory.specs.Parts.{Does, liveCells, occurrences, withCells, withLive, withOpen, withVectors}
+use Rattle.memory.specs.Parts.{Does, endOf, liveCells, occurrences, withCells, withLive, withOpen, withVectors}
 use Rattle.memory.specs.Works.{Works, executed}
 use Rattle.memory.specs.declared.Did.{Did}
+use Rattle.memory.specs.declared.Halt.{Halt}
 use Rattle.memory.proofs.Counts.{occurrences-emptied, vector-counts}
 use Rattle.memory.proofs.Frames.{assign-empty}
 use Rattle.memory.proofs.Heap.{set-item, vector-at, vector-outside}
@@ -171,8 +172,8 @@ module _ (codes : List ℕ) (numbers : List ℤ) (lengths : List ℕ) (items : L
           replaced-shared q = λ M P W long live l. ((set-shared P W _ k a i e v p h z f x g long live l (held-twice q), refl), long)
 
           module _ (q : m ≡ 1) {n : ℕ} (r : n ≡ shownOf lengths v) where
-            pub replaced-undef : index z n ≡ stop End.Undef → Replaced (Did.Stop End.Undef) codes numbers lengths items items calls k a i e
-            unfolding Replaced Works Does withAll withVectors withCells withCalls withLive withOpen
+            pub replaced-undef : index z n ≡ stop End.Undef → Replaced (Did.Stop Halt.Undef) codes numbers lengths items items calls k a i e
+            unfolding Replaced Works Does withAll withVectors withCells withCalls withLive withOpen endOf
             replaced-undef t = λ M P W long live l. ((set-undef P W _ k a i e v p h z f x g long live l (held-once q) (sym (ap (index z) r) ∙ t), refl), long)
 
             pub replaced : {j : ℕ} {items′ : List ℤ} → index z n ≡ got j → items′ ≡ set items (16 * v + j) x → Replaced Did.On codes numbers lengths items items′ calls k a i e

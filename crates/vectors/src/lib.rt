@@ -10,9 +10,9 @@ ghost use Rattle.memory.specs.Parts.{occurrences, liveCells};
 ghost use Rattle.vectors.specs.Vectors.{shownOf, Measured, Picked, Unused, Inside, Replaced, Renewed, itemIn, Copied, integersFrom, listedItem, Made};
 use integers::Indexed;
 use layout::Found;
-use machine::End;
 use memory::Did;
 use memory::Gives;
+use memory::Halt;
 use memory::Whole;
 use program::decode;
 
@@ -98,7 +98,7 @@ pub fn get(
     };
     match integers::index(z, shown(lengths, v)) {
         Indexed::At(j) => Gives::Cell(1, items[16 * v + j as usize]),
-        Indexed::Undef => Gives::Stop(End::Undef),
+        Indexed::Undef => Gives::Stop(Halt::Undef),
     }
 }
 
@@ -153,7 +153,7 @@ pub fn set(
             items[16 * v + j as usize] = x;
             Did::On
         }
-        Indexed::Undef => Did::Stop(End::Undef),
+        Indexed::Undef => Did::Stop(Halt::Undef),
     }
 }
 
@@ -189,7 +189,7 @@ pub fn dup(
         return Did::Stuck;
     }
     let Found::At(n) = free_vector(codes, calls) else {
-        return Did::Stop(End::Vectors);
+        return Did::Stop(Halt::Vectors);
     };
     let i = d as usize;
     if 16 <= i {
@@ -272,7 +272,7 @@ pub fn vec(
         return Did::Stuck;
     }
     let Found::At(v) = free_vector(codes, calls) else {
-        return Did::Stop(End::Vectors);
+        return Did::Stop(Halt::Vectors);
     };
     let i = d as usize;
     if 16 <= i {

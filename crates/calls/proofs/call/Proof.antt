@@ -10,11 +10,11 @@ use Rattle.calls.proofs.call.Reads as reads
 use Rattle.calls.proofs.call.Lts as lts
 use Rattle.calls.proofs.enter.Reads as enter-reads
 use Rattle.calls.proofs.matching.Reads as matching-reads
-use Rattle.program.proofs.lookup.listed.Reads as listed-reads
+use Rattle.index.proofs.version.Reads as version-reads
 
 -- src/lib.rt:385:24
-listed-requires : tie.Need-listed-requires
-listed-requires c κs = search needs
+version-requires : tie.Need-version-requires
+version-requires c κs = (c .before) .pre .0
 
 -- src/lib.rt:385:19
 enum-known-v : tie.Need-enum-known-v
@@ -28,7 +28,7 @@ enum-told c = search needs
 returns : tie.Need-returns
 unfolding Within
 returns c =
-    (called-missing _ _ _ _ _ _ _ _ _ _ _ (listed-missing _ _ _ _ _ ((c .before .before .before .before) .pre .0) ((c .before .before .listed) .ensures) ((c .enum-told) .given .1)), tt)
+    (called-missing _ _ _ _ _ _ _ _ _ _ _ (listed-missing _ _ _ _ ((c .before .before .version) .ensures) ((c .enum-told) .given .1)), tt)
 
 -- src/lib.rt:388:8
 matching-requires : tie.Need-matching-requires
@@ -42,7 +42,7 @@ enter-requires c κs = search needs
 returns-2 : tie.Need-returns-2
 unfolding Within
 returns-2 c = (
-  called-on _ _ _ _ _ _ _ _ _ _ _ _ (listed-found _ _ _ _ _ ((c .before .before .before .before .before .before .before .before .before .before .before .before .before .before) .pre .0) ((c .before .before .before .before .before .before .before .before .before .before .before .before .listed) .ensures) _ ((c .before .before .before .before .before .before .before .before .before .before .v) .given .1)) _ _ (sym ((c .before .before .before .before .before .before .matching) .ensures) ∙ (c .before .before .before .before .before .if1) .taken) ((c .enter) .ensures),
+  called-on _ _ _ _ _ _ _ _ _ _ _ _ (listed-found _ _ _ _ ((c .before .before .before .before .before .before .before .before .before .before .before .before .version) .ensures) _ ((c .before .before .before .before .before .before .before .before .before .before .v) .given .1)) _ _ (sym ((c .before .before .before .before .before .before .matching) .ensures) ∙ (c .before .before .before .before .before .if1) .taken) ((c .enter) .ensures),
   entered-within _ _ _ _ _ _ _ _ _ _ (c .enter .ensures),
 )
 
@@ -50,13 +50,13 @@ returns-2 c = (
 returns-3 : tie.Need-returns-3
 unfolding Within
 returns-3 c =
-    (called-unmatched _ _ _ _ _ _ _ _ _ _ _ _ (listed-found _ _ _ _ _ ((c .before .before .before .before .before .before .before .before .before) .pre .0) ((c .before .before .before .before .before .before .before .listed) .ensures) _ ((c .before .before .before .before .before .v) .given .1)) (sym ((c .before .matching) .ensures) ∙ (c .if1) .left), tt)
+    (called-unmatched _ _ _ _ _ _ _ _ _ _ _ _ (listed-found _ _ _ _ ((c .before .before .before .before .before .before .before .version) .ensures) _ ((c .before .before .before .before .before .v) .given .1)) (sym ((c .before .matching) .ensures) ∙ (c .if1) .left), tt)
 
 pub call-spec : {M : Type 1} → statement M
 call-spec =
     tie.close
     (tie.spec
-    listed-requires
+    version-requires
     enum-known-v
     enum-told
     returns

@@ -7,11 +7,11 @@ use Rattle.calls.proofs.passed.Tie as tie
 use Rattle.calls.proofs.passed.Reads as reads
 use Rattle.calls.proofs.passed.Lts as lts
 use Rattle.calls.proofs.passes.Reads as passes-reads
-use Rattle.program.proofs.lookup.listed.Reads as listed-reads
+use Rattle.index.proofs.version.Reads as version-reads
 
 -- src/lib.rt:493:24
-listed-requires : tie.Need-listed-requires
-listed-requires c κs = search needs
+version-requires : tie.Need-version-requires
+version-requires c κs = (c .before) .pre .0
 
 -- src/lib.rt:493:19
 enum-known-v : tie.Need-enum-known-v
@@ -24,7 +24,7 @@ enum-told c = search needs
 -- src/lib.rt:494:9
 returns : tie.Need-returns
 returns c =
-    passed-missing _ _ _ _ (listed-missing _ _ _ _ _ ((c .before .before .before .before) .pre .0) ((c .before .before .listed) .ensures) ((c .enum-told) .given .1))
+    passed-missing _ _ _ _ (listed-missing _ _ _ _ ((c .before .before .version) .ensures) ((c .enum-told) .given .1))
 
 -- src/lib.rt:496:8
 passes-requires : tie.Need-passes-requires
@@ -33,14 +33,14 @@ passes-requires c κs = search needs
 -- src/lib.rt:475:1
 returns-2 : tie.Need-returns-2
 returns-2 c =
-    passed-met _ _ _ _ _ _ ((c .before .before .before .before .before .before .before) .pre .0) ((c .before .before .before .before .before .listed) .ensures) _ ((c .before .before .before .v) .given .1) (sym ((c .before .passes) .ensures) ∙ (c .if1) .taken)
+    passed-met _ _ _ _ _ ((c .before .before .before .before .before .version) .ensures) _ ((c .before .before .before .v) .given .1) (sym ((c .before .passes) .ensures) ∙ (c .if1) .taken)
 
 -- src/lib.rt:475:1
 returns-3 : tie.Need-returns-3
 returns-3 c =
-    passed-unmet _ _ _ _ _ _ ((c .before .before .before .before .before .before .before) .pre .0) ((c .before .before .before .before .before .listed) .ensures) _ ((c .before .before .before .v) .given .1) (sym ((c .before .passes) .ensures) ∙ (c .if1) .left)
+    passed-unmet _ _ _ _ _ ((c .before .before .before .before .before .version) .ensures) _ ((c .before .before .before .v) .given .1) (sym ((c .before .passes) .ensures) ∙ (c .if1) .left)
 
 pub passed-spec : {M : Type 1} → statement M
 passed-spec =
     tie.close
-    (tie.spec listed-requires enum-known-v enum-told returns passes-requires returns-2 returns-3)
+    (tie.spec version-requires enum-known-v enum-told returns passes-requires returns-2 returns-3)

@@ -1,6 +1,6 @@
 use Rattle.cells.proofs.Given.{whole-is, whole-stuck, arith-left, arith-right, arith-done}
 use Rattle.cells.proofs.Undef.{arith-undef, computed-got, computed-stuck}
-use Rattle.memory.specs.Parts.{givesOf}
+use Rattle.memory.specs.Parts.{endOf, givesOf}
 use Rattle.memory.specs.Memory.{valueOf}
 use Rattle.machine.specs.Try.{_>>=_}
 use mir.Val.{SFits}
@@ -32,7 +32,7 @@ enum-told c = search needs
 
 -- src/lib.rt:162:9
 returns : tie.Need-returns
-unfolding givesOf
+unfolding givesOf endOf
 returns c =
     arith-left _ _ _ _ _ _ (whole-stuck ((c .before .before .integer) .ensures) ((c .enum-told) .given .1))
 
@@ -50,7 +50,7 @@ enum-told-2 c = search needs
 
 -- src/lib.rt:165:9
 returns-2 : tie.Need-returns-2
-unfolding givesOf
+unfolding givesOf endOf
 returns-2 c =
     arith-right _ _ _ _ _ _ (whole-is ((c .before .before .before .before .before .before .integer) .ensures) ((c .before .before .before .before .x) .given .1)) (whole-stuck ((c .before .before .integer2) .ensures) ((c .enum-told2) .given .1))
 
@@ -72,7 +72,7 @@ enum-told-4 c = search needs
 
 -- src/lib.rt:157:1
 returns-3 : tie.Need-returns-3
-unfolding givesOf valueOf _>>=_
+unfolding givesOf valueOf _>>=_ endOf
 returns-3 c =
     let sx : SFits w32 ((c .before .before .before .before .before .before .before .before .before .x) .given .0 .0) = search needs in
     let sy : SFits w32 ((c .before .before .before .before .before .y) .given .0 .0) = search needs in
@@ -82,7 +82,7 @@ returns-3 c =
 
 -- src/lib.rt:157:1
 returns-4 : tie.Need-returns-4
-unfolding givesOf _>>=_
+unfolding givesOf _>>=_ endOf
 returns-4 c =
     let sx : SFits w32 ((c .before .before .before .before .before .before .before .before .x) .given .0 .0) = search needs in
     let sy : SFits w32 ((c .before .before .before .before .y) .given .0 .0) = search needs in
@@ -91,7 +91,7 @@ returns-4 c =
 
 -- src/lib.rt:157:1
 returns-5 : tie.Need-returns-5
-unfolding givesOf _>>=_
+unfolding givesOf _>>=_ endOf
 returns-5 c =
     let sx : SFits w32 ((c .before .before .before .before .before .before .before .before .x) .given .0 .0) = search needs in
     let sy : SFits w32 ((c .before .before .before .before .y) .given .0 .0) = search needs in

@@ -4,7 +4,7 @@ use lib.ListN.{getD}
 use lib.IntN.{pos}
 use Prim.Native.Nat.{_+_, _*_}
 use Rattle.cells.specs.Operands.{namedIn, setName}
-use Rattle.memory.specs.Parts.{givesOf}
+use Rattle.memory.specs.Parts.{endOf, givesOf}
 use mir.Facts.{toZ-ofZ}
 use borrow.Author.Tests.{le-ltb, lt-ltb}
 use mathlib.Core.Path.{_≡_, refl, sym, ap, _∙_}
@@ -18,7 +18,7 @@ use Rattle.cells.proofs.is_promise.Reads as is-promise-reads
 
 -- src/lib.rt:143:9
 returns : tie.Need-returns
-unfolding givesOf namedIn
+unfolding givesOf namedIn endOf
 returns c =
     simp (le-ltb _ _ ((c .if1) .taken))
 
@@ -68,7 +68,7 @@ element-copy-out-t22 c = search needs
 
 -- src/lib.rt:147:9
 returns-2 : tie.Need-returns-2
-unfolding givesOf namedIn setName
+unfolding givesOf namedIn setName endOf
 returns-2 c =
     let s : SFits w32 (getD ((c .before .before .before .before .before) .args .numbers .now) (24 * (c .before .before .before .before .before) .args .k + (16 + (c .before .before .before .before .before) .args .x)) (pos 0)) = search needs in
     rw (toZ-ofZ s, lt-ltb _ 8 ((c .before .before .before .before .if1) .left), sym ((c .before .before .is-plain) .ensures) ∙ (c .before .if2) .taken)
@@ -79,13 +79,13 @@ is-promise-requires c κs = search needs
 
 -- src/lib.rt:137:1
 returns-3 : tie.Need-returns-3
-unfolding givesOf namedIn setName
+unfolding givesOf namedIn setName endOf
 returns-3 c =
     rw (lt-ltb _ 8 ((c .before .before .before .before .before .if1) .left), sym ((c .before .before .before .is-plain) .ensures) ∙ (c .before .before .if2) .left, sym ((c .before .is-promise) .ensures) ∙ (c .if3) .taken)
 
 -- src/lib.rt:137:1
 returns-4 : tie.Need-returns-4
-unfolding givesOf namedIn setName
+unfolding givesOf namedIn setName endOf
 returns-4 c =
     rw (lt-ltb _ 8 ((c .before .before .before .before .before .if1) .left), sym ((c .before .before .before .is-plain) .ensures) ∙ (c .before .before .if2) .left, sym ((c .before .is-promise) .ensures) ∙ (c .if3) .left)
 

@@ -1,5 +1,5 @@
 use Rattle.cells.proofs.Given.{whole-is, whole-stuck, select-first, select-second, select-third, select-done}
-use Rattle.memory.specs.Parts.{givesOf}
+use Rattle.memory.specs.Parts.{endOf, givesOf}
 use Rattle.memory.specs.Memory.{valueOf}
 use mir.Val.{SFits}
 use mir.Syntax.{w32}
@@ -30,7 +30,7 @@ enum-told c = search needs
 
 -- src/lib.rt:181:9
 returns : tie.Need-returns
-unfolding givesOf
+unfolding givesOf endOf
 returns c =
     select-first _ _ _ _ _ _ (whole-stuck ((c .before .before .integer) .ensures) ((c .enum-told) .given .1))
 
@@ -48,7 +48,7 @@ enum-told-2 c = search needs
 
 -- src/lib.rt:184:9
 returns-2 : tie.Need-returns-2
-unfolding givesOf
+unfolding givesOf endOf
 returns-2 c =
     select-second _ _ _ _ _ _ (whole-is ((c .before .before .before .before .before .before .integer) .ensures) ((c .before .before .before .before .w) .given .1)) (whole-stuck ((c .before .before .integer2) .ensures) ((c .enum-told2) .given .1))
 
@@ -66,7 +66,7 @@ enum-told-3 c = search needs
 
 -- src/lib.rt:187:9
 returns-3 : tie.Need-returns-3
-unfolding givesOf
+unfolding givesOf endOf
 returns-3 c =
     select-third _ _ _ _ _ _ (whole-is ((c .before .before .before .before .before .before .before .before .before .before .integer) .ensures) ((c .before .before .before .before .before .before .before .before .w) .given .1)) (whole-is ((c .before .before .before .before .before .before .integer2) .ensures) ((c .before .before .before .before .x) .given .1)) (whole-stuck ((c .before .before .integer3) .ensures) ((c .enum-told3) .given .1))
 
@@ -76,7 +76,7 @@ select-requires c κs = search needs
 
 -- src/lib.rt:176:1
 returns-4 : tie.Need-returns-4
-unfolding givesOf valueOf
+unfolding givesOf valueOf endOf
 returns-4 c =
     let sw : SFits w32 ((c .before .before .before .before .before .before .before .before .before .before .w) .given .0 .0) = search needs in
     let sx : SFits w32 ((c .before .before .before .before .before .before .x) .given .0 .0) = search needs in

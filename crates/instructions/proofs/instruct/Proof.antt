@@ -260,8 +260,8 @@ enum-told-3 : tie.Need-enum-told-3
 enum-told-3 c = search needs
 
 -- src/lib.rt:93:26
-enum-known-e : tie.Need-enum-known-e
-enum-known-e c = search needs
+enum-known-h : tie.Need-enum-known-h
+enum-known-h c = search needs
 
 -- src/lib.rt:95:29
 enum-known-d-14 : tie.Need-enum-known-d-14
@@ -438,7 +438,7 @@ returns-17 c =
 returns-18 : tie.Need-returns-18
 unfolding formed
 returns-18 c =
-    stopped-arm _ _ _ _ _ _ _ _ _ _ _ _ _ _ _ _ _ _ _ (instr-is _ ((c .before .before .before .before .before .before .before .before .before .before .before .decode) .ensures) _ ((c .before .before .before .before .before .before .before .before .before .d13) .given .1)) _ _ ((c .before .before .before .force) .ensures) ((c .before .e) .given .1)
+    stopped-arm _ _ _ _ _ _ _ _ _ _ _ _ _ _ _ _ _ _ _ (instr-is _ ((c .before .before .before .before .before .before .before .before .before .before .before .decode) .ensures) _ ((c .before .before .before .before .before .before .before .before .before .d13) .given .1)) _ _ ((c .before .before .before .force) .ensures) ((c .before .h) .given .1)
 
 -- src/lib.rt:49:1
 returns-19 : tie.Need-returns-19
@@ -524,7 +524,7 @@ instruct-spec =
     enum-told-2
     add-t156
     enum-told-3
-    enum-known-e
+    enum-known-h
     enum-known-d-14
     peek-requires
     give-requires-9

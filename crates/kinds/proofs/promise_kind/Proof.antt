@@ -7,8 +7,8 @@ use Rattle.kinds.proofs.promise_kind.Reads as reads
 use Rattle.kinds.proofs.promise_kind.Lts as lts
 use Rattle.kinds.proofs.wide.Reads as wide-reads
 use Rattle.layout.proofs.field.Reads as field-reads
-use Rattle.program.proofs.lookup.block.Reads as block-reads
-use Rattle.program.proofs.lookup.listed.Reads as listed-reads
+use Rattle.index.proofs.block.Reads as block-reads
+use Rattle.index.proofs.version.Reads as version-reads
 
 -- src/lib.rt:34:27
 mul-wide : tie.Need-mul-wide
@@ -61,8 +61,8 @@ wide-requires-3 : tie.Need-wide-requires-3
 wide-requires-3 c κs = search needs
 
 -- src/lib.rt:41:24
-listed-requires : tie.Need-listed-requires
-listed-requires c κs = search needs
+version-requires : tie.Need-version-requires
+version-requires c κs = (c .before .before .before .before .before .before .before .before .before) .pre .0
 
 -- src/lib.rt:41:19
 enum-known-v : tie.Need-enum-known-v
@@ -75,7 +75,7 @@ enum-told c = search needs
 -- src/lib.rt:43:9
 returns-3 : tie.Need-returns-3
 returns-3 c =
-    held-unknown _ _ _ _ _ _ ((c .before .before .before .before .before .before .before .before .before .before .before .before) .pre .1) ((c .before .before .before .before .before .before .before .before .before .wide) .ensures .0) ((c .before .before .before .before .before .before .before .before .if1) .left) ((c .before .before .before .before .before .before .before .if2) .left) (rw ((c .before .before .before .before .before .wide2) .ensures .0, (c .before .before .before .wide3) .ensures .0) at (listed-missing _ _ _ _ _ ((c .before .before .before .before .before .before .before .before .before .before .before .before) .pre .0) ((c .before .before .listed) .ensures) ((c .enum-told) .given .1)))
+    held-unknown _ _ _ _ _ _ ((c .before .before .before .before .before .before .before .before .before .before .before .before) .pre .1) ((c .before .before .before .before .before .before .before .before .before .wide) .ensures .0) ((c .before .before .before .before .before .before .before .before .if1) .left) ((c .before .before .before .before .before .before .before .if2) .left) (rw ((c .before .before .before .before .before .wide2) .ensures .0, (c .before .before .before .wide3) .ensures .0) at (listed-missing _ _ _ _ ((c .before .before .version) .ensures) ((c .enum-told) .given .1)))
 
 -- src/lib.rt:45:62
 mul-wide-4 : tie.Need-mul-wide-4
@@ -95,7 +95,7 @@ wide-requires-4 c κs = search needs
 
 -- src/lib.rt:45:24
 block-requires : tie.Need-block-requires
-block-requires c κs = search needs
+block-requires c κs = (c .before .before .before .before .before .before .before .before .before .before .before .before .before .before .before) .pre .0
 
 -- src/lib.rt:45:19
 enum-known-b : tie.Need-enum-known-b
@@ -108,7 +108,7 @@ enum-told-2 c = search needs
 -- src/lib.rt:46:9
 returns-4 : tie.Need-returns-4
 returns-4 c =
-    held-unblocked _ _ _ _ _ _ ((c .before .before .before .before .before .before .before .before .before .before .before .before .before .before .before .before .before .before) .pre .1) ((c .before .before .before .before .before .before .before .before .before .before .before .before .before .before .before .wide) .ensures .0) ((c .before .before .before .before .before .before .before .before .before .before .before .before .before .before .if1) .left) ((c .before .before .before .before .before .before .before .before .before .before .before .before .before .if2) .left) _ (rw ((c .before .before .before .before .before .before .before .before .before .before .before .wide2) .ensures .0, (c .before .before .before .before .before .before .before .before .before .wide3) .ensures .0) at (listed-found _ _ _ _ _ ((c .before .before .before .before .before .before .before .before .before .before .before .before .before .before .before .before .before .before) .pre .0) ((c .before .before .before .before .before .before .before .before .listed) .ensures) _ ((c .before .before .before .before .before .before .v) .given .1))) _ ((c .before .before .before .wide4) .ensures .0) (sym ((c .before .before .block) .ensures) ∙ (c .enum-told2) .given .1)
+    held-unblocked _ _ _ _ _ _ ((c .before .before .before .before .before .before .before .before .before .before .before .before .before .before .before .before .before .before) .pre .1) ((c .before .before .before .before .before .before .before .before .before .before .before .before .before .before .before .wide) .ensures .0) ((c .before .before .before .before .before .before .before .before .before .before .before .before .before .before .if1) .left) ((c .before .before .before .before .before .before .before .before .before .before .before .before .before .if2) .left) _ (rw ((c .before .before .before .before .before .before .before .before .before .before .before .wide2) .ensures .0, (c .before .before .before .before .before .before .before .before .before .wide3) .ensures .0) at (listed-found _ _ _ _ ((c .before .before .before .before .before .before .before .before .version) .ensures) _ ((c .before .before .before .before .before .before .v) .given .1))) _ ((c .before .before .before .wide4) .ensures .0) (sym ((c .before .before .block) .ensures) ∙ (c .enum-told2) .given .1)
 
 -- src/lib.rt:48:9
 field-requires : tie.Need-field-requires
@@ -121,7 +121,7 @@ add-result c = search needs
 -- src/lib.rt:23:1
 returns-5 : tie.Need-returns-5
 returns-5 c =
-    held-there _ _ _ _ _ _ ((c .before .before .before .before .before .before .before .before .before .before .before .before .before .before .before .before .before .before .before .before) .pre .1) ((c .before .before .before .before .before .before .before .before .before .before .before .before .before .before .before .before .before .wide) .ensures .0) ((c .before .before .before .before .before .before .before .before .before .before .before .before .before .before .before .before .if1) .left) ((c .before .before .before .before .before .before .before .before .before .before .before .before .before .before .before .if2) .left) _ (rw ((c .before .before .before .before .before .before .before .before .before .before .before .before .before .wide2) .ensures .0, (c .before .before .before .before .before .before .before .before .before .before .before .wide3) .ensures .0) at (listed-found _ _ _ _ _ ((c .before .before .before .before .before .before .before .before .before .before .before .before .before .before .before .before .before .before .before .before) .pre .0) ((c .before .before .before .before .before .before .before .before .before .before .listed) .ensures) _ ((c .before .before .before .before .before .before .before .before .v) .given .1))) _ ((c .before .before .before .before .before .wide4) .ensures .0) _ _ (sym ((c .before .before .before .before .block) .ensures) ∙ (c .before .before .b) .given .1) ((c .field) .ensures .0)
+    held-there _ _ _ _ _ _ ((c .before .before .before .before .before .before .before .before .before .before .before .before .before .before .before .before .before .before .before .before) .pre .1) ((c .before .before .before .before .before .before .before .before .before .before .before .before .before .before .before .before .before .wide) .ensures .0) ((c .before .before .before .before .before .before .before .before .before .before .before .before .before .before .before .before .if1) .left) ((c .before .before .before .before .before .before .before .before .before .before .before .before .before .before .before .if2) .left) _ (rw ((c .before .before .before .before .before .before .before .before .before .before .before .before .before .wide2) .ensures .0, (c .before .before .before .before .before .before .before .before .before .before .before .wide3) .ensures .0) at (listed-found _ _ _ _ ((c .before .before .before .before .before .before .before .before .before .before .version) .ensures) _ ((c .before .before .before .before .before .before .before .before .v) .given .1))) _ ((c .before .before .before .before .before .wide4) .ensures .0) _ _ (sym ((c .before .before .before .before .block) .ensures) ∙ (c .before .before .b) .given .1) ((c .field) .ensures .0)
 
 pub promise-kind-spec : {M : Type 1} → statement M
 promise-kind-spec =
@@ -139,7 +139,7 @@ promise-kind-spec =
     add-wide
     element-copy-out-wide-3
     wide-requires-3
-    listed-requires
+    version-requires
     enum-known-v
     enum-told
     returns-3

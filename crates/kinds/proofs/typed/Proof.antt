@@ -6,7 +6,7 @@ use lib.ListN.{getD}
 use mir.Syntax.{w32}
 use mir.Val.{SFits}
 use mathlib.Core.Path.{sym, _∙_}
-use Rattle.memory.specs.Parts.{givesOf}
+use Rattle.memory.specs.Parts.{endOf, givesOf}
 use Rattle.kinds.proofs.Moving.{typed-outside, typed-empty, typed-lost-in, typed-fits-in, typed-undef, typed-stuck}
 use Rattle.kinds.proofs.Kinded.{kinded-or}
 use Rattle.kinds.proofs.typed.Statement.{statement}
@@ -20,7 +20,7 @@ use Rattle.typing.proofs.types.is_within.Reads as is-within-reads
 
 -- src/lib.rt:122:9
 returns : tie.Need-returns
-unfolding givesOf
+unfolding givesOf endOf
 returns c =
     typed-outside _ _ _ _ _ _ _ _ _ _ _ ((c .if1) .taken)
 
@@ -46,7 +46,7 @@ kind-of-requires c κs = search needs
 
 -- src/lib.rt:126:9
 returns-2 : tie.Need-returns-2
-unfolding givesOf
+unfolding givesOf endOf
 returns-2 c =
     typed-empty _ _ _ _ _ _ _ _ _ _ _ ((c .before .before .before .if1) .left) _ (kinded-or _ _ _ _ _ ((c .before .kind-of) .ensures)) ((c .if2) .taken)
 
@@ -56,7 +56,7 @@ registers-requires c κs = search needs
 
 -- src/lib.rt:130:9
 returns-3 : tie.Need-returns-3
-unfolding givesOf
+unfolding givesOf endOf
 returns-3 c =
     typed-lost-in _ _ _ _ _ _ _ _ _ _ _ ((c .before .before .before .before .before .if1) .left) _ (kinded-or _ _ _ _ _ ((c .before .before .before .kind-of) .ensures)) ((c .before .before .if2) .left) _ ((c .before .registers) .ensures .0) ((c .if3) .taken)
 
@@ -102,20 +102,20 @@ element-copy-out-t35 c = search needs
 
 -- src/lib.rt:133:9
 returns-4 : tie.Need-returns-4
-unfolding givesOf
+unfolding givesOf endOf
 returns-4 c =
     let s : SFits w32 (getD ((c .before .before .before .before .before .before .before .before .before .before .before .before) .args .numbers .now) (24 * (c .before .before .before .before .before .before .before .before .before .before .before .before) .args .k + (c .before .before .before .before .before .before .before .before .before .before .before .before) .args .a) (pos 0)) = search needs in
     rw (toZ-ofZ s) (typed-fits-in _ _ _ _ _ _ _ _ _ _ _ ((c .before .before .before .before .before .before .before .before .before .before .if1) .left) _ (kinded-or _ _ _ _ _ ((c .before .before .before .before .before .before .before .before .kind-of) .ensures)) ((c .before .before .before .before .before .before .before .if2) .left) _ ((c .before .before .before .before .before .before .registers) .ensures .0) ((c .before .before .before .before .before .if3) .left) _ ((c .before .before .before .before .type-of) .ensures .0) (sym ((c .before .before .before .is-within) .ensures) ∙ (c .before .before .if4) .taken))
 
 -- src/lib.rt:103:1
 returns-5 : tie.Need-returns-5
-unfolding givesOf
+unfolding givesOf endOf
 returns-5 c =
     typed-undef _ _ _ _ _ _ _ _ _ _ _ ((c .before .before .before .before .before .before .before .before .before .if1) .left) _ (kinded-or _ _ _ _ _ ((c .before .before .before .before .before .before .before .kind-of) .ensures)) ((c .before .before .before .before .before .before .if2) .left) _ ((c .before .before .before .before .before .registers) .ensures .0) ((c .before .before .before .before .if3) .left) _ ((c .before .before .before .type-of) .ensures .0) (sym ((c .before .before .is-within) .ensures) ∙ (c .before .if4) .left) ((c .if5) .taken)
 
 -- src/lib.rt:103:1
 returns-6 : tie.Need-returns-6
-unfolding givesOf
+unfolding givesOf endOf
 returns-6 c =
     typed-stuck _ _ _ _ _ _ _ _ _ _ _ ((c .before .before .before .before .before .before .before .before .before .if1) .left) _ (kinded-or _ _ _ _ _ ((c .before .before .before .before .before .before .before .kind-of) .ensures)) ((c .before .before .before .before .before .before .if2) .left) _ ((c .before .before .before .before .before .registers) .ensures .0) ((c .before .before .before .before .if3) .left) _ ((c .before .before .before .type-of) .ensures .0) (sym ((c .before .before .is-within) .ensures) ∙ (c .before .if4) .left) ((c .if5) .left)
 

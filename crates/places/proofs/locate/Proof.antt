@@ -71,8 +71,8 @@ element-copy-out-wide-3 c = search needs
 wide-requires-3 : tie.Need-wide-requires-3
 wide-requires-3 c κs = search needs
 
-listed-requires : tie.Need-listed-requires
-listed-requires c κs = search needs
+version-requires : tie.Need-version-requires
+version-requires c κs = (c .before .before .before .before .before .before .before .before .before .before .before) .pre
 
 enum-known-v : tie.Need-enum-known-v
 enum-known-v c = search needs
@@ -85,7 +85,7 @@ nowhere-requires-5 c κs = search needs
 
 returns-5 : tie.Need-returns-5
 returns-5 c =
-    unknown _ _ _ _ _ _ ((c .nowhere5) .ensures) _ (record { begun = (c .before .before .before .before .before .before .before .before .before .before .before .before .before .if1) .left; shallow = (c .before .before .before .before .before .before .before .before .before .before .before .before .if2) .left; framed = (c .before .before .before .before .before .before .before .before .before .before .wide) .ensures .0; live = (c .before .before .before .before .before .before .before .before .before .if3) .left; few = (c .before .before .before .before .before .before .before .before .if4) .left }) _ _ _ _ ((c .before .before .before .before .before .before .before .before .before .before .before .before .before .before .before) .pre) ((c .before .before .before .before .before .before .wide2) .ensures .0) ((c .before .before .before .before .wide3) .ensures .0) ((c .before .before .before .listed) .ensures) ((c .before .enum-told) .given .1)
+    unknown _ _ _ _ _ _ ((c .nowhere5) .ensures) _ (record { begun = (c .before .before .before .before .before .before .before .before .before .before .before .before .before .if1) .left; shallow = (c .before .before .before .before .before .before .before .before .before .before .before .before .if2) .left; framed = (c .before .before .before .before .before .before .before .before .before .before .wide) .ensures .0; live = (c .before .before .before .before .before .before .before .before .before .if3) .left; few = (c .before .before .before .before .before .before .before .before .if4) .left }) _ _ _ ((c .before .before .before .before .before .before .wide2) .ensures .0) ((c .before .before .before .before .wide3) .ensures .0) ((c .before .before .before .version) .ensures) ((c .before .enum-told) .given .1)
 
 mul-wide-4 : tie.Need-mul-wide-4
 mul-wide-4 c = search needs
@@ -100,7 +100,7 @@ wide-requires-4 : tie.Need-wide-requires-4
 wide-requires-4 c κs = search needs
 
 block-requires : tie.Need-block-requires
-block-requires c κs = search needs
+block-requires c κs = (c .before .before .before .before .before .before .before .before .before .before .before .before .before .before .before .before .before) .pre
 
 enum-known-b : tie.Need-enum-known-b
 enum-known-b c = search needs
@@ -113,7 +113,7 @@ nowhere-requires-6 c κs = search needs
 
 returns-6 : tie.Need-returns-6
 returns-6 c =
-    unblocked _ _ _ _ _ _ ((c .nowhere6) .ensures) _ (record { begun = (c .before .before .before .before .before .before .before .before .before .before .before .before .before .before .before .before .before .before .before .if1) .left; shallow = (c .before .before .before .before .before .before .before .before .before .before .before .before .before .before .before .before .before .before .if2) .left; framed = (c .before .before .before .before .before .before .before .before .before .before .before .before .before .before .before .before .wide) .ensures .0; live = (c .before .before .before .before .before .before .before .before .before .before .before .before .before .before .before .if3) .left; few = (c .before .before .before .before .before .before .before .before .before .before .before .before .before .before .if4) .left }) _ (owner-found _ _ _ _ _ _ _ ((c .before .before .before .before .before .before .before .before .before .before .before .before .before .before .before .before .before .before .before .before .before) .pre) ((c .before .before .before .before .before .before .before .before .before .before .before .before .wide2) .ensures .0) ((c .before .before .before .before .before .before .before .before .before .before .wide3) .ensures .0) ((c .before .before .before .before .before .before .before .before .before .listed) .ensures) _ ((c .before .before .before .before .before .before .before .v) .given .1)) _ _ ((c .before .before .before .before .wide4) .ensures .0) ((c .before .before .before .block) .ensures) ((c .before .enum-told2) .given .1)
+    unblocked _ _ _ _ _ _ ((c .nowhere6) .ensures) _ (record { begun = (c .before .before .before .before .before .before .before .before .before .before .before .before .before .before .before .before .before .before .before .if1) .left; shallow = (c .before .before .before .before .before .before .before .before .before .before .before .before .before .before .before .before .before .before .if2) .left; framed = (c .before .before .before .before .before .before .before .before .before .before .before .before .before .before .before .before .wide) .ensures .0; live = (c .before .before .before .before .before .before .before .before .before .before .before .before .before .before .before .if3) .left; few = (c .before .before .before .before .before .before .before .before .before .before .before .before .before .before .if4) .left }) _ (owner-found _ _ _ _ _ _ ((c .before .before .before .before .before .before .before .before .before .before .before .before .wide2) .ensures .0) ((c .before .before .before .before .before .before .before .before .before .before .wide3) .ensures .0) ((c .before .before .before .before .before .before .before .before .before .version) .ensures) _ ((c .before .before .before .before .before .before .before .v) .given .1)) _ _ ((c .before .before .before .before .wide4) .ensures .0) ((c .before .before .before .block) .ensures) ((c .before .enum-told2) .given .1)
 
 mul-wide-5 : tie.Need-mul-wide-5
 mul-wide-5 c = search needs
@@ -132,7 +132,7 @@ nowhere-requires-7 c κs = search needs
 
 returns-7 : tie.Need-returns-7
 returns-7 c =
-    over _ _ _ _ _ _ ((c .nowhere7) .ensures) _ (record { begun = (c .before .before .before .before .before .before .before .before .before .before .before .before .before .before .before .before .before .before .before .before .before .before .before .if1) .left; shallow = (c .before .before .before .before .before .before .before .before .before .before .before .before .before .before .before .before .before .before .before .before .before .before .if2) .left; framed = (c .before .before .before .before .before .before .before .before .before .before .before .before .before .before .before .before .before .before .before .before .wide) .ensures .0; live = (c .before .before .before .before .before .before .before .before .before .before .before .before .before .before .before .before .before .before .before .if3) .left; few = (c .before .before .before .before .before .before .before .before .before .before .before .before .before .before .before .before .before .before .if4) .left }) _ (owner-found _ _ _ _ _ _ _ ((c .before .before .before .before .before .before .before .before .before .before .before .before .before .before .before .before .before .before .before .before .before .before .before .before .before) .pre) ((c .before .before .before .before .before .before .before .before .before .before .before .before .before .before .before .before .wide2) .ensures .0) ((c .before .before .before .before .before .before .before .before .before .before .before .before .before .before .wide3) .ensures .0) ((c .before .before .before .before .before .before .before .before .before .before .before .before .before .listed) .ensures) _ ((c .before .before .before .before .before .before .before .before .before .before .before .v) .given .1)) _ (block-is _ _ _ _ _ _ _ ((c .before .before .before .before .before .before .before .before .wide4) .ensures .0) ((c .before .before .before .before .before .before .before .block) .ensures) ((c .before .before .before .before .before .b) .given .1)) _ ((c .before .before .wide5) .ensures .0) ((c .before .if5) .taken)
+    over _ _ _ _ _ _ ((c .nowhere7) .ensures) _ (record { begun = (c .before .before .before .before .before .before .before .before .before .before .before .before .before .before .before .before .before .before .before .before .before .before .before .if1) .left; shallow = (c .before .before .before .before .before .before .before .before .before .before .before .before .before .before .before .before .before .before .before .before .before .before .if2) .left; framed = (c .before .before .before .before .before .before .before .before .before .before .before .before .before .before .before .before .before .before .before .before .wide) .ensures .0; live = (c .before .before .before .before .before .before .before .before .before .before .before .before .before .before .before .before .before .before .before .if3) .left; few = (c .before .before .before .before .before .before .before .before .before .before .before .before .before .before .before .before .before .before .if4) .left }) _ (owner-found _ _ _ _ _ _ ((c .before .before .before .before .before .before .before .before .before .before .before .before .before .before .before .before .wide2) .ensures .0) ((c .before .before .before .before .before .before .before .before .before .before .before .before .before .before .wide3) .ensures .0) ((c .before .before .before .before .before .before .before .before .before .before .before .before .before .version) .ensures) _ ((c .before .before .before .before .before .before .before .before .before .before .before .v) .given .1)) _ (block-is _ _ _ _ _ _ _ ((c .before .before .before .before .before .before .before .before .wide4) .ensures .0) ((c .before .before .before .before .before .before .before .block) .ensures) ((c .before .before .before .before .before .b) .given .1)) _ ((c .before .before .wide5) .ensures .0) ((c .before .if5) .taken)
 
 size-at-requires : tie.Need-size-at-requires
 size-at-requires c κs = search needs
@@ -155,11 +155,11 @@ nowhere-requires-8 c κs = search needs
 
 returns-8 : tie.Need-returns-8
 returns-8 c =
-    short _ _ _ _ _ _ ((c .nowhere8) .ensures) _ (record { begun = (c .before .before .before .before .before .before .before .before .before .before .before .before .before .before .before .before .before .before .before .before .before .before .before .before .before .before .before .if1) .left; shallow = (c .before .before .before .before .before .before .before .before .before .before .before .before .before .before .before .before .before .before .before .before .before .before .before .before .before .before .if2) .left; framed = (c .before .before .before .before .before .before .before .before .before .before .before .before .before .before .before .before .before .before .before .before .before .before .before .before .wide) .ensures .0; live = (c .before .before .before .before .before .before .before .before .before .before .before .before .before .before .before .before .before .before .before .before .before .before .before .if3) .left; few = (c .before .before .before .before .before .before .before .before .before .before .before .before .before .before .before .before .before .before .before .before .before .before .if4) .left }) _ (owner-found _ _ _ _ _ _ _ ((c .before .before .before .before .before .before .before .before .before .before .before .before .before .before .before .before .before .before .before .before .before .before .before .before .before .before .before .before .before) .pre) ((c .before .before .before .before .before .before .before .before .before .before .before .before .before .before .before .before .before .before .before .before .wide2) .ensures .0) ((c .before .before .before .before .before .before .before .before .before .before .before .before .before .before .before .before .before .before .wide3) .ensures .0) ((c .before .before .before .before .before .before .before .before .before .before .before .before .before .before .before .before .before .listed) .ensures) _ ((c .before .before .before .before .before .before .before .before .before .before .before .before .before .before .before .v) .given .1)) _ (block-is _ _ _ _ _ _ _ ((c .before .before .before .before .before .before .before .before .before .before .before .before .wide4) .ensures .0) ((c .before .before .before .before .before .before .before .before .before .before .before .block) .ensures) ((c .before .before .before .before .before .before .before .before .before .b) .given .1)) _ ((c .before .before .before .before .before .before .wide5) .ensures .0) _ _ ((c .before .before .before .before .size-at) .ensures) ((c .before .before .before .skip) .ensures) ((c .before .enum-told3) .given .1)
+    short _ _ _ _ _ _ ((c .nowhere8) .ensures) _ (record { begun = (c .before .before .before .before .before .before .before .before .before .before .before .before .before .before .before .before .before .before .before .before .before .before .before .before .before .before .before .if1) .left; shallow = (c .before .before .before .before .before .before .before .before .before .before .before .before .before .before .before .before .before .before .before .before .before .before .before .before .before .before .if2) .left; framed = (c .before .before .before .before .before .before .before .before .before .before .before .before .before .before .before .before .before .before .before .before .before .before .before .before .wide) .ensures .0; live = (c .before .before .before .before .before .before .before .before .before .before .before .before .before .before .before .before .before .before .before .before .before .before .before .if3) .left; few = (c .before .before .before .before .before .before .before .before .before .before .before .before .before .before .before .before .before .before .before .before .before .before .if4) .left }) _ (owner-found _ _ _ _ _ _ ((c .before .before .before .before .before .before .before .before .before .before .before .before .before .before .before .before .before .before .before .before .wide2) .ensures .0) ((c .before .before .before .before .before .before .before .before .before .before .before .before .before .before .before .before .before .before .wide3) .ensures .0) ((c .before .before .before .before .before .before .before .before .before .before .before .before .before .before .before .before .before .version) .ensures) _ ((c .before .before .before .before .before .before .before .before .before .before .before .before .before .before .before .v) .given .1)) _ (block-is _ _ _ _ _ _ _ ((c .before .before .before .before .before .before .before .before .before .before .before .before .wide4) .ensures .0) ((c .before .before .before .before .before .before .before .before .before .before .before .block) .ensures) ((c .before .before .before .before .before .before .before .before .before .b) .given .1)) _ ((c .before .before .before .before .before .before .wide5) .ensures .0) _ _ ((c .before .before .before .before .size-at) .ensures) ((c .before .before .before .skip) .ensures) ((c .before .enum-told3) .given .1)
 
 returns-9 : tie.Need-returns-9
 returns-9 c =
-    there _ _ _ _ _ _ (record { begun = (c .before .before .before .before .before .before .before .before .before .before .before .before .before .before .before .before .before .before .before .before .before .before .before .before .before .before .before .if1) .left; shallow = (c .before .before .before .before .before .before .before .before .before .before .before .before .before .before .before .before .before .before .before .before .before .before .before .before .before .before .if2) .left; framed = (c .before .before .before .before .before .before .before .before .before .before .before .before .before .before .before .before .before .before .before .before .before .before .before .before .wide) .ensures .0; live = (c .before .before .before .before .before .before .before .before .before .before .before .before .before .before .before .before .before .before .before .before .before .before .before .if3) .left; few = (c .before .before .before .before .before .before .before .before .before .before .before .before .before .before .before .before .before .before .before .before .before .before .if4) .left }) _ (owner-found _ _ _ _ _ _ _ ((c .before .before .before .before .before .before .before .before .before .before .before .before .before .before .before .before .before .before .before .before .before .before .before .before .before .before .before .before .before) .pre) ((c .before .before .before .before .before .before .before .before .before .before .before .before .before .before .before .before .before .before .before .before .wide2) .ensures .0) ((c .before .before .before .before .before .before .before .before .before .before .before .before .before .before .before .before .before .before .wide3) .ensures .0) ((c .before .before .before .before .before .before .before .before .before .before .before .before .before .before .before .before .before .listed) .ensures) _ ((c .before .before .before .before .before .before .before .before .before .before .before .before .before .before .before .v) .given .1)) _ (block-is _ _ _ _ _ _ _ ((c .before .before .before .before .before .before .before .before .before .before .before .before .wide4) .ensures .0) ((c .before .before .before .before .before .before .before .before .before .before .before .block) .ensures) ((c .before .before .before .before .before .before .before .before .before .b) .given .1)) _ ((c .before .before .before .before .before .before .wide5) .ensures .0) ((c .before .before .before .before .before .if5) .left) _ _ _ ((c .before .before .before .before .size-at) .ensures) ((c .before .before .before .skip) .ensures) ((c .before .p) .given .1)
+    there _ _ _ _ _ _ (record { begun = (c .before .before .before .before .before .before .before .before .before .before .before .before .before .before .before .before .before .before .before .before .before .before .before .before .before .before .before .if1) .left; shallow = (c .before .before .before .before .before .before .before .before .before .before .before .before .before .before .before .before .before .before .before .before .before .before .before .before .before .before .if2) .left; framed = (c .before .before .before .before .before .before .before .before .before .before .before .before .before .before .before .before .before .before .before .before .before .before .before .before .wide) .ensures .0; live = (c .before .before .before .before .before .before .before .before .before .before .before .before .before .before .before .before .before .before .before .before .before .before .before .if3) .left; few = (c .before .before .before .before .before .before .before .before .before .before .before .before .before .before .before .before .before .before .before .before .before .before .if4) .left }) _ (owner-found _ _ _ _ _ _ ((c .before .before .before .before .before .before .before .before .before .before .before .before .before .before .before .before .before .before .before .before .wide2) .ensures .0) ((c .before .before .before .before .before .before .before .before .before .before .before .before .before .before .before .before .before .before .wide3) .ensures .0) ((c .before .before .before .before .before .before .before .before .before .before .before .before .before .before .before .before .before .version) .ensures) _ ((c .before .before .before .before .before .before .before .before .before .before .before .before .before .before .before .v) .given .1)) _ (block-is _ _ _ _ _ _ _ ((c .before .before .before .before .before .before .before .before .before .before .before .before .wide4) .ensures .0) ((c .before .before .before .before .before .before .before .before .before .before .before .block) .ensures) ((c .before .before .before .before .before .before .before .before .before .b) .given .1)) _ ((c .before .before .before .before .before .before .wide5) .ensures .0) ((c .before .before .before .before .before .if5) .left) _ _ _ ((c .before .before .before .before .size-at) .ensures) ((c .before .before .before .skip) .ensures) ((c .before .p) .given .1)
 
 pub locate-spec : {M : Type 1} → statement M
 locate-spec =
@@ -185,7 +185,7 @@ locate-spec =
     add-wide-2
     element-copy-out-wide-3
     wide-requires-3
-    listed-requires
+    version-requires
     enum-known-v
     enum-told
     nowhere-requires-5

@@ -6,7 +6,7 @@ use Rattle.promises.proofs.prom.Tie as tie
 use Rattle.promises.proofs.prom.Reads as reads
 use Rattle.promises.proofs.prom.Lts as lts
 use Rattle.cells.proofs.put.Reads as put-reads
-use Rattle.program.proofs.lookup.block.Reads as block-reads
+use Rattle.index.proofs.block.Reads as block-reads
 use Rattle.promises.proofs.free_promise.Reads as free-promise-reads
 use Rattle.promises.proofs.wide.Reads as wide-reads
 
@@ -16,7 +16,7 @@ wide-requires c κs = search needs
 
 -- src/lib.rt:259:25
 block-requires : tie.Need-block-requires
-block-requires c κs = search needs
+block-requires c κs = (c .before .before) .pre .0
 
 -- src/lib.rt:259:19
 enum-known--b : tie.Need-enum-known--b

@@ -144,8 +144,8 @@ returns-3 c =
     going-stuck _ _ _ _ _ _ _ ((c .before .before .before .before .before .before .before .before .before .before .before .before .loop) .inv) ((c .before .before .before .before .before .before .before .before .before .before .before .loop-test) .taken) _ (rw ((c .enum-told2) .given .1) at ((c .before .before .step) .ensures))
 
 -- src/lib.rt:88:24
-enum-known-e : tie.Need-enum-known-e Inv-loop μ-loop
-enum-known-e c =
+enum-known-h : tie.Need-enum-known-h Inv-loop μ-loop
+enum-known-h c =
     search needs
 
 -- src/lib.rt:93:32
@@ -161,7 +161,7 @@ add-t40 c =
 -- src/lib.rt:89:17
 returns-4 : tie.Need-returns-4 Inv-loop μ-loop
 returns-4 c =
-    rw ((c .last-step) .ensures .0) (going-stop _ _ _ _ _ _ _ ((c .before .before .before .before .before .before .before .before .before .before .before .before .before .before .loop) .inv) ((c .before .before .before .before .before .before .before .before .before .before .before .before .before .loop-test) .taken) _ _ (rw ((c .before .before .e) .given .1) at ((c .before .before .before .before .step) .ensures)))
+    rw ((c .last-step) .ensures .0) (going-stop _ _ _ _ _ _ _ ((c .before .before .before .before .before .before .before .before .before .before .before .before .before .before .loop) .inv) ((c .before .before .before .before .before .before .before .before .before .before .before .before .before .loop-test) .taken) _ _ (rw ((c .before .before .h) .given .1) at ((c .before .before .before .before .step) .ensures)))
 
 -- src/lib.rt:47:1
 returns-5 : tie.Need-returns-5 Inv-loop μ-loop
@@ -196,7 +196,7 @@ go-spec =
     returns-2
     enum-told-2
     returns-3
-    enum-known-e
+    enum-known-h
     last-step-requires
     add-t40
     returns-4

@@ -1,3 +1,4 @@
+use Rattle.memory.specs.Parts.{endOf}
 use native.Mathlib.Omega.{arith}
 use Rattle.machine.specs.Runs.{lastStep}
 use borrow.Author.Needs.{needs}
@@ -22,49 +23,29 @@ enum-told-3 c = search needs
 enum-told-4 : tie.Need-enum-told-4
 enum-told-4 c = search needs
 
--- src/lib.rt:29:25
-enum-told-5 : tie.Need-enum-told-5
-enum-told-5 c = search needs
-
--- src/lib.rt:30:26
-enum-told-6 : tie.Need-enum-told-6
-enum-told-6 c = search needs
-
 -- src/lib.rt:21:1
 returns : tie.Need-returns
-unfolding lastStep
+unfolding lastStep endOf
 returns c =
     (rw ((c .enum-told) .given .1), omega arith)
 
 -- src/lib.rt:21:1
 returns-2 : tie.Need-returns-2
-unfolding lastStep
+unfolding lastStep endOf
 returns-2 c =
     (rw ((c .enum-told2) .given .1), omega arith)
 
 -- src/lib.rt:21:1
 returns-3 : tie.Need-returns-3
-unfolding lastStep
+unfolding lastStep endOf
 returns-3 c =
     (rw ((c .enum-told3) .given .1), omega arith)
 
 -- src/lib.rt:21:1
 returns-4 : tie.Need-returns-4
-unfolding lastStep
+unfolding lastStep endOf
 returns-4 c =
     (rw ((c .enum-told4) .given .1), omega arith)
-
--- src/lib.rt:21:1
-returns-5 : tie.Need-returns-5
-unfolding lastStep
-returns-5 c =
-    (rw ((c .enum-told5) .given .1), omega arith)
-
--- src/lib.rt:21:1
-returns-6 : tie.Need-returns-6
-unfolding lastStep
-returns-6 c =
-    (rw ((c .enum-told6) .given .1), omega arith)
 
 pub last-step-spec : {M : Type 1} → statement M
 last-step-spec =
@@ -74,11 +55,7 @@ last-step-spec =
     enum-told-2
     enum-told-3
     enum-told-4
-    enum-told-5
-    enum-told-6
     returns
     returns-2
     returns-3
-    returns-4
-    returns-5
-    returns-6)
+    returns-4)

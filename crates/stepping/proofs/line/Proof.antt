@@ -72,8 +72,8 @@ element-write-stack-2 c =
     omega (arith, b .0, b .1)
 
 -- src/lib.rt:80:20
-enum-known-e : tie.Need-enum-known-e
-enum-known-e c = search needs
+enum-known-h : tie.Need-enum-known-h
+enum-known-h c = search needs
 
 -- src/lib.rt:81:13
 element-write-stack-3 : tie.Need-element-write-stack-3
@@ -110,7 +110,7 @@ returns-5 c =
 -- src/lib.rt:64:1
 returns-6 : tie.Need-returns-6
 returns-6 c =
-    line-stop _ _ _ _ _ _ _ _ _ _ ((c .before .before .before .before .before .before .before .before .before .before .before .before .before .before .before) .pre .1) ((c .before .before .before .before .before .before .before .before .before .before .before .before .before .before .before) .pre .2) ((c .before .before .before .before .before .before .before .before .before .before .before .before .before .before .before) .pre .3) ((c .before .before .before .before .before .before .before .before .before .before .before .before .before .before .before) .pre .4) _ _ _ _ _ _ _ _ (rw ((c .before .e) .given .1) at ((c .before .before .before .instruct) .ensures))
+    line-stop _ _ _ _ _ _ _ _ _ _ ((c .before .before .before .before .before .before .before .before .before .before .before .before .before .before .before) .pre .1) ((c .before .before .before .before .before .before .before .before .before .before .before .before .before .before .before) .pre .2) ((c .before .before .before .before .before .before .before .before .before .before .before .before .before .before .before) .pre .3) ((c .before .before .before .before .before .before .before .before .before .before .before .before .before .before .before) .pre .4) _ _ _ _ _ _ _ _ (rw ((c .before .h) .given .1) at ((c .before .before .before .instruct) .ensures))
 
 pub line-spec : {M : Type 1} → statement M
 line-spec =
@@ -129,7 +129,7 @@ line-spec =
     enum-known-v
     enum-told-2
     element-write-stack-2
-    enum-known-e
+    enum-known-h
     element-write-stack-3
     returns
     returns-2

@@ -1,0 +1,14 @@
+use mathlib.Core.Path.{refl}
+use Rattle.engine.specs.Parts.{goingWith}
+use Rattle.engine.proofs.going.Statement.{statement}
+use Rattle.engine.proofs.going.Tie as tie
+use Rattle.engine.proofs.going.Reads as reads
+use Rattle.engine.proofs.going.Lts as lts
+
+-- src/lib.rt:77:1
+returns : tie.Need-returns
+unfolding goingWith
+returns c = refl
+
+pub going-spec : {M : Type 1} → statement M
+going-spec = tie.close (tie.spec returns)
