@@ -74,15 +74,15 @@ fn shown(n: u8) -> u8
 }
 
 /// A run with its calls and activations, which goes on or is stuck.
-fn going(calls: u8, depth: u8, result: [i32; 16], answer: Answer) -> Outcome
-    ensures { λ r. ⌜ r ≡ goingWith calls depth result answer ⌝ }
+fn going(calls: u8, depth: u8, result: [i32; 16], said: Answer) -> Outcome
+    ensures { λ r. ⌜ r ≡ goingWith calls depth result said ⌝ }
 {
     Outcome {
         calls: calls,
         depth: depth,
         result: result,
         status: Status::Running,
-        answer: answer,
+        answer: said,
     }
 }
 
