@@ -108,7 +108,7 @@ fn finished(state: machine::State, result: [i32; 16], end: End, steps: u32) -> R
 }
 
 /// How many items a vector of that length shows.
-fn shown(n: u8) -> u8
+pub fn shown(n: u8) -> u8
     ensures { λ r. ⌜ r ≡ cond (ltb n 16) n 16 ⌝ }
 {
     if n < 16 { n } else { 16 }

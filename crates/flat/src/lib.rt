@@ -196,7 +196,7 @@ fn items_of(items: &[i32; 1024], v: usize) -> [i32; 16]
 }
 
 /// The vector `v`.
-fn vector(lengths: &[u8; 64], items: &[i32; 1024], v: usize) -> Vector
+pub fn vector(lengths: &[u8; 64], items: &[i32; 1024], v: usize) -> Vector
     requires { ⌜ v < 64 ⌝ }
     ensures { λ r. ⌜ r ≡ vectorIn (now (lengths .entry)) (now (items .entry)) v ⌝ }
 {
@@ -278,7 +278,7 @@ fn value(c: u16, z: i32) -> Value
 }
 
 /// The value of the cell `i`.
-fn cell(codes: &[u16; 768], numbers: &[i32; 768], i: usize) -> Value
+pub fn cell(codes: &[u16; 768], numbers: &[i32; 768], i: usize) -> Value
     requires { ⌜ i < 768 ⌝ }
     ensures { λ r. ⌜ r ≡ cellIn (now (codes .entry)) (now (numbers .entry)) i ⌝ }
 {

@@ -1,0 +1,3 @@
+pub mod Coming
+pub mod Fields
+pub mod Lent
