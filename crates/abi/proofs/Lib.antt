@@ -1,3 +1,5 @@
 pub mod Coming
 pub mod Fields
 pub mod Lent
+pub mod Looking
+pub mod Seen

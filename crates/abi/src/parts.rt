@@ -11,11 +11,12 @@ ghost use Rattle.machine.specs.declared.Status.{Status};
 ghost use Rattle.memory.specs.Memory.{memoryOf};
 ghost use Rattle.snapshots.specs.Held.{held, snapshotOf, statusOf};
 ghost use Rattle.stepping.specs.Going.{Placed, Sized, ranOf};
-ghost use Rattle.abi.specs.Answers.{saidNumbers};
+ghost use Rattle.abi.specs.Answers.{entryNumbers, saidNumbers};
 ghost use Rattle.abi.specs.Exits.{Answers, Began, Comes};
 ghost use Rattle.abi.specs.Looks.{lookIn};
 use crate::answers;
 use crate::answers::FirAnswer;
+use crate::answers::FirEntry;
 use crate::answers::FirSaid;
 use crate::answers::FirValue;
 use instructions::Turn;
@@ -347,7 +348,7 @@ pub fn budget<'s>(
 }
 
 /// Begins a run: its first state is stored. A refusal writes nothing.
-pub fn begin<'s>(
+fn enter<'s>(
     image: &[u8],
     function: usize,
     version: usize,
@@ -398,6 +399,54 @@ pub fn begin<'s>(
     }
 }
 
+/// Begins a run.
+pub fn begin<'s>(
+    image: &[u8],
+    function: usize,
+    version: usize,
+    words: &[i32],
+    buffer: &[i32],
+    numbers: &'s mut [i32; 768],
+    items: &'s mut [i32; 1024],
+    caches: &'s mut [i32; 64],
+    result: &'s mut [i32; 16],
+    codes: &'s mut [u16; 768],
+    owners: &'s mut [u8; 64],
+    stack: &'s mut [u8; 192],
+    lengths: &'s mut [u8; 64],
+    promises: &'s mut [u8; 192],
+    calls: &'s mut u8,
+    depth: &'s mut u8,
+    status: &'s mut u8,
+    length: &'s mut u8,
+    value: &'s mut i32,
+) -> FirEntry
+    ensures { λ r. ⌜ (r ≡ entryNumbers (beginOf (now (image .entry)) function version (now (words .entry)) (now (buffer .entry)) .entry)) × Began (beginOf (now (image .entry)) function version (now (words .entry)) (now (buffer .entry)) .entry) (beginOf (now (image .entry)) function version (now (words .entry)) (now (buffer .entry)) .state) (snapshotOf (now (numbers .entry)) (now (items .entry)) (now (caches .entry)) (now (result .entry)) (now (codes .entry)) (now (owners .entry)) (now (stack .entry)) (now (lengths .entry)) (now (promises .entry)) (now (calls .entry)) (now (depth .entry)) (now (status .entry)) (now (length .entry)) (now (value .entry))) (snapshotOf (now (numbers .exit)) (now (items .exit)) (now (caches .exit)) (now (result .exit)) (now (codes .exit)) (now (owners .exit)) (now (stack .exit)) (now (lengths .exit)) (now (promises .exit)) (now (calls .exit)) (now (depth .exit)) (now (status .exit)) (now (length .exit)) (now (value .exit))) ⌝ }
+{
+    let entry = enter(
+        image,
+        function,
+        version,
+        words,
+        buffer,
+        numbers,
+        items,
+        caches,
+        result,
+        codes,
+        owners,
+        stack,
+        lengths,
+        promises,
+        calls,
+        depth,
+        status,
+        length,
+        value,
+    );
+    answers::entry(entry)
+}
+
 /// Begins a run and goes on with it under its first budget.
 pub fn run<'s>(
     image: &[u8],
@@ -423,7 +472,7 @@ pub fn run<'s>(
 ) -> FirAnswer
     ensures { λ r. ⌜ Answers r (runOf (now (image .entry)) function version (now (words .entry)) steps (now (buffer .entry))) (snapshotOf (now (numbers .entry)) (now (items .entry)) (now (caches .entry)) (now (result .entry)) (now (codes .entry)) (now (owners .entry)) (now (stack .entry)) (now (lengths .entry)) (now (promises .entry)) (now (calls .entry)) (now (depth .entry)) (now (status .entry)) (now (length .entry)) (now (value .entry))) (snapshotOf (now (numbers .exit)) (now (items .exit)) (now (caches .exit)) (now (result .exit)) (now (codes .exit)) (now (owners .exit)) (now (stack .exit)) (now (lengths .exit)) (now (promises .exit)) (now (calls .exit)) (now (depth .exit)) (now (status .exit)) (now (length .exit)) (now (value .exit))) (now (buffer .entry)) (now (buffer .exit)) ⌝ }
 {
-    let entry = begin(
+    let entry = enter(
         image,
         function,
         version,
@@ -469,19 +518,20 @@ pub fn run<'s>(
 }
 
 /// What the place `place` of the live call `call` holds.
-pub fn look(
-    codes: &[u16; 768],
-    numbers: &[i32; 768],
-    calls: u8,
+pub fn look<'s>(
+    codes: &'s [u16; 768],
+    numbers: &'s [i32; 768],
+    calls: &'s u8,
     call: usize,
     place: usize,
 ) -> FirValue
-    ensures { λ r. ⌜ r ≡ lookIn (now (codes .entry)) (now (numbers .entry)) calls call place ⌝ }
+    ensures { λ r. ⌜ r ≡ lookIn (now (codes .entry)) (now (numbers .entry)) (now (calls .entry)) call place ⌝ }
 {
     if ACTIVATIONS <= call {
         return answers::outside();
     }
-    if calls as usize <= call {
+    let live = *calls as usize;
+    if live <= call {
         return answers::outside();
     }
     if CELLS <= place {

@@ -1,42 +1,24 @@
-use Rattle.abi.specs.Exits.{Began}
-use Rattle.machine.specs.declared.Begun.{Begun}
-use mathlib.Core.Path.{refl, sym, ap, _∙_}
+use Rattle.abi.proofs.Coming.{begins}
 use borrow.Author.Needs.{needs}
 use Rattle.abi.proofs.parts.begin.Statement.{statement}
 use Rattle.abi.proofs.parts.begin.Tie as tie
 use Rattle.abi.proofs.parts.begin.Reads as reads
 use Rattle.abi.proofs.parts.begin.Lts as lts
-use Rattle.engine.proofs.begin.Reads as begin-reads
-use Rattle.snapshots.proofs.store.Reads as store-reads
+use Rattle.abi.proofs.answers.entry.Reads as entry-reads
+use Rattle.abi.proofs.parts.enter.Reads as enter-reads
 
--- src/parts.rt:319:9
-begin-requires : tie.Need-begin-requires
-begin-requires c κs = search needs
+-- src/parts.rt:426:9
+enter-requires : tie.Need-enter-requires
+enter-requires c κs = search needs
 
--- src/parts.rt:322:24
-enum-known-entry : tie.Need-enum-known-entry
-enum-known-entry c = search needs
+-- src/parts.rt:447:5
+entry-requires : tie.Need-entry-requires
+entry-requires c κs = search needs
 
--- src/parts.rt:324:17
-enum-told : tie.Need-enum-told
-enum-told c = search needs
-
--- src/parts.rt:325:13
-store-requires : tie.Need-store-requires
-store-requires c κs = search needs
-
--- src/parts.rt:296:1
+-- src/parts.rt:403:1
 returns : tie.Need-returns
-unfolding Began
 returns c =
-    (sym ((c .before .entry) .given .1) ∙ ap (λ (b : Begun). b .entry) ((c .before .before .before .begin) .ensures), refl)
-
--- src/parts.rt:296:1
-returns-2 : tie.Need-returns-2
-unfolding Began
-returns-2 c =
-    (sym ((c .before .before .before .before .before .before .before .before .before .before .before .before .before .before .before .before .enum-told) .given .1) ∙ ap (λ (b : Begun). b .entry) ((c .before .before .before .before .before .before .before .before .before .before .before .before .before .before .before .before .before .before .begin) .ensures), (c .store) .ensures ∙ ap (λ (b : Begun). b .state) ((c .before .before .before .before .before .before .before .before .before .before .before .before .before .before .before .before .before .before .begin) .ensures))
+    begins _ _ _ _ ((c .before .enter) .ensures) ((c .entry) .ensures)
 
 pub begin-spec : {M : Type 1} → statement M
-begin-spec =
-    tie.close (tie.spec begin-requires enum-known-entry enum-told store-requires returns returns-2)
+begin-spec = tie.close (tie.spec enter-requires entry-requires returns)
