@@ -67,7 +67,7 @@ fn standing(
 }
 
 /// How many items a vector of that length shows.
-fn shown(n: u8) -> u8
+pub fn shown(n: u8) -> u8
     ensures { λ r. ⌜ r ≡ cond (ltb n 16) n 16 ⌝ }
 {
     if n < 16 { n } else { 16 }

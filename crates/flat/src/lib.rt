@@ -278,7 +278,7 @@ fn value(c: u16, z: i32) -> Value
 }
 
 /// The value of the cell `i`.
-fn cell(codes: &[u16; 768], numbers: &[i32; 768], i: usize) -> Value
+pub fn cell(codes: &[u16; 768], numbers: &[i32; 768], i: usize) -> Value
     requires { ⌜ i < 768 ⌝ }
     ensures { λ r. ⌜ r ≡ cellIn (now (codes .entry)) (now (numbers .entry)) i ⌝ }
 {

@@ -1,6 +1,6 @@
 -- A state is held by a snapshot where its parts are.
 use mathlib.Core.List.{List}
-use mathlib.Core.Path.{_≡_, refl}
+use mathlib.Core.Path.{_≡_, sym, _∙_}
 use Prim.Native.Nat.{ℕ}
 use lib.IntN.{ℤ}
 use mir.Facts.{toZ-ofZ}
@@ -15,15 +15,26 @@ use Rattle.machine.specs.declared.Status.{Status}
 use Rattle.machine.specs.declared.Vector.{Vector}
 use Rattle.memory.specs.Lists.{upTo}
 use Rattle.memory.specs.Memory.{activationIn, frameIn, promiseIn, vectorIn}
-use Rattle.snapshots.specs.Held.{held, statusOf}
+use Rattle.snapshots.specs.Held.{endingOf, held, statusOf}
+use Rattle.snapshots.specs.declared.Ending.{Ending}
 use Rattle.snapshots.specs.declared.Snapshot.{Snapshot}
 
-pub integer-mark : (z : ℤ) → SFits w32 z → statusOf 1 (toZ w32 (ofZ w32 z)) 0 ≡ Status.Ended (End.Integer z)
-unfolding statusOf
-integer-mark z f = rw (toZ-ofZ f) refl
+-- an end is its numbers
+pub ends-again : (e : End) {r : Ending} → r ≡ endingOf e → statusOf (r .status) (r .value) (r .length) ≡ Status.Ended e
+unfolding statusOf endingOf
+ends-again (End.Integer z) h = rw h
+ends-again (End.Vector n) h = rw h
+ends-again End.Undef h = rw h
+ends-again End.Deep h = rw h
+ends-again End.Vectors h = rw h
+ends-again End.Promises h = rw h
 
 pub status-is : (s : ℕ) (z : ℤ) (n : ℕ) (u : Status) → SFits w32 z → u ≡ statusOf s (toZ w32 (ofZ w32 z)) n → u ≡ statusOf s z n
 status-is s z n u f e = rw (← toZ-ofZ f) e
+
+-- a status that was read is the one that stands there
+pub status-at : (s : ℕ) (z : ℤ) (n : ℕ) {u v : Status} → SFits w32 z → u ≡ statusOf s (toZ w32 (ofZ w32 z)) n → u ≡ v → statusOf s z n ≡ v
+status-at s z n f e h = sym (status-is s z n _ f e) ∙ h
 
 pub status-same : (s : ℕ) (z : ℤ) (n : ℕ) (u : Status) → SFits w32 z → statusOf s z n ≡ u → statusOf s (toZ w32 (ofZ w32 z)) n ≡ u
 status-same s z n u f e = rw (toZ-ofZ f) e

@@ -1,10 +1,12 @@
 -- `snapshots::end_mark`: each end by its own branch.
-use Rattle.snapshots.proofs.Whole.{integer-mark}
 use Rattle.snapshots.proofs.end_mark.Statement.{statement}
 use Rattle.snapshots.proofs.end_mark.Tie as tie
-use Rattle.snapshots.specs.Held.{statusOf}
+use Rattle.snapshots.specs.Held.{endingOf}
 use borrow.Author.Needs.{needs}
 use mathlib.Core.Path.{refl}
+use mir.Facts.{toZ-ofZ}
+use mir.Syntax.{w32}
+use mir.Val.{SFits}
 
 enum-known-end : tie.Need-enum-known-end
 enum-known-end c = search needs
@@ -25,26 +27,29 @@ enum-told-4 : tie.Need-enum-told-4
 enum-told-4 c = search needs
 
 returns : tie.Need-returns
-returns c = rw (c .before .end .given .1) (integer-mark _ (search needs))
+unfolding endingOf
+returns c =
+    let s : SFits w32 (c .before .end .given .0 .0) = search needs in
+    rw (c .before .end .given .1, toZ-ofZ s) refl
 
 returns-2 : tie.Need-returns-2
-unfolding statusOf
+unfolding endingOf
 returns-2 c = rw (c .before .end2 .given .1) refl
 
 returns-3 : tie.Need-returns-3
-unfolding statusOf
+unfolding endingOf
 returns-3 c = rw (c .enum-told .given .1) refl
 
 returns-4 : tie.Need-returns-4
-unfolding statusOf
+unfolding endingOf
 returns-4 c = rw (c .enum-told2 .given .1) refl
 
 returns-5 : tie.Need-returns-5
-unfolding statusOf
+unfolding endingOf
 returns-5 c = rw (c .enum-told3 .given .1) refl
 
 returns-6 : tie.Need-returns-6
-unfolding statusOf
+unfolding endingOf
 returns-6 c = rw (c .enum-told4 .given .1) refl
 
 pub end-mark-spec : {M : Type 1} → statement M

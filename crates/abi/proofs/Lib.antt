@@ -1,0 +1,5 @@
+pub mod Coming
+pub mod Fields
+pub mod Lent
+pub mod Looking
+pub mod Seen

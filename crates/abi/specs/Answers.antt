@@ -1,0 +1,50 @@
+-- Answers as numbers, field by field as include/fir.h has them.
+use mathlib.Core.List.{List}
+use Prim.Native.Nat.{ℕ}
+use lib.IntN.{pos}
+use Rattle.checker.specs.Reports.{reportedOf}
+use Rattle.checker.specs.declared.Reported.{Reported}
+use Rattle.checker.specs.declared.Verdict.{Verdict}
+use Rattle.machine.specs.declared.Answer.{Answer}
+use Rattle.machine.specs.declared.Entry.{Entry}
+use Rattle.machine.specs.declared.Said.{Said}
+use Rattle.snapshots.specs.Held.{endingOf}
+use Rattle.abi.specs.declared.answers.FirAnswer.{FirAnswer}
+use Rattle.abi.specs.declared.answers.FirEntry.{FirEntry}
+use Rattle.abi.specs.declared.answers.FirSaid.{FirSaid}
+use Rattle.abi.specs.declared.answers.FirVerdict.{FirVerdict}
+
+-- the number of versions, or the offset and the number of a refusal
+unfoldable pub verdictNumbers : Verdict → FirVerdict
+verdictNumbers (Verdict.Accepted n) = record { detail = n; question = 0 }
+verdictNumbers (Verdict.Refused q p) = record { detail = p; question = q }
+
+-- the length of a text that was written; 0 where the buffer was too short
+unfoldable pub lengthIn : Reported → ℕ
+lengthIn (Reported.Written n) = n
+lengthIn Reported.Short = 0
+
+abbrev pub writtenOf : List ℕ → ℕ → ℕ
+writtenOf t places = lengthIn (reportedOf t places)
+
+-- a refusal's offset and number
+unfoldable pub entryNumbers : Entry → FirEntry
+entryNumbers Entry.Begun = record { offset = 0; question = 0 }
+entryNumbers (Entry.Refused q p) = record { offset = p; question = q }
+
+-- a single step: 0 goes on, 1 to 6 an end, 7 stuck
+unfoldable pub saidNumbers : Said → FirSaid
+saidNumbers Said.GoesOn = record { value = pos 0; code = 0; length = 0 }
+saidNumbers (Said.Ended e) = record { value = endingOf e .value; code = endingOf e .status; length = endingOf e .length }
+saidNumbers Said.Stuck = record { value = pos 0; code = 7; length = 0 }
+
+-- the answer of a run that has not ended
+unfoldable pub plainNumbers : ℕ → ℕ → FirAnswer
+plainNumbers code n = record { steps = n; value = pos 0; offset = 0; code = code; length = 0; question = 0 }
+
+-- a budget with the steps taken under it: 0 STEPS, 1 to 6 an end, 7 stuck, 8 refused
+unfoldable pub answerNumbers : Answer → ℕ → FirAnswer
+answerNumbers (Answer.Refused q p) n = record { steps = n; value = pos 0; offset = p; code = 8; length = 0; question = q }
+answerNumbers Answer.Steps n = plainNumbers 0 n
+answerNumbers (Answer.Ended e) n = record { steps = n; value = endingOf e .value; offset = 0; code = endingOf e .status; length = endingOf e .length; question = 0 }
+answerNumbers Answer.Stuck n = plainNumbers 7 n

@@ -1,0 +1,195 @@
+//! Answers as numbers, in the layout of C.
+ghost use mathlib.Core.Path.{_≡_};
+ghost use Rattle.abi.specs.Answers.{answerNumbers, entryNumbers, plainNumbers, saidNumbers, verdictNumbers};
+ghost use Rattle.abi.specs.Looks.{noPlace, valueNumbers};
+ghost use Rattle.engine.specs.Parts.{saidOf};
+use checker::Verdict;
+use machine::Answer;
+use machine::Entry;
+use machine::Value;
+
+/// A verdict: 0 and the number of versions, or the question that refuses and the offset.
+#[repr(C)]
+pub struct FirVerdict {
+    pub detail: usize,
+    pub question: u8,
+}
+
+/// Whether a run has begun: 0, or the question that refuses it and the offset.
+#[repr(C)]
+pub struct FirEntry {
+    pub offset: u16,
+    pub question: u8,
+}
+
+/// What a single step says.
+#[repr(C)]
+pub struct FirSaid {
+    pub value: i32,
+    pub code: u8,
+    pub length: u8,
+}
+
+/// The answer to a budget, and the steps taken under it.
+#[repr(C)]
+pub struct FirAnswer {
+    pub steps: u32,
+    pub value: i32,
+    pub offset: u16,
+    pub code: u8,
+    pub length: u8,
+    pub question: u8,
+}
+
+/// What a register or a name holds.
+#[repr(C)]
+pub struct FirValue {
+    pub number: i32,
+    pub kind: u8,
+    pub place: u8,
+}
+
+/// The numbers of a verdict.
+pub fn verdict(verdict: Verdict) -> FirVerdict
+    ensures { λ r. ⌜ r ≡ verdictNumbers verdict ⌝ }
+{
+    match verdict {
+        Verdict::Accepted(n) => FirVerdict {
+            detail: n,
+            question: 0,
+        },
+        Verdict::Refused(q, p) => FirVerdict {
+            detail: p,
+            question: q,
+        },
+    }
+}
+
+/// The numbers of an entry.
+pub fn entry(entry: Entry) -> FirEntry
+    ensures { λ r. ⌜ r ≡ entryNumbers entry ⌝ }
+{
+    match entry {
+        Entry::Begun => FirEntry {
+            offset: 0,
+            question: 0,
+        },
+        Entry::Refused(q, p) => FirEntry {
+            offset: p,
+            question: q,
+        },
+    }
+}
+
+/// The numbers of what a single step says, by the answer of a budget of one.
+pub fn said(answer: Answer) -> FirSaid
+    ensures { λ r. ⌜ r ≡ saidNumbers (saidOf answer) ⌝ }
+{
+    match answer {
+        Answer::Refused(_, _) => FirSaid {
+            value: 0,
+            code: 7,
+            length: 0,
+        },
+        Answer::Steps => FirSaid {
+            value: 0,
+            code: 0,
+            length: 0,
+        },
+        Answer::Ended(e) => {
+            let mark = snapshots::end_mark(e);
+            FirSaid {
+                value: mark.value,
+                code: mark.status,
+                length: mark.length,
+            }
+        }
+        Answer::Stuck => FirSaid {
+            value: 0,
+            code: 7,
+            length: 0,
+        },
+    }
+}
+
+/// The answer of a run that has not ended, by its code.
+fn plain(code: u8, steps: u32) -> FirAnswer
+    ensures { λ r. ⌜ r ≡ plainNumbers code steps ⌝ }
+{
+    FirAnswer {
+        steps: steps,
+        value: 0,
+        offset: 0,
+        code: code,
+        length: 0,
+        question: 0,
+    }
+}
+
+/// The numbers of an answer.
+pub fn answer(answer: Answer, steps: u32) -> FirAnswer
+    ensures { λ r. ⌜ r ≡ answerNumbers answer steps ⌝ }
+{
+    match answer {
+        Answer::Refused(q, p) => FirAnswer {
+            steps: steps,
+            value: 0,
+            offset: p,
+            code: 8,
+            length: 0,
+            question: q,
+        },
+        Answer::Steps => plain(0, steps),
+        Answer::Ended(e) => {
+            let mark = snapshots::end_mark(e);
+            FirAnswer {
+                steps: steps,
+                value: mark.value,
+                offset: 0,
+                code: mark.status,
+                length: mark.length,
+                question: 0,
+            }
+        }
+        Answer::Stuck => plain(7, steps),
+    }
+}
+
+/// The numbers of a value.
+pub fn value(value: Value) -> FirValue
+    ensures { λ r. ⌜ r ≡ valueNumbers value ⌝ }
+{
+    match value {
+        Value::Empty => FirValue {
+            number: 0,
+            kind: 0,
+            place: 0,
+        },
+        Value::Integer(z) => FirValue {
+            number: z,
+            kind: 1,
+            place: 0,
+        },
+        Value::Vector(v) => FirValue {
+            number: 0,
+            kind: 2,
+            place: v,
+        },
+        Value::Promise(p) => FirValue {
+            number: 0,
+            kind: 3,
+            place: p,
+        },
+    }
+}
+
+/// No such place.
+pub fn outside() -> FirValue
+    ensures { λ r. ⌜ r ≡ noPlace ⌝ }
+{
+    FirValue {
+        number: 0,
+        kind: 4,
+        place: 0,
+    }
+}

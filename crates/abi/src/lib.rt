@@ -1,0 +1,197 @@
+//! The interface in C, as include/fir.h declares it: the caller owns the state of a run and lends it to each call.
+ghost use mathlib.Core.Path.{_≡_};
+ghost use lib.ListN.{length};
+ghost use Rattle.checker.specs.Verdicts.{verdictOf};
+ghost use Rattle.checker.specs.Reports.{reportText};
+ghost use Rattle.writer.specs.Text.{placed};
+ghost use Rattle.machine.specs.Begin.{beginOf, programOf, runOf};
+ghost use Rattle.machine.specs.Runs.{budgetOf, stepOf};
+ghost use Rattle.snapshots.specs.Held.{held};
+ghost use Rattle.abi.specs.Answers.{entryNumbers, saidNumbers, verdictNumbers, writtenOf};
+ghost use Rattle.abi.specs.Exits.{Answers, Began};
+ghost use Rattle.abi.specs.Looks.{lookOf};
+use answers::FirAnswer;
+use answers::FirEntry;
+use answers::FirSaid;
+use answers::FirValue;
+use answers::FirVerdict;
+use checker::Reported;
+use checker::questions;
+use checker::report;
+use snapshots::Snapshot;
+
+pub mod answers;
+pub mod parts;
+
+/// The size of a state in bytes.
+#[no_mangle]
+pub extern "C" fn fir_state_size() -> usize
+    ensures { λ r. ⌜ r ≡ 9544 ⌝ }
+{
+    9544
+}
+
+/// The alignment of a state in bytes.
+#[no_mangle]
+pub extern "C" fn fir_state_alignment() -> usize
+    ensures { λ r. ⌜ r ≡ 4 ⌝ }
+{
+    4
+}
+
+/// Checks an image.
+#[no_mangle]
+pub extern "C" fn fir_check(image: &[u8]) -> FirVerdict
+    ensures { λ r. ⌜ r ≡ verdictNumbers (verdictOf (now (image .entry))) ⌝ }
+{
+    answers::verdict(questions::verdict(image))
+}
+
+/// Writes the text that `check` prints from the place 0 on, and gives its length; a buffer that is too short is left as it
+/// was, and the answer is 0.
+#[no_mangle]
+pub extern "C" fn fir_report(image: &[u8], text: &mut [u8]) -> usize
+    ensures { λ r. ⌜ (r ≡ writtenOf (reportText (now (image .entry))) (length (now (text .entry)))) × (now (text .exit) ≡ placed (now (text .entry)) 0 (reportText (now (image .entry)))) ⌝ }
+{
+    match report::report(image, text) {
+        Reported::Written(n) => n,
+        Reported::Short => 0,
+    }
+}
+
+/// Begins a run of a version of a function: its first state is written. A refusal writes nothing. The buffer is asked for its
+/// length only.
+#[no_mangle]
+pub extern "C" fn fir_begin(
+    image: &[u8],
+    function: usize,
+    version: usize,
+    words: &[i32],
+    buffer: &[i32],
+    state: &mut Snapshot,
+) -> FirEntry
+    ensures { λ r. ⌜ (r ≡ entryNumbers (beginOf (now (image .entry)) function version (now (words .entry)) (now (buffer .entry)) .entry)) × Began (beginOf (now (image .entry)) function version (now (words .entry)) (now (buffer .entry)) .entry) (beginOf (now (image .entry)) function version (now (words .entry)) (now (buffer .entry)) .state) (now (state .entry)) (now (state .exit)) ⌝ }
+{
+    parts::begin(
+        image,
+        function,
+        version,
+        words,
+        buffer,
+        &mut state.numbers,
+        &mut state.items,
+        &mut state.caches,
+        &mut state.result,
+        &mut state.codes,
+        &mut state.owners,
+        &mut state.stack,
+        &mut state.lengths,
+        &mut state.promises,
+        &mut state.calls,
+        &mut state.depth,
+        &mut state.status,
+        &mut state.length,
+        &mut state.value,
+    )
+}
+
+/// Takes a single step.
+#[no_mangle]
+pub extern "C" fn fir_step(image: &[u8], state: &mut Snapshot) -> FirSaid
+    ensures { λ r. ⌜ (r ≡ saidNumbers (stepOf (programOf (now (image .entry))) (held (now (state .entry))) .said)) × (held (now (state .exit)) ≡ stepOf (programOf (now (image .entry))) (held (now (state .entry))) .state) ⌝ }
+{
+    parts::step(
+        image,
+        &mut state.numbers,
+        &mut state.items,
+        &mut state.caches,
+        &mut state.result,
+        &mut state.codes,
+        &mut state.owners,
+        &mut state.stack,
+        &mut state.lengths,
+        &mut state.promises,
+        &mut state.calls,
+        &mut state.depth,
+        &mut state.status,
+        &mut state.length,
+        &mut state.value,
+    )
+}
+
+/// Takes at most `budget` steps. A vector that the run is done with is written to the buffer from the place 0 on; all else in
+/// the buffer stays. A refusal writes nothing.
+#[no_mangle]
+pub extern "C" fn fir_budget(
+    image: &[u8],
+    state: &mut Snapshot,
+    budget: u32,
+    buffer: &mut [i32],
+) -> FirAnswer
+    ensures { λ r. ⌜ Answers r (budgetOf (programOf (now (image .entry))) (held (now (state .entry))) budget (now (buffer .entry))) (now (state .entry)) (now (state .exit)) (now (buffer .entry)) (now (buffer .exit)) ⌝ }
+{
+    parts::budget(
+        image,
+        budget,
+        buffer,
+        &mut state.numbers,
+        &mut state.items,
+        &mut state.caches,
+        &mut state.result,
+        &mut state.codes,
+        &mut state.owners,
+        &mut state.stack,
+        &mut state.lengths,
+        &mut state.promises,
+        &mut state.calls,
+        &mut state.depth,
+        &mut state.status,
+        &mut state.length,
+        &mut state.value,
+    )
+}
+
+/// Begins a run and takes at most `budget` steps. A refusal writes nothing.
+#[no_mangle]
+pub extern "C" fn fir_run(
+    image: &[u8],
+    function: usize,
+    version: usize,
+    words: &[i32],
+    budget: u32,
+    buffer: &mut [i32],
+    state: &mut Snapshot,
+) -> FirAnswer
+    ensures { λ r. ⌜ Answers r (runOf (now (image .entry)) function version (now (words .entry)) budget (now (buffer .entry))) (now (state .entry)) (now (state .exit)) (now (buffer .entry)) (now (buffer .exit)) ⌝ }
+{
+    parts::run(
+        image,
+        function,
+        version,
+        words,
+        budget,
+        buffer,
+        &mut state.numbers,
+        &mut state.items,
+        &mut state.caches,
+        &mut state.result,
+        &mut state.codes,
+        &mut state.owners,
+        &mut state.stack,
+        &mut state.lengths,
+        &mut state.promises,
+        &mut state.calls,
+        &mut state.depth,
+        &mut state.status,
+        &mut state.length,
+        &mut state.value,
+    )
+}
+
+/// What the place of a live call holds: registers are the places 0 to 15, names the places 16 to 23.
+#[no_mangle]
+pub extern "C" fn fir_look(state: &Snapshot, call: usize, place: usize) -> FirValue
+    ensures { λ r. ⌜ r ≡ lookOf (held (now (state .entry))) call place ⌝ }
+{
+    parts::look(&state.codes, &state.numbers, &state.calls, call, place)
+}

@@ -1,0 +1,175 @@
+/*
+ * fir.h: the interface of the Hegbaluwe engine, for C99 and C++.
+ *
+ * The library checks FIR images and runs them. It keeps nothing between two calls: it has no global state, allocates
+ * nothing and calls nothing back. The caller lends all memory and keeps the state of a run between calls.
+ *
+ * What the caller owes, in every call:
+ *   - A pointer with a length points to that many elements, aligned for their type; where the length is 0 it need not
+ *     point to anything, but it is not NULL.
+ *   - A pointer to a fir_state points to one, aligned as fir_state_alignment says. Its content may be anything.
+ *   - What a call writes (a state, a text, a result buffer) overlaps nothing else that the call is lent.
+ *   - Nobody else reads or writes what is lent until the call returns, and the image of a run stays the same.
+ * Nothing of this can be tested by the library. All else is: every image, entry, argument list, budget, buffer and state
+ * gets an answer that is listed here, and nothing outside the lent memory is read or written.
+ */
+#ifndef FIR_H
+#define FIR_H
+
+#include <stddef.h>
+#include <stdint.h>
+
+#ifdef __cplusplus
+extern "C" {
+#endif
+
+/* ---- Bounds ---- */
+
+#define FIR_IMAGE_BYTES 32768 /* the longest image */
+#define FIR_FUNCTIONS 32      /* functions 0 to 31 */
+#define FIR_VERSIONS 4        /* versions 0 to 3 of each */
+#define FIR_REGISTERS 16      /* registers of a call */
+#define FIR_NAMES 8           /* names of a call */
+#define FIR_ACTIVATIONS 32    /* calls and forces that live at once */
+#define FIR_ITEMS 16          /* items of a vector, and the fewest places of a result buffer */
+
+/* ---- Refusals: the question that says no ---- */
+
+#define FIR_ACCEPTED 0           /* none does */
+#define FIR_REFUSED_SIZE 1       /* the image has 1 to 32,768 bytes */
+#define FIR_REFUSED_RECORDS 2    /* each record has a full head, a length of at least 4, and ends inside the image */
+#define FIR_REFUSED_KINDS 3      /* each kind is known, its length the one its fields make */
+#define FIR_REFUSED_BOUNDS 4     /* numbers, counts, marks, op and n are in bounds, records in order */
+#define FIR_REFUSED_NUMBERING 5  /* the first version is 0.0, each next one follows on it */
+#define FIR_REFUSED_TYPE_BYTES 6 /* each type byte is allowed at its place */
+#define FIR_REFUSED_EXISTENCE 7  /* what is named exists */
+#define FIR_REFUSED_TYPES 8      /* types fit */
+#define FIR_REFUSED_EFFECTS 9    /* each block's mark covers its effect */
+#define FIR_REFUSED_FLOW 10      /* flow holds */
+#define FIR_REFUSED_ENTRY 11     /* the entry exists */
+#define FIR_REFUSED_ARGUMENTS 12 /* the argument words are used up, each argument matching its parameter */
+#define FIR_REFUSED_BUFFER 13    /* the result buffer has at least 16 places */
+
+/* A verdict on an image: FIR_ACCEPTED and its number of versions, or the question that refuses it and the offset of the
+ * first record that fails. */
+typedef struct fir_verdict {
+    size_t detail;
+    uint8_t question;
+} fir_verdict;
+
+/* Whether a run has begun: FIR_ACCEPTED, or the question that refuses it, 1 to 13, and the offset. */
+typedef struct fir_entry {
+    uint16_t offset;
+    uint8_t question;
+} fir_entry;
+
+/* ---- Answers of a step or a budget ---- */
+
+#define FIR_STEPS 0     /* the run goes on: the step was taken, or the budget is used up */
+#define FIR_INTEGER 1   /* DONE with the integer `value` */
+#define FIR_VECTOR 2    /* DONE with a vector of `length` items */
+#define FIR_UNDEF 3     /* UNDEF */
+#define FIR_DEEP 4      /* DEEP: a 33rd activation is needed */
+#define FIR_VECTORS 5   /* VECTORS: a 65th vector is needed */
+#define FIR_PROMISES 6  /* PROMISES: a 65th promise is needed */
+#define FIR_STUCK 7     /* the state is none of a begun run of this image; it is as it was */
+#define FIR_REFUSED 8   /* refused by `question` at `offset`; state and buffer are as they were */
+
+/* What a single step says: FIR_STEPS to FIR_STUCK. */
+typedef struct fir_said {
+    int32_t value;
+    uint8_t code;
+    uint8_t length;
+} fir_said;
+
+/* The answer to a budget, and the steps taken under it. */
+typedef struct fir_answer {
+    uint32_t steps;
+    int32_t value;
+    uint16_t offset;
+    uint8_t code;
+    uint8_t length;
+    uint8_t question;
+} fir_answer;
+
+/* ---- The state of a run ---- */
+
+/* Numbers alone: it may be copied, stored and compared as bytes. Write it by the functions below only; its fields are here
+ * so that it can be declared, and for tests to read. What lies above a count means nothing.
+ *
+ * A cell stands for a register or a name: code 1 is the integer in `numbers`, 256 + v the vector v, 512 + p the promise p;
+ * all else is nothing. The call k has the cells 24 k to 24 k + 23, its registers and then its names. */
+typedef struct fir_state {
+    int32_t numbers[768];  /* the integers of the cells */
+    int32_t items[1024];   /* 16 items of each vector */
+    int32_t caches[64];    /* the integer of each promise that was forced */
+    int32_t result[16];    /* the items of a vector that the run is DONE with */
+    uint16_t codes[768];   /* the codes of the cells */
+    uint8_t owners[64];    /* of each call: its function and its version */
+    uint8_t stack[192];    /* of each activation: 0 call or 1 force, the promise, d, its call, block, next instruction */
+    uint8_t lengths[64];   /* of each vector */
+    uint8_t promises[192]; /* of each promise: its call, its block, 1 where it was forced */
+    uint8_t calls;         /* how many calls are live */
+    uint8_t depth;         /* how many activations are live */
+    uint8_t status;        /* FIR_STEPS while the run goes on, else its end: FIR_INTEGER to FIR_PROMISES */
+    uint8_t length;        /* of the vector that the run is DONE with */
+    int32_t value;         /* the integer that the run is DONE with */
+} fir_state;
+
+/* The size and the alignment of a state in bytes, as the library was built. */
+size_t fir_state_size(void);
+size_t fir_state_alignment(void);
+
+/* ---- Checking ---- */
+
+/* Checks an image. */
+fir_verdict fir_check(const uint8_t *image, size_t image_length);
+
+/* Writes the text that `check` prints, without a 0 behind it, and gives its length. A buffer that is too short is left as
+ * it was, and the answer is 0. */
+size_t fir_report(const uint8_t *image, size_t image_length, uint8_t *text, size_t text_length);
+
+/* ---- Running ---- */
+
+/* Begins a run of a version of a function and writes its state. Argument words are -1 and an integer, or 0 to 16 and that
+ * many integers, for each parameter. The buffer is asked for its length only. Where the run is refused, the state is as it
+ * was. */
+fir_entry fir_begin(const uint8_t *image, size_t image_length, size_t function, size_t version, const int32_t *words,
+                    size_t words_length, const int32_t *buffer, size_t buffer_length, fir_state *state);
+
+/* Takes a single step. */
+fir_said fir_step(const uint8_t *image, size_t image_length, fir_state *state);
+
+/* Takes at most `budget` steps. A vector that the run is DONE with is written to the buffer from place 0 on; all else in
+ * the buffer stays. */
+fir_answer fir_budget(const uint8_t *image, size_t image_length, fir_state *state, uint32_t budget, int32_t *buffer,
+                      size_t buffer_length);
+
+/* Begins a run and takes at most `budget` steps. Where it is refused, the state is as it was. */
+fir_answer fir_run(const uint8_t *image, size_t image_length, size_t function, size_t version, const int32_t *words,
+                   size_t words_length, uint32_t budget, int32_t *buffer, size_t buffer_length, fir_state *state);
+
+/* ---- Looking at a state ---- */
+
+#define FIR_NOTHING 0 /* an empty register or an unset name */
+#define FIR_IS_INTEGER 1
+#define FIR_IS_VECTOR 2
+#define FIR_IS_PROMISE 3
+#define FIR_OUTSIDE 4 /* no such place of a live call */
+
+/* What a register or a name holds: an integer `number`, or the vector or promise at `place`. */
+typedef struct fir_value {
+    int32_t number;
+    uint8_t kind;
+    uint8_t place;
+} fir_value;
+
+/* What the place of a live call holds: registers are the places 0 to 15, names the places 16 to 23; calls are numbered from
+ * the oldest, 0. */
+fir_value fir_look(const fir_state *state, size_t call, size_t place);
+
+#ifdef __cplusplus
+}
+#endif
+
+#endif
