@@ -1,4 +1,4 @@
-//! Finds the proved library and links it, unless the reference stands in for it.
+//! Finds the proved library and links it, unless something stands in for it.
 
 use std::env;
 use std::path::PathBuf;
@@ -9,14 +9,14 @@ fn main() {
     }
     let manifest = env::var_os("CARGO_MANIFEST_DIR").expect("cargo names the manifest's folder");
     let folder = PathBuf::from(manifest).join("../../target/staticlib");
-    let library = folder.join("libexports.a");
+    let library = folder.join("libabi.a");
     println!("cargo:rerun-if-changed={}", library.display());
     if !library.exists() {
         panic!(
-            "the proved library is not there: {} is missing; run `rt staticlib exports`",
+            "the proved library is not there: {} is missing; run `rt staticlib abi`",
             library.display()
         );
     }
     println!("cargo:rustc-link-search=native={}", folder.display());
-    println!("cargo:rustc-link-lib=static=exports");
+    println!("cargo:rustc-link-lib=static=abi");
 }
