@@ -6,8 +6,23 @@ use crate::item::{implied_counts, Item};
 use crate::line::{in_order, Line};
 use reference::{Record, Register, Type};
 
+/// An image, and the line of the text that each of its records came from.
+#[derive(Clone, PartialEq, Eq, Debug)]
+pub struct Lined {
+    /// The image.
+    pub image: Vec<u8>,
+    /// Offsets with their lines, in order; a line of bytes that make several
+    /// records stands once.
+    pub lines: Vec<(usize, usize)>,
+}
+
 /// The image that a text describes, or the first line that is wrong.
 pub fn assemble(text: &str) -> Result<Vec<u8>, Error> {
+    assemble_lined(text).map(|lined| lined.image)
+}
+
+/// The image that a text describes, with its lines, or the first line that is wrong.
+pub fn assemble_lined(text: &str) -> Result<Lined, Error> {
     let mut assembly = Assembly::default();
     for (number, line) in (1..).zip(text.lines()) {
         let at_line = |reason| Error {
@@ -18,7 +33,7 @@ pub fn assemble(text: &str) -> Result<Vec<u8>, Error> {
             assembly.add(number, line).map_err(at_line)?;
         }
     }
-    assembly.bytes()
+    assembly.lined()
 }
 
 /// The items so far, each with the line it came from and its written count.
@@ -68,8 +83,8 @@ impl Assembly {
         Ok(())
     }
 
-    /// The bytes of all items, their counts filled in.
-    fn bytes(mut self) -> Result<Vec<u8>, Error> {
+    /// The bytes of all items, their counts filled in, and their lines.
+    fn lined(mut self) -> Result<Lined, Error> {
         let implied = implied_counts(&self.items);
         for (index, item) in self.items.iter_mut().enumerate() {
             let count = match self.counts[index] {
@@ -85,6 +100,11 @@ impl Assembly {
                 _ => {}
             }
         }
-        Ok(self.items.iter().flat_map(Item::bytes).collect())
+        let (mut image, mut lines) = (Vec::new(), Vec::new());
+        for (item, &line) in self.items.iter().zip(&self.lines) {
+            lines.push((image.len(), line));
+            image.extend(item.bytes());
+        }
+        Ok(Lined { image, lines })
     }
 }

@@ -89,6 +89,8 @@ mod item;
 mod line;
 mod vocabulary;
 
-pub use assemble::assemble;
+pub use assemble::{assemble, assemble_lined, Lined};
 pub use disassemble::{disassemble, listing};
 pub use error::Error;
+pub use instruction::print as instruction_text;
+pub use vocabulary::operation_text;

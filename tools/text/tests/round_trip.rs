@@ -309,3 +309,12 @@ fn wrong_structure_is_named_with_its_reason() {
     let many = "block 0 quiet -> r0\n".to_string() + &"r0 = lit 0\n".repeat(256);
     wrong(&many, "line 1: 256 follow, and a count is at most 255");
 }
+
+#[test]
+fn each_record_has_the_line_it_came_from() {
+    let text = "# first\n\nversion 0.0(r0: int) -> int\n  registers r1: int\n\n  block 0 quiet -> r0\n    r1 = lit 3 # last\nbytes 01 02\n";
+    let lined = text::assemble_lined(text).expect("a text that is well formed");
+    assert_eq!(lined.lines, [(0, 3), (12, 6), (19, 7), (28, 8)]);
+    assert_eq!(lined.image.len(), 30);
+    assert_eq!(text::assemble(text), Ok(lined.image));
+}
