@@ -51,7 +51,7 @@ otherwise; `-` is standard input, an image's bytes.
 exit status:
   0  accepted; DONE; assembled
   1  refused; UNDEF, STEPS, DEEP, VECTORS or PROMISES; a text that does not
-     assemble; a trace whose reader has gone
+     assemble; a trace or a conversion whose reader has gone
   2  bad usage, or a file that cannot be read or written
 ";
 
