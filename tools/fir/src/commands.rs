@@ -114,7 +114,8 @@ fn tell(
         Answer::Ended(End::Vectors) => "VECTORS".to_string(),
         Answer::Ended(End::Promises) => "PROMISES".to_string(),
         Answer::Steps => "STEPS".to_string(),
-        Answer::Stuck | Answer::Refused(_) => "STUCK".to_string(),
+        Answer::Stuck => "STUCK".to_string(),
+        Answer::Refused(no) => format!("refused by {}", no.question),
     };
     streams.line(&format!("{end} after {}", many(ran.steps as usize, "step")))?;
     if status(ran.answer) == Status::Yes {

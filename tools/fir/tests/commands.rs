@@ -71,7 +71,7 @@ fn a_text_that_does_not_assemble_is_a_no_with_its_line() {
 }
 
 #[test]
-fn run_prints_each_end_with_its_steps() {
+fn run_prints_what_it_is_done_with_and_its_steps() {
     let identity = image(IDENTITY);
     did(
         &fir(&["run", "-", "0.0", "7"], &identity),
@@ -98,6 +98,11 @@ fn run_prints_each_end_with_its_steps() {
         "DONE [4, -2] after 4 steps\n",
         "",
     );
+}
+
+#[test]
+fn run_says_where_it_stands_unless_it_is_done() {
+    let (identity, put) = (image(IDENTITY), image(PUT));
     did(
         &fir(&["run", "-", "0.0", "[]", "4"], &put),
         1,

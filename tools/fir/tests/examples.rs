@@ -13,29 +13,23 @@ const EXAMPLES: &str = concat!(env!("CARGO_MANIFEST_DIR"), "/../../examples/");
 /// The scripts.
 const SCRIPTS: [&str; 3] = ["defrost.fir", "riser.fir", "setback.fir"];
 
-/// How far a command and its output stand from the `#` of the comment.
-const INDENT: &str = "#   ";
-
-/// A command of a comment, and what it is to print.
+/// A command of a comment or a document, and what it is to print.
 struct Shown {
     arguments: Vec<String>,
     output: String,
 }
 
-/// The commands of a script's comments.
-fn shown(text: &str) -> Vec<Shown> {
+/// The commands of a text, which stand behind an indent, with the lines below them.
+fn shown(text: &str, indent: &str) -> Vec<Shown> {
     let mut all: Vec<Shown> = Vec::new();
     let mut inside = false;
     for line in text.lines() {
-        let indented = line.strip_prefix(INDENT);
+        let indented = line.strip_prefix(indent);
         let command = indented.and_then(|line| line.strip_prefix("$ fir "));
         if let Some(command) = command {
-            let arguments = command.split(' ').map(|word| {
-                let path = word.strip_prefix("examples/");
-                path.map_or(word.to_string(), |name| format!("{EXAMPLES}{name}"))
-            });
+            let command = command.replace("examples/", EXAMPLES);
             all.push(Shown {
-                arguments: arguments.collect(),
+                arguments: command.split(' ').map(String::from).collect(),
                 output: String::new(),
             });
             inside = true;
@@ -48,6 +42,15 @@ fn shown(text: &str) -> Vec<Shown> {
     all
 }
 
+/// Asserts that a command prints what is shown.
+#[track_caller]
+fn assert_printed(shown: &Shown, origin: &str) {
+    let words: Vec<&str> = shown.arguments.iter().map(String::as_str).collect();
+    let done = fir(&words, b"");
+    assert_eq!(done.text(), shown.output, "{origin}: {words:?}");
+    assert_eq!(done.errors, "", "{origin}: {words:?}");
+}
+
 #[test]
 fn each_script_is_accepted_and_does_what_its_comments_show() {
     for script in SCRIPTS {
@@ -55,18 +58,11 @@ fn each_script_is_accepted_and_does_what_its_comments_show() {
         let check = fir(&["check", &path], b"");
         assert_eq!((check.status, check.errors.as_str()), (0, ""), "{script}");
         let text = fs::read_to_string(&path).expect("the script is there");
-        let commands = shown(&text);
-        assert!(
-            commands.len() >= 3,
-            "{script} shows {} commands",
-            commands.len()
-        );
-        for Shown { arguments, output } in commands {
-            let words: Vec<&str> = arguments.iter().map(String::as_str).collect();
-            assert!(!output.is_empty(), "{script}: nothing below {words:?}");
-            let done = fir(&words, b"");
-            assert_eq!(done.text(), output, "{script}: {words:?}");
-            assert_eq!(done.errors, "", "{script}: {words:?}");
+        let commands = shown(&text, "#   ");
+        assert!(commands.len() >= 3, "{script} shows too few commands");
+        for command in &commands {
+            assert!(!command.output.is_empty(), "{script}: an output is missing");
+            assert_printed(command, script);
         }
     }
 }
@@ -132,4 +128,15 @@ fn setback_follows_the_hour_and_the_frost() {
         );
     }
     gives("setback.fir", &["-50", "3"], 80);
+}
+
+#[test]
+fn the_commands_of_the_readme_print_what_it_shows() {
+    let commands = shown(include_str!("../../README.md"), "    ");
+    let (with_output, without): (Vec<_>, Vec<_>) =
+        commands.iter().partition(|shown| !shown.output.is_empty());
+    assert_eq!((with_output.len(), without.len()), (2, 3));
+    for command in with_output {
+        assert_printed(command, "README");
+    }
 }

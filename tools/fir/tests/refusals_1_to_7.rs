@@ -83,6 +83,10 @@ fn question_3_names_the_kind_or_the_length() {
         &identity_with(13, &[34]),
         "refused by 3 at 11: DISPATCH has 9 bytes at least, this one 7",
     );
+}
+
+#[test]
+fn question_3_counts_registers() {
     refused(
         &identity_with(7, &[2]),
         "refused by 3 at 0: VERSION of 2 registers has 12 bytes, this one 11",
@@ -121,6 +125,10 @@ fn question_4_names_what_is_out_of_bounds_in_a_version() {
         "version 0.0(r0: int) -> int parameters=2\nblock 0 quiet -> r0",
         "refused by 4 at 0: VERSION 0.0 has 2 parameters, but 1 register",
     );
+}
+
+#[test]
+fn question_4_names_a_count_that_is_too_great() {
     let nine: Vec<String> = (0..9).map(|r| format!("r{r}: int")).collect();
     says(
         &format!(
@@ -292,6 +300,10 @@ fn question_7_names_what_does_not_exist() {
             &format!("refused by 7 at 18: {words}"),
         );
     }
+}
+
+#[test]
+fn question_7_names_what_is_wrong_with_a_block() {
     says(
         "version 0.0(r0: int) -> int\nregisters r1: int, r2: int\nblock 0 quiet -> r3",
         "refused by 7 at 13: BLOCK 0 gives r3, and 0.0 declares r0 to r2",

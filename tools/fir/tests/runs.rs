@@ -5,7 +5,7 @@ mod support;
 use generator::{accepted, accepted_of, entry, words, Random, Special, Theme, Trap};
 use reference::{Answer, End, Integer, Program, State};
 use std::collections::BTreeMap;
-use support::fir;
+use support::{fir, Done};
 
 /// How many programs are generated.
 const PROGRAMS: u64 = 1_500;
@@ -86,26 +86,30 @@ fn compared(seed: u64) -> Option<&'static str> {
     };
     let (_, answer, steps) = state.budget(&program, budget, &mut buffer);
     let (name, begin) = expected(answer, &buffer);
+    assert_ended(
+        &run,
+        &trace,
+        &begin,
+        steps as usize,
+        &format!("seed {seed}"),
+    );
+    Some(name)
+}
+
+/// Asserts that a run and its trace ended so, after so many steps.
+#[track_caller]
+fn assert_ended(run: &Done, trace: &Done, begin: &str, steps: usize, origin: &str) {
     let unit = if steps == 1 { "step" } else { "steps" };
     let first = format!("{begin} after {steps} {unit}");
-    assert_eq!(
-        run.text().lines().next(),
-        Some(first.as_str()),
-        "seed {seed}"
-    );
-    assert_eq!(
-        run.status,
-        u8::from(!name.starts_with("DONE")),
-        "seed {seed}"
-    );
-    assert_eq!(trace.status, run.status, "seed {seed}");
-    let causeless = run.text().contains("the instruction has no result");
-    assert!(!causeless, "seed {seed}: UNDEF without a cause");
-    let text = trace.text();
-    assert!(text.ends_with(&run.text()), "seed {seed}\n{text}");
-    let lines = text.lines().count() - run.text().lines().count();
-    assert_eq!(lines, steps as usize, "seed {seed}: a line for each step");
-    Some(name)
+    let (run_text, trace_text) = (run.text(), trace.text());
+    assert_eq!(run_text.lines().next(), Some(first.as_str()), "{origin}");
+    assert_eq!(run.status, u8::from(!begin.starts_with("DONE")), "{origin}");
+    assert_eq!(trace.status, run.status, "{origin}");
+    let causeless = run_text.contains("the instruction has no result");
+    assert!(!causeless, "{origin}: UNDEF without a cause");
+    assert!(trace_text.ends_with(&run_text), "{origin}\n{trace_text}");
+    let lines = trace_text.lines().count() - run_text.lines().count();
+    assert_eq!(lines, steps, "{origin}: a line for each step");
 }
 
 #[test]

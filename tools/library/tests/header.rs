@@ -25,8 +25,8 @@ macro_rules! named {
     };
 }
 
-/// The constants of this crate.
-fn constants() -> Vec<(&'static str, usize)> {
+/// The bounds and the questions of this crate.
+fn bounds_and_questions() -> Vec<(&'static str, usize)> {
     let bounds = named![
         FIR_IMAGE_BYTES,
         FIR_FUNCTIONS,
@@ -52,6 +52,11 @@ fn constants() -> Vec<(&'static str, usize)> {
         FIR_REFUSED_ARGUMENTS,
         FIR_REFUSED_BUFFER,
     ];
+    [&bounds[..], &questions].concat()
+}
+
+/// All constants of this crate.
+fn constants() -> Vec<(&'static str, usize)> {
     let answers = named![
         FIR_STEPS,
         FIR_INTEGER,
@@ -68,7 +73,7 @@ fn constants() -> Vec<(&'static str, usize)> {
         FIR_IS_PROMISE,
         FIR_OUTSIDE,
     ];
-    [&bounds[..], &questions, &answers].concat()
+    [&bounds_and_questions()[..], &answers].concat()
 }
 
 /// A folder of this test's own.
