@@ -39,7 +39,7 @@ pub fn assert_written(image: &[u8], expected: &str, places: usize, origin: &str)
     let mut after = untouched(places);
     after[MARGIN..MARGIN + written.len()].copy_from_slice(written.as_bytes());
     let mut found = untouched(places);
-    let length = crate::report(image, &mut found[MARGIN..MARGIN + places]);
+    let length = library::report(image, &mut found[MARGIN..MARGIN + places]).unwrap_or(0);
     assert!(
         length == written.len() && found == after,
         "{origin}: with a buffer of {places} places\n\

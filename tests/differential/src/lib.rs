@@ -1,12 +1,11 @@
-//! The proved library beside the reference: safe calls of it, the images at
-//! the edges, a second interpreter to time it against, and what compares its
-//! answers.
+//! The proved library beside the reference: its answers in the words of the
+//! reference, the images at the edges, a second interpreter to time it against,
+//! and what compares answers.
 
 pub mod comparison;
 pub mod difference;
 pub mod edges;
 pub mod engine;
-mod proved;
 pub mod snapshot;
 #[cfg(feature = "stand_in")]
 mod stand_in;
@@ -15,4 +14,4 @@ pub mod tuned;
 pub mod watched;
 pub mod workloads;
 
-pub use proved::{report, verdict, verdict_number};
+pub use engine::verdict;

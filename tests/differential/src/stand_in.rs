@@ -5,21 +5,25 @@
 
 #![allow(unsafe_code)] // The library's functions are named and called as in C.
 
-use crate::engine::{BegunSnapshot, RanSnapshot, SteppedSnapshot};
-use crate::snapshot::{Snapshot, ACTIVATION, CELLS, INTEGER, OWNER, PROMISE, PROMISED, VECTOR};
-use reference::bounds::{ACTIVATIONS, ITEMS, PROMISES, VECTORS};
+use crate::snapshot::{
+    state_of, untouched, ACTIVATION, CELLS, FILLING, INTEGER, OWNER, PROMISE, PROMISED, VECTOR,
+};
+use library::State as Snapshot;
+use library::{
+    FIR_IS_INTEGER, FIR_IS_PROMISE, FIR_IS_VECTOR, FIR_NOTHING, FIR_OUTSIDE, FIR_REFUSED,
+    FIR_STEPS, FIR_STUCK,
+};
+use reference::bounds::{ITEMS, REGISTERS};
 use reference::state::Opener;
 use reference::{verdict, Answer, End, Program, Refusal, Said, State, Status, Value, Verdict};
 use std::cell::RefCell;
 use std::rc::Rc;
 use std::slice;
 
-/// What fills the places that mean nothing.
-const NOTHING: u8 = 0xA5;
-
 /// A snapshot that stands for a state.
 fn snapshot(state: &State) -> Snapshot {
-    let mut snapshot = blank();
+    let mut snapshot = untouched();
+    snapshot.status = FIR_STEPS;
     snapshot.calls = state.frames.len() as u8;
     snapshot.depth = state.activations.len() as u8;
     for index in 0..state.frames.len() {
@@ -33,27 +37,6 @@ fn snapshot(state: &State) -> Snapshot {
     }
     snapshot.result[..state.result.len()].copy_from_slice(&state.result);
     snapshot
-}
-
-/// A snapshot of nothing.
-fn blank() -> Snapshot {
-    let number = i32::from_le_bytes([NOTHING; 4]);
-    Snapshot {
-        numbers: [number; ACTIVATIONS * CELLS],
-        items: [number; VECTORS * ITEMS],
-        caches: [number; PROMISES],
-        result: [number; ITEMS],
-        codes: [u16::from(NOTHING); ACTIVATIONS * CELLS],
-        owners: [NOTHING; ACTIVATIONS * OWNER],
-        stack: [NOTHING; ACTIVATIONS * ACTIVATION],
-        lengths: [NOTHING; VECTORS],
-        promises: [NOTHING; PROMISES * PROMISE],
-        calls: 0,
-        depth: 0,
-        status: 0,
-        length: NOTHING,
-        value: number,
-    }
 }
 
 /// Puts down the frame of a live call.
@@ -80,7 +63,7 @@ fn put_activations(snapshot: &mut Snapshot, state: &State) {
     let places = snapshot.stack.chunks_mut(ACTIVATION);
     for (place, activation) in places.zip(&state.activations) {
         let (opener, promise) = match activation.opener {
-            Opener::Call => (0, NOTHING),
+            Opener::Call => (0, FILLING),
             Opener::Force(promise) => (1, promise as u8),
         };
         let (frame, next) = (activation.frame as u8, activation.next as u8);
@@ -113,20 +96,15 @@ fn put_promises(snapshot: &mut Snapshot, state: &State) {
 
 /// An end's number, length and value.
 fn numbers(end: End) -> (u8, u8, i32) {
-    let nothing = i32::from_le_bytes([NOTHING; 4]);
+    let nothing = i32::from_le_bytes([FILLING; 4]);
     match end {
-        End::Integer(value) => (1, NOTHING, value),
+        End::Integer(value) => (1, FILLING, value),
         End::Vector(length) => (2, length as u8, nothing),
-        End::Undef => (3, NOTHING, nothing),
-        End::Deep => (4, NOTHING, nothing),
-        End::Vectors => (5, NOTHING, nothing),
-        End::Promises => (6, NOTHING, nothing),
+        End::Undef => (3, FILLING, nothing),
+        End::Deep => (4, FILLING, nothing),
+        End::Vectors => (5, FILLING, nothing),
+        End::Promises => (6, FILLING, nothing),
     }
-}
-
-/// The state that a snapshot stands for.
-fn state(snapshot: &Snapshot) -> State {
-    snapshot.state().expect("a snapshot stands for a state")
 }
 
 /// The program of an image, or what refuses it.
@@ -155,31 +133,129 @@ unsafe fn lent<'a, T>(first: *const T, length: usize) -> &'a [T] {
     slice::from_raw_parts(first, length)
 }
 
+// The structs of `fir.h` that its functions give.
+
+#[repr(C)]
+struct Verdicted {
+    detail: usize,
+    question: u8,
+}
+
+#[repr(C)]
+struct Begun {
+    offset: u16,
+    question: u8,
+}
+
+#[repr(C)]
+struct Stepped {
+    value: i32,
+    code: u8,
+    length: u8,
+}
+
+#[repr(C)]
+struct Answered {
+    steps: u32,
+    value: i32,
+    offset: u16,
+    code: u8,
+    length: u8,
+    question: u8,
+}
+
+#[repr(C)]
+struct Seen {
+    number: i32,
+    kind: u8,
+    place: u8,
+}
+
+impl Answered {
+    /// An answer without a refusal.
+    fn new((code, length, value): (u8, u8, i32), steps: u32) -> Answered {
+        Answered {
+            steps,
+            value,
+            offset: u16::MAX,
+            code,
+            length,
+            question: FILLING,
+        }
+    }
+
+    /// A refusal.
+    fn refused(refusal: Refusal) -> Answered {
+        Answered {
+            offset: refusal.offset as u16,
+            question: refusal.number,
+            ..Answered::new((FIR_REFUSED, FILLING, 0), 0)
+        }
+    }
+}
+
+#[no_mangle]
+extern "C" fn fir_state_size() -> usize {
+    size_of::<Snapshot>()
+}
+
+#[no_mangle]
+extern "C" fn fir_state_alignment() -> usize {
+    align_of::<Snapshot>()
+}
+
+#[no_mangle]
+unsafe extern "C" fn fir_check(image: *const u8, length: usize) -> Verdicted {
+    let (detail, question) = match verdict(lent(image, length)) {
+        Verdict::Accepted(versions) => (versions, 0),
+        Verdict::Refused(refusal) => (refusal.offset, refusal.number),
+    };
+    Verdicted { detail, question }
+}
+
+#[no_mangle]
+unsafe extern "C" fn fir_report(
+    image: *const u8,
+    length: usize,
+    text: *mut u8,
+    places: usize,
+) -> usize {
+    let report = reference::report(lent(image, length));
+    let text = slice::from_raw_parts_mut(text, places);
+    match text.get_mut(..report.len()) {
+        Some(text) => {
+            text.copy_from_slice(report.as_bytes());
+            report.len()
+        }
+        None => 0,
+    }
+}
+
 #[no_mangle]
 unsafe extern "C" fn fir_begin(
     image: *const u8,
-    image_len: usize,
+    image_length: usize,
     function: usize,
     version: usize,
     words: *const i32,
-    words_len: usize,
+    words_length: usize,
     buffer: *const i32,
-    buffer_len: usize,
-) -> BegunSnapshot {
-    let (words, buffer) = (lent(words, words_len), lent(buffer, buffer_len));
-    let program = program(lent(image, image_len));
-    let begun = program.and_then(|program| {
-        let state = State::begin(&program, function, version, words, buffer)?;
-        Ok(snapshot(&state))
-    });
+    buffer_length: usize,
+    after: *mut Snapshot,
+) -> Begun {
+    let (words, buffer) = (lent(words, words_length), lent(buffer, buffer_length));
+    let program = program(lent(image, image_length));
+    let begun =
+        program.and_then(|program| State::begin(&program, function, version, words, buffer));
     match begun {
-        Ok(state) => BegunSnapshot {
-            state,
-            question: 0,
-            offset: u16::MAX,
-        },
-        Err(refusal) => BegunSnapshot {
-            state: blank(),
+        Ok(state) => {
+            *after = snapshot(&state);
+            Begun {
+                question: 0,
+                offset: u16::MAX,
+            }
+        }
+        Err(refusal) => Begun {
             question: refusal.number,
             offset: refusal.offset as u16,
         },
@@ -189,87 +265,97 @@ unsafe extern "C" fn fir_begin(
 #[no_mangle]
 unsafe extern "C" fn fir_step(
     image: *const u8,
-    image_len: usize,
-    before: Snapshot,
-) -> SteppedSnapshot {
-    let program = program(lent(image, image_len)).expect("an accepted image");
-    let (after, said) = state(&before).step(&program);
-    let (said, length, value) = match said {
-        Said::GoesOn => (0, NOTHING, 0),
-        Said::Stuck => (7, NOTHING, 0),
+    image_length: usize,
+    state: *mut Snapshot,
+) -> Stepped {
+    let program = program(lent(image, image_length)).expect("an accepted image");
+    let (after, said) = state_of(&*state).expect("a state").step(&program);
+    let (code, length, value) = match said {
+        Said::GoesOn => (FIR_STEPS, FILLING, 0),
+        Said::Stuck => (FIR_STUCK, FILLING, 0),
         Said::Ended(end) => numbers(end),
     };
-    let state = snapshot(&after);
-    SteppedSnapshot {
-        state,
-        said,
-        length,
+    *state = snapshot(&after);
+    Stepped {
         value,
+        code,
+        length,
     }
 }
 
 #[no_mangle]
 unsafe extern "C" fn fir_budget(
     image: *const u8,
-    image_len: usize,
-    before: Snapshot,
+    image_length: usize,
+    state: *mut Snapshot,
     budget: u32,
     buffer: *mut i32,
-    buffer_len: usize,
-) -> RanSnapshot {
-    let program = program(lent(image, image_len)).expect("an accepted image");
-    let buffer = slice::from_raw_parts_mut(buffer, buffer_len);
-    let (after, answer, steps) = state(&before).budget(&program, budget, buffer);
-    let (answer, length, value, question, offset) = match answer {
-        Answer::Steps => (0, NOTHING, 0, 0, 0),
-        Answer::Stuck => (7, NOTHING, 0, 0, 0),
-        Answer::Refused(refusal) => (8, NOTHING, 0, refusal.number, refusal.offset as u16),
-        Answer::Ended(end) => {
-            let (number, length, value) = numbers(end);
-            (number, length, value, 0, 0)
-        }
+    buffer_length: usize,
+) -> Answered {
+    let program = program(lent(image, image_length)).expect("an accepted image");
+    let buffer = slice::from_raw_parts_mut(buffer, buffer_length);
+    let before = state_of(&*state).expect("a state");
+    let (after, answer, steps) = before.budget(&program, budget, buffer);
+    let numbers = match answer {
+        Answer::Refused(refusal) => return Answered::refused(refusal),
+        Answer::Steps => (FIR_STEPS, FILLING, 0),
+        Answer::Stuck => (FIR_STUCK, FILLING, 0),
+        Answer::Ended(end) => numbers(end),
     };
-    RanSnapshot {
-        state: snapshot(&after),
-        answer,
-        length,
-        value,
-        question,
-        offset,
-        steps,
-    }
+    *state = snapshot(&after);
+    Answered::new(numbers, steps)
 }
 
 #[no_mangle]
-unsafe extern "C" fn fir_verdict_number(image: *const u8, len: usize) -> u8 {
-    match verdict(lent(image, len)) {
-        Verdict::Accepted(_) => 0,
-        Verdict::Refused(refusal) => refusal.number,
-    }
-}
-
-#[no_mangle]
-unsafe extern "C" fn fir_verdict_detail(image: *const u8, len: usize) -> usize {
-    match verdict(lent(image, len)) {
-        Verdict::Accepted(versions) => versions,
-        Verdict::Refused(refusal) => refusal.offset,
-    }
-}
-
-#[no_mangle]
-unsafe extern "C" fn fir_report(
+unsafe extern "C" fn fir_run(
     image: *const u8,
-    len: usize,
-    out: *mut u8,
-    places: usize,
-) -> usize {
-    let text = reference::report(lent(image, len));
-    let out = slice::from_raw_parts_mut(out, places);
-    match out.get_mut(..text.len()) {
-        Some(out) => {
-            out.copy_from_slice(text.as_bytes());
-            text.len()
-        }
-        None => 0,
+    image_length: usize,
+    function: usize,
+    version: usize,
+    words: *const i32,
+    words_length: usize,
+    budget: u32,
+    buffer: *mut i32,
+    buffer_length: usize,
+    state: *mut Snapshot,
+) -> Answered {
+    let begun = fir_begin(
+        image,
+        image_length,
+        function,
+        version,
+        words,
+        words_length,
+        buffer,
+        buffer_length,
+        state,
+    );
+    if begun.question > 0 {
+        return Answered::refused(Refusal {
+            number: begun.question,
+            offset: begun.offset.into(),
+        });
+    }
+    fir_budget(image, image_length, state, budget, buffer, buffer_length)
+}
+
+#[no_mangle]
+unsafe extern "C" fn fir_look(state: *const Snapshot, call: usize, place: usize) -> Seen {
+    let state = state_of(&*state).expect("a state");
+    let held = state.frames.get(call).and_then(|frame| {
+        let name = || frame.names.get(place.checked_sub(REGISTERS)?);
+        frame.registers.get(place).or_else(name).copied()
+    });
+    let (number, kind, place) = match held {
+        None => (0, FIR_OUTSIDE, FILLING),
+        Some(None) => (0, FIR_NOTHING, FILLING),
+        Some(Some(Value::Integer(number))) => (number, FIR_IS_INTEGER, FILLING),
+        Some(Some(Value::Vector(place))) => (0, FIR_IS_VECTOR, place as u8),
+        Some(Some(Value::Promise(place))) => (0, FIR_IS_PROMISE, place as u8),
+    };
+    Seen {
+        number,
+        kind,
+        place,
     }
 }

@@ -3,10 +3,11 @@
 
 use differential::difference::difference;
 use differential::engine;
-use differential::snapshot::Snapshot;
+use differential::snapshot::{state_of, untouched};
 use differential::tally::Tally;
 use differential::watched::{Watched, ENDINGS};
 use generator::{accepted, damaged, entry, events, words, Event, Random};
+use library::State as Snapshot;
 use reference::bounds::{Steps, BUFFER, FUNCTIONS, ITEMS, VERSIONS_EACH};
 use reference::{Answer, Integer, Program, Refusal, Said, State};
 use std::thread;
@@ -75,7 +76,7 @@ impl Pair<'_> {
     #[track_caller]
     fn assert_same_state(&self, origin: &str) {
         let expected = self.reference.state().clone().tidied();
-        let different = match self.proved.state() {
+        let different = match state_of(&self.proved) {
             Ok(found) => difference(&expected, &found),
             Err(error) => Some(error),
         };
@@ -158,6 +159,9 @@ impl Pair<'_> {
         let right = self.reference.budget(budget, expected.places());
         self.assert_same(right, (answer, steps), origin);
         self.assert_same(expected.memory, found.memory, origin);
+        if matches!(right.0, Answer::Refused(_)) {
+            assert!(after == self.proved, "{origin}: a refusal leaves the state");
+        }
         self.proved = after;
         right.0
     }
@@ -267,10 +271,9 @@ fn begin(
         text::listing(image)
     );
     if found.is_err() {
-        assert_eq!(
-            (state.calls, state.depth),
-            (0, 0),
-            "{origin}: a refused run has no call"
+        assert!(
+            state == untouched(),
+            "{origin}: a refused run leaves the state as it was"
         );
     }
     expected.map(|expected| (expected, state))

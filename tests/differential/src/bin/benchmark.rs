@@ -57,7 +57,7 @@ fn compare(name: &str, image: &[u8], verdicts: u32) {
     println!("{name} accepted image: {bytes} bytes, {records} records, {versions} versions");
     let (mut proved, mut reference) = (Times(vec![]), Times(vec![]));
     for _ in 0..ROUNDS {
-        proved.add(verdicts, || differential::verdict_number(black_box(image)));
+        proved.add(verdicts, || library::verdict(black_box(image)));
         reference.add(verdicts, || verdict(black_box(image)));
     }
     print_line("proved library", proved.min(), proved.median());

@@ -5,9 +5,10 @@
 
 use differential::difference::difference;
 use differential::engine;
-use differential::snapshot::Snapshot;
+use differential::snapshot::state_of;
 use differential::tuned::{Code, Machine};
 use differential::workloads::{workloads, Workload};
+use library::State as Snapshot;
 use reference::bounds::{Steps, BUFFER};
 use reference::{Answer, Integer, Program, State};
 use std::env;
@@ -70,7 +71,7 @@ impl Prepared {
         let (state, buffer) = (self.begun.clone(), &mut [0; BUFFER]);
         let (expected, ..) = state.budget(&self.program, steps, buffer);
         let (found, ..) = engine::budget(&self.image, &self.proved, steps, buffer);
-        let found = found.state().expect("a snapshot stands for a state");
+        let found = state_of(&found).expect("numbers that stand for a state");
         assert_eq!(difference(&expected.tidied(), &found), None);
     }
 

@@ -52,6 +52,17 @@ pub fn questions_1_to_7(image: &[u8]) -> Option<Refusal> {
 }
 
 impl Program {
+    /// The program of an image that passes questions 1 to 5, or the first no.
+    pub fn ordered(image: &[u8]) -> Result<Program, Refusal> {
+        put(1, framing::question1(image))?;
+        let framed = put(2, framing::question2(image))?;
+        let records = put(3, framing::question3(&framed))?;
+        put(4, order::question4(&records, image.len()))?;
+        let program = Program::gather(&records);
+        put(5, order::question5(&program))?;
+        Ok(program)
+    }
+
     /// The program of an image that passes the ten questions, or the first no.
     pub fn accept(image: &[u8]) -> Result<Program, Refusal> {
         let program = exists(image)?;
@@ -64,12 +75,7 @@ impl Program {
 
 /// The program of an image that passes questions 1 to 7, or the first no.
 fn exists(image: &[u8]) -> Result<Program, Refusal> {
-    put(1, framing::question1(image))?;
-    let framed = put(2, framing::question2(image))?;
-    let records = put(3, framing::question3(&framed))?;
-    put(4, order::question4(&records, image.len()))?;
-    let program = Program::gather(&records);
-    put(5, order::question5(&program))?;
+    let program = Program::ordered(image)?;
     put(6, places::question6(&program))?;
     put(7, existence::question7(&program))?;
     Ok(program)

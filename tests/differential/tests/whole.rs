@@ -1,0 +1,75 @@
+//! Runs of the proved engine in one call, and what can be seen of their states.
+
+use differential::difference::difference;
+use differential::engine;
+use differential::snapshot::{state_of, untouched};
+use generator::{accepted, entry, words, Random};
+use library::{Held, CELLS};
+use reference::bounds::{Steps, BUFFER};
+use reference::{Answer, Program, State, Value};
+
+/// How many programs are generated, and the fewest of them that begin.
+const PROGRAMS: u64 = 4_000;
+const FEWEST_RUNS: usize = 2_500;
+
+/// Does each place of each call show what the reference holds there, and no other place anything?
+fn assert_seen(proved: &library::State, expected: &State, origin: &str) -> usize {
+    let mut seen = 0;
+    for (call, frame) in expected.frames.iter().enumerate() {
+        for (place, held) in frame.registers.iter().chain(&frame.names).enumerate() {
+            let expected = match *held {
+                None => Held::Nothing,
+                Some(Value::Integer(integer)) => Held::Integer(integer),
+                Some(Value::Vector(place)) => Held::Vector(place),
+                Some(Value::Promise(place)) => Held::Promise(place),
+            };
+            assert_eq!(proved.look(call, place), Some(expected), "{origin}");
+            seen += usize::from(expected != Held::Nothing);
+        }
+        assert_eq!(proved.look(call, CELLS), None, "{origin}");
+    }
+    assert_eq!(proved.look(expected.frames.len(), 0), None, "{origin}");
+    seen
+}
+
+/// Runs a program by one call on each side; how many filled places were seen,
+/// none where the run is refused.
+fn run(seed: u64) -> Option<usize> {
+    let origin = format!("seed {seed}");
+    let image = accepted(seed);
+    let program = Program::accept(&image).expect("an accepted image");
+    let entry = entry(seed, &program)?;
+    let words = words(seed, &program, entry);
+    let mut random = Random::new(seed);
+    let budget = random.pick(&[0, 1, 5, 20, 60, 20_000]) as Steps;
+    let places = random.pick(&[BUFFER, BUFFER, BUFFER + 3, BUFFER - 1]);
+    let (mut expected, mut found) = (vec![-7; places], vec![-7; places]);
+    let (state, answer, steps) = engine::run(&image, entry, &words, budget, &mut found);
+    match State::begin(&program, entry.0, entry.1, &words, &expected) {
+        Err(refusal) => {
+            assert_eq!((answer, steps), (Answer::Refused(refusal), 0), "{origin}");
+            assert!(state == untouched(), "{origin}: the state is as it was");
+            assert_eq!(found, expected, "{origin}: the buffer is as it was");
+            None
+        }
+        Ok(begun) => {
+            let (after, right, count) = begun.budget(&program, budget, &mut expected);
+            assert_eq!((answer, steps), (right, count), "{origin}");
+            assert_eq!(found, expected, "{origin}");
+            let stands_for = state_of(&state).expect("numbers that stand for a state");
+            let after = after.tidied();
+            assert_eq!(difference(&after, &stands_for), None, "{origin}");
+            Some(assert_seen(&state, &after, &origin))
+        }
+    }
+}
+
+#[test]
+fn runs_in_one_call_agree_and_their_states_can_be_seen() {
+    let seen: Vec<usize> = (0..PROGRAMS).filter_map(run).collect();
+    let places: usize = seen.iter().sum();
+    println!("{} runs, {places} filled places seen", seen.len());
+    assert!(seen.len() >= FEWEST_RUNS, "{} runs", seen.len());
+    assert!(seen.len() < PROGRAMS as usize, "no run was refused");
+    assert!(places > seen.len(), "{places} filled places");
+}

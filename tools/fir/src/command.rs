@@ -1,0 +1,191 @@
+//! The command line.
+
+use crate::arguments::Argument;
+use crate::failure::Failure;
+use crate::help;
+use library::Entry;
+use std::ffi::{OsStr, OsString};
+
+/// The steps that `fir run` takes at most, unless the command line says otherwise.
+pub const RUN_BUDGET: u32 = 10_000_000;
+/// The steps that `fir trace` takes at most, unless the command line says otherwise.
+pub const TRACE_BUDGET: u32 = 100_000;
+
+/// What the command line asks for.
+#[derive(Clone, PartialEq, Eq, Debug)]
+pub enum Command {
+    /// A help text.
+    Help(&'static str),
+    /// `fir check`
+    Check(OsString),
+    /// `fir run`
+    Run(Call),
+    /// `fir trace`
+    Trace(Call),
+    /// `fir asm`
+    Assemble(Conversion),
+    /// `fir dis`
+    Disassemble(Conversion),
+}
+
+/// A run that is asked for.
+#[derive(Clone, PartialEq, Eq, Debug)]
+pub struct Call {
+    /// The image.
+    pub file: OsString,
+    /// The version to enter.
+    pub entry: Entry,
+    /// Its arguments.
+    pub arguments: Vec<Argument>,
+    /// The most steps.
+    pub budget: u32,
+}
+
+/// From one file to another.
+#[derive(Clone, PartialEq, Eq, Debug)]
+pub struct Conversion {
+    /// What is read.
+    pub file: OsString,
+    /// What is written; none for standard output.
+    pub out: Option<OsString>,
+}
+
+impl Command {
+    /// The command of the arguments after the tool's name.
+    pub fn parse(arguments: &[OsString]) -> Result<Command, Failure> {
+        let wrong = |reason: String| Failure::Usage(None, reason);
+        let Some((first, rest)) = arguments.split_first() else {
+            return Err(wrong("no command is given".to_string()));
+        };
+        let first = first.to_string_lossy();
+        if ["--help", "-h", "help"].contains(&&*first) {
+            return Ok(Command::Help(help::ALL));
+        }
+        let Some(command) = help::COMMANDS.iter().find(|command| command.name == first) else {
+            return Err(wrong(format!("`{first}` is no command")));
+        };
+        if rest.iter().any(|word| word == "--help" || word == "-h") {
+            return Ok(Command::Help(command.help));
+        }
+        parse_command(command.name, rest)
+            .map_err(|reason| Failure::Usage(Some(command.name), reason))
+    }
+}
+
+/// A command of a known name.
+fn parse_command(name: &str, rest: &[OsString]) -> Result<Command, String> {
+    let mut words = Words::new(rest);
+    match name {
+        "check" => {
+            let file = words.file()?;
+            words.finish()?;
+            Ok(Command::Check(file))
+        }
+        "run" => parse_call(words, RUN_BUDGET).map(Command::Run),
+        "trace" => parse_call(words, TRACE_BUDGET).map(Command::Trace),
+        "asm" => parse_conversion(words).map(Command::Assemble),
+        _ => parse_conversion(words).map(Command::Disassemble),
+    }
+}
+
+/// A run, with the budget that it has where the words name none.
+fn parse_call(mut words: Words, mut budget: u32) -> Result<Call, String> {
+    if let Some(text) = words.option("--budget")? {
+        budget = parse_budget(&text)?;
+    }
+    let file = words.file()?;
+    let entry = words.next().ok_or("no version is named, such as 0.0")?;
+    let entry = parse_entry(&plain(&entry)?)?;
+    let mut arguments = Vec::new();
+    while let Some(word) = words.next() {
+        arguments.push(Argument::parse(&plain(&word)?)?);
+    }
+    Ok(Call {
+        file,
+        entry,
+        arguments,
+        budget,
+    })
+}
+
+/// A conversion.
+fn parse_conversion(mut words: Words) -> Result<Conversion, String> {
+    let out = words.option("-o")?;
+    let file = words.file()?;
+    words.finish()?;
+    Ok(Conversion { file, out })
+}
+
+/// A number of steps.
+fn parse_budget(text: &OsStr) -> Result<u32, String> {
+    let text = plain(text)?;
+    let wrong = || format!("`{text}` is no budget of 0 to {}", u32::MAX);
+    text.parse().map_err(|_| wrong())
+}
+
+/// A version such as 0.0.
+fn parse_entry(text: &str) -> Result<Entry, String> {
+    let numbers = text.split_once('.');
+    let numbers = numbers.and_then(|(f, v)| Some((f.parse().ok()?, v.parse().ok()?)));
+    let (function, version) =
+        numbers.ok_or_else(|| format!("`{text}` names no version; write one such as 0.0"))?;
+    Ok(Entry { function, version })
+}
+
+/// A word that is no file's name.
+fn plain(word: &OsStr) -> Result<String, String> {
+    let text = word.to_str().map(str::to_string);
+    text.ok_or_else(|| format!("`{}` is not in UTF-8", word.to_string_lossy()))
+}
+
+/// The words of a command line that are not read yet.
+struct Words {
+    rest: Vec<OsString>,
+}
+
+impl Words {
+    /// All words.
+    fn new(words: &[OsString]) -> Words {
+        let rest = words.to_vec();
+        Words { rest }
+    }
+
+    /// The next word.
+    fn next(&mut self) -> Option<OsString> {
+        (!self.rest.is_empty()).then(|| self.rest.remove(0))
+    }
+
+    /// Takes out an option and its value, wherever it stands; none if it does not.
+    fn option(&mut self, name: &str) -> Result<Option<OsString>, String> {
+        let Some(place) = self.rest.iter().position(|word| word == name) else {
+            return Ok(None);
+        };
+        self.rest.remove(place);
+        if place == self.rest.len() {
+            return Err(format!("nothing follows {name}"));
+        }
+        let value = self.rest.remove(place);
+        if self.rest.iter().any(|word| word == name) {
+            return Err(format!("{name} stands twice"));
+        }
+        Ok(Some(value))
+    }
+
+    /// The next word as the name of a file.
+    fn file(&mut self) -> Result<OsString, String> {
+        let file = self.next().ok_or("no file is named")?;
+        let option = file != "-" && file.as_encoded_bytes().starts_with(b"-");
+        if option {
+            return Err(format!("`{}` is no option", file.to_string_lossy()));
+        }
+        Ok(file)
+    }
+
+    /// Asks that no word is left.
+    fn finish(&self) -> Result<(), String> {
+        match self.rest.first() {
+            Some(word) => Err(format!("`{}` is one too many", word.to_string_lossy())),
+            None => Ok(()),
+        }
+    }
+}

@@ -1,0 +1,50 @@
+//! Why a command came to no answer, and the exit status.
+
+use crate::streams::Streams;
+
+/// The exit status.
+#[derive(Clone, Copy, PartialEq, Eq, Debug)]
+pub enum Status {
+    /// Accepted, DONE, assembled.
+    Yes = 0,
+    /// Refused, UNDEF, a stop, or a text that does not assemble.
+    No = 1,
+    /// Bad usage, or a file that cannot be read or written.
+    Usage = 2,
+}
+
+/// Why a command came to no answer.
+#[derive(Clone, PartialEq, Eq, Debug)]
+pub enum Failure {
+    /// The command line is wrong: the command, if it is known, and what is wrong.
+    Usage(Option<&'static str>, String),
+    /// A file cannot be read or written.
+    File(String),
+    /// A text does not assemble.
+    Text(String),
+    /// Whoever read the output has gone.
+    Closed,
+}
+
+impl Failure {
+    /// The exit status.
+    pub fn status(&self) -> Status {
+        match self {
+            Failure::Usage(..) | Failure::File(_) => Status::Usage,
+            Failure::Text(_) | Failure::Closed => Status::No,
+        }
+    }
+
+    /// Says on standard error what is wrong; nothing where nobody reads.
+    pub fn tell(&self, streams: &mut Streams) {
+        let line = match self {
+            Failure::Usage(None, reason) => format!("fir: {reason}; see `fir --help`"),
+            Failure::Usage(Some(command), reason) => {
+                format!("fir {command}: {reason}; see `fir {command} --help`")
+            }
+            Failure::File(reason) | Failure::Text(reason) => format!("fir: {reason}"),
+            Failure::Closed => return,
+        };
+        streams.complain(&line);
+    }
+}

@@ -1,0 +1,145 @@
+//! The help texts.
+
+/// A command with its help text.
+pub struct Topic {
+    /// The command's name.
+    pub name: &'static str,
+    /// What `--help` prints.
+    pub help: &'static str,
+}
+
+/// The commands.
+pub const COMMANDS: [Topic; 5] = [
+    Topic {
+        name: "check",
+        help: CHECK,
+    },
+    Topic {
+        name: "run",
+        help: RUN,
+    },
+    Topic {
+        name: "trace",
+        help: TRACE,
+    },
+    Topic {
+        name: "asm",
+        help: ASM,
+    },
+    Topic {
+        name: "dis",
+        help: DIS,
+    },
+];
+
+/// `fir --help`
+pub const ALL: &str = "\
+fir: checks and runs FIR images, by the proved library
+
+usage:
+  fir check FILE                               is the image accepted, and if not, why?
+  fir run FILE F.V [ARGUMENT..] [--budget N]   runs version V of function F
+  fir trace FILE F.V [ARGUMENT..] [--budget N] the same, step by step
+  fir asm FILE [-o OUT]                        from text to image
+  fir dis FILE [-o OUT]                        from image to text
+
+`fir COMMAND --help` says more of a command.
+
+FILE holds the text form where its name ends in .fir, and an image's bytes
+otherwise; `-` is standard input, an image's bytes.
+
+exit status:
+  0  accepted; DONE; assembled
+  1  refused; UNDEF, STEPS, DEEP, VECTORS or PROMISES; a text that does not
+     assemble; a trace or a conversion whose reader has gone
+  2  bad usage, or a file that cannot be read or written
+";
+
+const CHECK: &str = "\
+usage: fir check FILE
+
+Puts the ten questions to an image. For an accepted one it prints, per version,
+`f.v R W U C`: how many registers its body reads before it assigns them, assigns,
+empties and captures; then `accepted` and the number of versions. For a refused
+one it prints a line: the question that says no, the offset of the first record
+that fails, the line of the text if FILE is one, and why.
+
+FILE holds the text form where its name ends in .fir, and an image's bytes
+otherwise; `-` is standard input, an image's bytes.
+
+example:
+  $ fir check wrong.fir
+  refused by 8 at 37 (line 6): SET needs an owned vector, r2 is a shared vector
+
+exit status: 0 accepted, 1 refused or a text that does not assemble, 2 bad usage
+";
+
+const RUN: &str = "\
+usage: fir run FILE F.V [ARGUMENT..] [--budget N]
+
+Runs version V of function F under a budget of N steps, 10,000,000 if none is
+given, 4,294,967,295 at most. An argument is an integer such as 7 or -7, or a
+vector such as [1,2,3] or [].
+
+It prints how the run ended and after how many steps:
+  DONE 7        with an integer
+  DONE [1, 2]   with a vector
+  UNDEF         a result is out of range, an index outside, a name unset, ..
+  STEPS         the budget is used up
+  DEEP          a 33rd activation is needed
+  VECTORS       a 65th vector is needed
+  PROMISES      a 65th promise is needed
+and, but for DONE, where the run stands. A run that is refused gets a line that
+says why.
+
+FILE holds the text form where its name ends in .fir, and an image's bytes
+otherwise; `-` is standard input, an image's bytes.
+
+exit status: 0 DONE, 1 refused, UNDEF or a stop, 2 bad usage
+";
+
+const TRACE: &str = "\
+usage: fir trace FILE F.V [ARGUMENT..] [--budget N]
+
+Runs version V of function F as `fir run` does, but step by step, under a budget
+of N steps, 100,000 if none is given. It prints a line for each step: its number,
+the depth of calls and forces, the version and the block, the instruction or the
+end of the block, and what changed:
+  r1 = 5            a register of the step's own call
+  x1 = 5            a name of it
+  call 0: x1 = 5    one of another call
+  r1 = v0 [1, 2]    a register that holds vector 0
+  v0 = [1, 3]       the items of vector 0 are others now
+  r1 = p0           a register that holds promise 0
+  p0 is block 1 of call 0, p0 gave 5
+  r1 empty          a register that was emptied
+  r1 stays 5        nothing changed, and the register takes what it held
+  opens call 1 of 2.0, ends call 1 with 5
+  forces p0 in block 1 of call 0, ends the force of p0 with 5
+Then it prints the result as `fir run` does.
+
+FILE holds the text form where its name ends in .fir, and an image's bytes
+otherwise; `-` is standard input, an image's bytes.
+
+exit status: 0 DONE, 1 refused, UNDEF or a stop, 2 bad usage
+";
+
+const ASM: &str = "\
+usage: fir asm FILE [-o OUT]
+
+Assembles a text, whatever its name ends in, and writes the image's bytes to OUT
+or to standard output. `-` reads the text from standard input. The image is not
+checked: `fir check` does that.
+
+exit status: 0 assembled, 1 a line that is wrong, 2 bad usage
+";
+
+const DIS: &str = "\
+usage: fir dis FILE [-o OUT]
+
+Writes the text of an image, whatever its name ends in and whether or not it is
+accepted, to OUT or to standard output. `-` reads the image from standard input.
+`fir asm` makes the same bytes of the text.
+
+exit status: 0 written, 2 bad usage
+";

@@ -1,0 +1,45 @@
+//! The command-line tool `fir`: it checks, runs, traces, assembles and
+//! disassembles FIR images.
+//!
+//! Verdicts, runs and single steps are those of the proved library. What the
+//! tool adds are words: why an image or a run is refused, and what a step did.
+
+mod arguments;
+mod command;
+mod commands;
+mod failure;
+mod help;
+mod number;
+mod place;
+mod refusal;
+mod source;
+mod streams;
+mod trace;
+
+pub use streams::Streams;
+
+use command::Command;
+use failure::{Failure, Status};
+use std::ffi::OsString;
+
+/// Does what the arguments say, those after the tool's name; the exit status.
+pub fn run(arguments: &[OsString], streams: &mut Streams) -> u8 {
+    let done = Command::parse(arguments).and_then(|command| commands::execute(&command, streams));
+    let status = match done {
+        Ok(status) => status,
+        Err(failure) => {
+            failure.tell(streams);
+            failure.status()
+        }
+    };
+    match streams.flush() {
+        Ok(()) | Err(Failure::Closed) => status as u8,
+        Err(failure) => {
+            failure.tell(streams);
+            failure.status() as u8
+        }
+    }
+}
+
+/// The status of a command that did what it should.
+const DONE: Result<Status, Failure> = Ok(Status::Yes);

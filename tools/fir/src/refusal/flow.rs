@@ -1,0 +1,210 @@
+//! Question 10, "Flow": which register is read too early, or used or emptied too late.
+
+use super::vocabulary::instruction_name;
+use super::{Found, FoundRecord};
+use crate::place::place;
+use crate::source::Source;
+use reference::{Instruction, Register};
+use std::collections::BTreeMap;
+
+/// Question 10: where flow does not hold in a version.
+pub fn flow(source: &Source, found: &Found) -> Option<String> {
+    let FoundRecord::Version = found.record else {
+        return None;
+    };
+    let break_ = match block_action(found, 0) {
+        Err(break_) => break_,
+        Ok(action) => {
+            let parameters = found.version.head.parameters;
+            let mut reads = action.reads.into_iter();
+            let (register, read) = reads.find(|&(register, _)| register >= parameters)?;
+            Break::ReadFirst(register, read)
+        }
+    };
+    let words = break_.words(source);
+    Some(format!("in VERSION {}, {words}", found.version_name()))
+}
+
+/// What does something to a register: an instruction, or the end of its block.
+#[derive(Clone, Copy)]
+struct Doer<'p> {
+    offset: usize,
+    block: usize,
+    instruction: Option<&'p Instruction>,
+}
+
+impl Doer<'_> {
+    /// What it is and where: `LEN at 41`, in a promise block with the block.
+    fn words(&self, source: &Source) -> String {
+        let name = match self.instruction {
+            Some(instruction) => instruction_name(instruction),
+            None => format!("the end of BLOCK {}", self.block),
+        };
+        let place = place(source, self.offset);
+        match (self.block, self.instruction) {
+            (0, _) | (_, None) => format!("{name} at {place}"),
+            (block, _) => format!("{name} at {place} in block {block}"),
+        }
+    }
+}
+
+/// Registers with what did it to them first.
+type Registers<'p> = BTreeMap<Register, Doer<'p>>;
+
+/// An action: four register sets, with who did it.
+#[derive(Clone, Default)]
+struct Action<'p> {
+    reads: Registers<'p>,
+    assigns: Registers<'p>,
+    empties: Registers<'p>,
+    captures: Registers<'p>,
+}
+
+/// How flow breaks.
+enum Break<'p> {
+    /// A register is read before it is assigned.
+    ReadFirst(Register, Doer<'p>),
+    /// A register is emptied, and then something is done to it.
+    Emptied(Register, Doer<'p>, &'static str, Doer<'p>),
+    /// A register is captured, and then emptied.
+    Captured(Register, Doer<'p>, Doer<'p>),
+}
+
+impl Break<'_> {
+    /// What happens to the register, and where.
+    fn words(&self, source: &Source) -> String {
+        match self {
+            Break::ReadFirst(r, read) => {
+                format!(
+                    "r{r} is read by {} before it is assigned",
+                    read.words(source)
+                )
+            }
+            Break::Emptied(r, emptied, then, doer) if emptied.offset == doer.offset => {
+                format!("r{r} is emptied and then {then} by {}", doer.words(source))
+            }
+            Break::Emptied(r, emptied, then, doer) => {
+                let (emptied, doer) = (emptied.words(source), doer.words(source));
+                format!("r{r} is emptied by {emptied} and {then} again by {doer}")
+            }
+            Break::Captured(r, captured, emptied) => {
+                let (captured, emptied) = (captured.words(source), emptied.words(source));
+                format!("r{r} is captured by {captured} and then emptied by {emptied}")
+            }
+        }
+    }
+}
+
+impl<'p> Action<'p> {
+    /// A then A′, or how that breaks.
+    fn then(mut self, next: Action<'p>) -> Result<Action<'p>, Break<'p>> {
+        let later = [
+            ("read", &next.reads),
+            ("assigned", &next.assigns),
+            ("emptied", &next.empties),
+            ("captured", &next.captures),
+        ];
+        for (does, registers) in later {
+            if let Some((register, first, second)) = meeting(&self.empties, registers) {
+                return Err(Break::Emptied(register, first, does, second));
+            }
+        }
+        if let Some((register, first, second)) = meeting(&self.captures, &next.empties) {
+            return Err(Break::Captured(register, first, second));
+        }
+        for (register, doer) in next.reads {
+            if !self.assigns.contains_key(&register) {
+                self.reads.entry(register).or_insert(doer);
+            }
+        }
+        add(&mut self.assigns, next.assigns);
+        add(&mut self.empties, next.empties);
+        add(&mut self.captures, next.captures);
+        Ok(self)
+    }
+
+    /// What a PROM yields for its block's action: (R, ∅, U, R ∪ W ∪ U ∪ C).
+    fn delayed(self, prom: Doer<'p>) -> Action<'p> {
+        let sets = [&self.reads, &self.assigns, &self.empties, &self.captures];
+        let captured = sets.into_iter().flat_map(|set| set.keys());
+        let captures = captured.map(|&register| (register, prom)).collect();
+        Action {
+            assigns: Registers::new(),
+            captures,
+            ..self
+        }
+    }
+}
+
+/// A register that is in both sets, with what put it there.
+fn meeting<'p>(
+    first: &Registers<'p>,
+    second: &Registers<'p>,
+) -> Option<(Register, Doer<'p>, Doer<'p>)> {
+    let mut both = first.iter();
+    both.find_map(|(&register, &doer)| Some((register, doer, *second.get(&register)?)))
+}
+
+/// Adds registers to a set; those there keep what put them there.
+fn add<'p>(set: &mut Registers<'p>, more: Registers<'p>) {
+    for (register, doer) in more {
+        set.entry(register).or_insert(doer);
+    }
+}
+
+/// Registers that one doer does the same to.
+fn all<'p>(registers: impl IntoIterator<Item = Register>, doer: Doer<'p>) -> Registers<'p> {
+    registers.into_iter().map(|r| (r, doer)).collect()
+}
+
+/// The action of a block: its instructions in order, then its result register is read.
+fn block_action<'p>(found: &Found<'p>, number: usize) -> Result<Action<'p>, Break<'p>> {
+    let mut action = Action::default();
+    let Some(block) = found.version.blocks.get(number) else {
+        return Ok(action);
+    };
+    for placed in &block.instructions {
+        let doer = Doer {
+            offset: placed.offset,
+            block: number,
+            instruction: Some(&placed.item),
+        };
+        action = instruction_action(found, action, doer, &placed.item)?;
+    }
+    let end = Doer {
+        offset: block.offset,
+        block: number,
+        instruction: None,
+    };
+    action.then(Action {
+        reads: all([block.head.result], end),
+        ..Action::default()
+    })
+}
+
+/// An action, then an instruction: it reads its operands, then empties, then assigns.
+fn instruction_action<'p>(
+    found: &Found<'p>,
+    before: Action<'p>,
+    doer: Doer<'p>,
+    instruction: &Instruction,
+) -> Result<Action<'p>, Break<'p>> {
+    let first = match *instruction {
+        Instruction::Prom { block, .. } if usize::from(block) > doer.block => {
+            block_action(found, block.into())?.delayed(doer)
+        }
+        _ => Action {
+            reads: all(instruction.reads(), doer),
+            ..Action::default()
+        },
+    };
+    let empties = Action {
+        empties: all(found.program.emptied(instruction), doer),
+        ..Action::default()
+    };
+    let assigns = Action {
+        assigns: all(instruction.assigns(), doer),
+        ..Action::default()
+    };
+    before.then(first)?.then(empties)?.then(assigns)
+}

@@ -1,0 +1,180 @@
+//! Why an image or a run is refused, in words.
+//!
+//! The question and the offset are the proved library's. The words come from
+//! looking at the record there for what the question asks; where that finds
+//! nothing, they are the question's own.
+
+mod arguments;
+mod effect;
+mod existence;
+mod fit;
+mod flow;
+mod framing;
+mod order;
+mod types;
+mod vocabulary;
+
+use crate::arguments::Argument;
+use crate::place::place;
+use crate::source::Source;
+use library::{Entry, Refusal};
+use reference::program::{Block, Program, Version};
+use reference::record::Placed;
+use reference::Instruction;
+
+/// The line for an image that is refused.
+pub fn line(source: &Source, no: Refusal) -> String {
+    with_words(source, no, diagnosis(source, no))
+}
+
+/// The line for a run that is refused.
+pub fn of_run(source: &Source, no: Refusal, entry: Entry, given: &[Argument]) -> String {
+    let words = match no.question {
+        11 => arguments::entry(&source.image, entry),
+        12 => arguments::arguments(&source.image, entry, given),
+        _ => diagnosis(source, no),
+    };
+    with_words(source, no, words)
+}
+
+/// The line with the words that were found, or with the question's own.
+fn with_words(source: &Source, no: Refusal, words: Option<String>) -> String {
+    let place = match no.question {
+        2..=10 => place(source, no.offset),
+        _ => no.offset.to_string(),
+    };
+    let words = words.unwrap_or_else(|| rule(no.question).to_string());
+    format!("refused by {} at {place}: {words}", no.question)
+}
+
+/// What the record at the refusal's offset does wrong, if it is found.
+fn diagnosis(source: &Source, no: Refusal) -> Option<String> {
+    let (image, offset) = (&source.image[..], no.offset);
+    match no.question {
+        1 => framing::size(image),
+        2 => framing::record(image, offset),
+        3 => framing::fields(image, offset),
+        4 => order::bounds(image, offset),
+        5 => order::numbering(image, offset),
+        6..=10 => {
+            let program = Program::ordered(image).ok()?;
+            let found = Found::at(&program, offset)?;
+            match no.question {
+                6 => types::type_bytes(&found),
+                7 => existence::existence(source, &found),
+                8 => fit::fit(&found),
+                9 => effect::effect(source, &found),
+                _ => flow::flow(source, &found),
+            }
+        }
+        _ => None,
+    }
+}
+
+/// A record of a program, with what it stands in.
+struct Found<'p> {
+    program: &'p Program,
+    version: &'p Version,
+    record: FoundRecord<'p>,
+}
+
+/// What the record is.
+enum FoundRecord<'p> {
+    /// The VERSION itself.
+    Version,
+    /// A BLOCK, with its number.
+    Block(usize, &'p Block),
+    /// An instruction, with the number of its block.
+    Instruction(usize, &'p Instruction),
+}
+
+impl<'p> Found<'p> {
+    /// The record at an offset.
+    fn at(program: &'p Program, offset: usize) -> Option<Found<'p>> {
+        let mut versions = program.versions.iter().rev();
+        let version = versions.find(|version| version.offset <= offset)?;
+        let record = if version.offset == offset {
+            FoundRecord::Version
+        } else {
+            let mut blocks = version.blocks.iter().enumerate().rev();
+            let (number, block) = blocks.find(|(_, block)| block.offset <= offset)?;
+            if block.offset == offset {
+                FoundRecord::Block(number, block)
+            } else {
+                let is_there = |placed: &&Placed<Instruction>| placed.offset == offset;
+                let placed = block.instructions.iter().find(is_there)?;
+                FoundRecord::Instruction(number, &placed.item)
+            }
+        };
+        Some(Found {
+            program,
+            version,
+            record,
+        })
+    }
+
+    /// The version's numbers: `0.0`.
+    fn version_name(&self) -> String {
+        vocabulary::version_name(self.version)
+    }
+}
+
+/// What a question asks, in general words.
+fn rule(question: u8) -> &'static str {
+    match question {
+        1 => "an image has 1 to 32,768 bytes",
+        2 => "a record has a full head and a length of at least 4, and ends inside the image",
+        3 => "a record's kind is known, and its length is the one that its fields make",
+        4 => "numbers, counts, marks, op and n are in bounds, and records in order",
+        5 => "the first version is 0.0, and each next one follows on it",
+        6 => "a type byte is allowed at its place",
+        7 => "what is named exists, and every block but 0 is named by exactly one PROM",
+        8 => "types fit",
+        9 => "a block's mark covers its effect",
+        10 => "no register is read before it is assigned, used after it is emptied, or emptied after it is captured",
+        11 => "the version that a run enters exists",
+        12 => "each argument matches its parameter, and there are as many",
+        13 => "the result buffer has at least 16 places",
+        _ => "no question has this number",
+    }
+}
+
+#[cfg(test)]
+mod tests {
+    use super::*;
+
+    /// The line for a refusal of some image.
+    fn said(image: &[u8], question: u8, offset: usize) -> String {
+        let source = Source::bytes(image.to_vec());
+        line(&source, Refusal { question, offset })
+    }
+
+    #[test]
+    fn a_refusal_that_no_diagnosis_explains_gets_the_rule() {
+        let text = "version 0.0(r0: int) -> int\nblock 0 quiet -> r0";
+        let image = text::assemble(text).expect("a text that is well formed");
+        for question in 1..=13 {
+            for offset in [0, 11, 18, 400_000] {
+                let expected = format!("refused by {question} at {offset}: {}", rule(question));
+                assert_eq!(said(&image, question, offset), expected);
+            }
+        }
+    }
+
+    #[test]
+    fn a_short_buffer_is_refused_in_words() {
+        let source = Source::bytes(Vec::new());
+        let entry = Entry {
+            function: 0,
+            version: 0,
+        };
+        let no = Refusal {
+            question: 13,
+            offset: 0,
+        };
+        assert_eq!(
+            of_run(&source, no, entry, &[]),
+            "refused by 13 at 0: the result buffer has at least 16 places"
+        );
+    }
+}

@@ -1,0 +1,45 @@
+//! Standard input, output and error.
+
+use crate::failure::Failure;
+use std::io::{ErrorKind, Read, Write};
+
+/// The streams that a command reads and writes.
+pub struct Streams<'a> {
+    /// Where `-` is read from.
+    pub input: &'a mut dyn Read,
+    /// Where answers go.
+    pub output: &'a mut dyn Write,
+    /// Where complaints go.
+    pub errors: &'a mut dyn Write,
+}
+
+impl Streams<'_> {
+    /// Writes bytes to the output.
+    pub fn write(&mut self, bytes: &[u8]) -> Result<(), Failure> {
+        written(self.output.write_all(bytes))
+    }
+
+    /// Writes a line to the output.
+    pub fn line(&mut self, line: &str) -> Result<(), Failure> {
+        self.write(format!("{line}\n").as_bytes())
+    }
+
+    /// Sees to it that what was written has gone out.
+    pub fn flush(&mut self) -> Result<(), Failure> {
+        written(self.output.flush())
+    }
+
+    /// Writes a line to standard error; where that is not possible, nothing can be said.
+    pub fn complain(&mut self, line: &str) {
+        let _ = self.flush();
+        let _ = writeln!(self.errors, "{line}");
+    }
+}
+
+/// The failure of a write to the output.
+fn written(result: std::io::Result<()>) -> Result<(), Failure> {
+    result.map_err(|error| match error.kind() {
+        ErrorKind::BrokenPipe => Failure::Closed,
+        _ => Failure::File(format!("the output cannot be written: {error}")),
+    })
+}

@@ -1,0 +1,142 @@
+//! The scripts of `examples/`: each is accepted, and each command in its comments
+//! prints what stands below it.
+
+mod support;
+
+use std::fs;
+use std::path::Path;
+use support::fir;
+
+/// The folder of the examples.
+const EXAMPLES: &str = concat!(env!("CARGO_MANIFEST_DIR"), "/../../examples/");
+
+/// The scripts.
+const SCRIPTS: [&str; 3] = ["defrost.fir", "riser.fir", "setback.fir"];
+
+/// A command of a comment or a document, and what it is to print.
+struct Shown {
+    arguments: Vec<String>,
+    output: String,
+}
+
+/// The commands of a text, which stand behind an indent, with the lines below them.
+fn shown(text: &str, indent: &str) -> Vec<Shown> {
+    let mut all: Vec<Shown> = Vec::new();
+    let mut inside = false;
+    for line in text.lines() {
+        let indented = line.strip_prefix(indent);
+        let command = indented.and_then(|line| line.strip_prefix("$ fir "));
+        if let Some(command) = command {
+            let command = command.replace("examples/", EXAMPLES);
+            all.push(Shown {
+                arguments: command.split(' ').map(String::from).collect(),
+                output: String::new(),
+            });
+            inside = true;
+        } else if let (Some(line), true, Some(last)) = (indented, inside, all.last_mut()) {
+            last.output += &format!("{line}\n");
+        } else {
+            inside = false;
+        }
+    }
+    all
+}
+
+/// Asserts that a command prints what is shown.
+#[track_caller]
+fn assert_printed(shown: &Shown, origin: &str) {
+    let words: Vec<&str> = shown.arguments.iter().map(String::as_str).collect();
+    let done = fir(&words, b"");
+    assert_eq!(done.text(), shown.output, "{origin}: {words:?}");
+    assert_eq!(done.errors, "", "{origin}: {words:?}");
+}
+
+#[test]
+fn each_script_is_accepted_and_does_what_its_comments_show() {
+    for script in SCRIPTS {
+        let path = format!("{EXAMPLES}{script}");
+        let check = fir(&["check", &path], b"");
+        assert_eq!((check.status, check.errors.as_str()), (0, ""), "{script}");
+        let text = fs::read_to_string(&path).expect("the script is there");
+        let commands = shown(&text, "#   ");
+        assert!(commands.len() >= 3, "{script} shows too few commands");
+        for command in &commands {
+            assert!(!command.output.is_empty(), "{script}: an output is missing");
+            assert_printed(command, script);
+        }
+    }
+}
+
+#[test]
+fn no_script_is_left_out() {
+    let folder = fs::read_dir(Path::new(EXAMPLES)).expect("the examples are there");
+    let names = folder.map(|entry| entry.expect("an entry").file_name());
+    let mut names: Vec<String> = names.map(|name| name.to_string_lossy().into()).collect();
+    names.sort();
+    assert_eq!(names, SCRIPTS);
+}
+
+/// What version 0.0 of a script gives.
+#[track_caller]
+fn gives(script: &str, arguments: &[&str], expected: i32) {
+    let path = format!("{EXAMPLES}{script}");
+    let call = [&["run", &path, "0.0"], arguments].concat();
+    let done = fir(&call, b"");
+    let begin = format!("DONE {expected} after ");
+    assert!(
+        done.text().starts_with(&begin),
+        "{arguments:?}: {}",
+        done.text()
+    );
+}
+
+#[test]
+fn defrost_follows_its_thresholds() {
+    gives("defrost.fir", &["69", "-20", "41"], 1);
+    gives("defrost.fir", &["70", "-20", "41"], 0);
+    gives("defrost.fir", &["60", "-20", "41"], 0);
+    gives("defrost.fir", &["61", "-20", "41"], 1);
+    gives("defrost.fir", &["61", "-20", "40"], 0);
+    gives("defrost.fir", &["60", "0", "181"], 1);
+    gives("defrost.fir", &["60", "0", "180"], 0);
+}
+
+#[test]
+fn riser_finds_the_greatest_demand_at_each_place() {
+    for place in 0..16 {
+        let demands: Vec<i32> = (0..16).map(|riser| i32::from(riser == place)).collect();
+        gives("riser.fir", &[&format!("{demands:?}")], place);
+    }
+    gives("riser.fir", &["[-5,-3,-4]"], 1);
+    gives("riser.fir", &["[7]"], 0);
+    gives("riser.fir", &["[1,2,3,4,5]"], 4);
+}
+
+#[test]
+fn setback_follows_the_hour_and_the_frost() {
+    for hour in 0..24 {
+        let night = !(6..22).contains(&hour);
+        gives(
+            "setback.fir",
+            &["20", &hour.to_string()],
+            if night { 80 } else { 0 },
+        );
+        gives(
+            "setback.fir",
+            &["-51", &hour.to_string()],
+            if night { 30 } else { 0 },
+        );
+    }
+    gives("setback.fir", &["-50", "3"], 80);
+}
+
+#[test]
+fn the_commands_of_the_readme_print_what_it_shows() {
+    let commands = shown(include_str!("../../README.md"), "    ");
+    let (with_output, without): (Vec<_>, Vec<_>) =
+        commands.iter().partition(|shown| !shown.output.is_empty());
+    assert_eq!((with_output.len(), without.len()), (2, 3));
+    for command in with_output {
+        assert_printed(command, "README");
+    }
+}

@@ -1,0 +1,121 @@
+//! The tool on generated images: damaged ones, changed ones and bytes of chance.
+
+mod support;
+
+use generator::{accepted, any, damaged_at, mutated, Random};
+use library::Verdict;
+use std::collections::BTreeMap;
+use support::{file, fir};
+
+/// How many images of each sort are made.
+const IMAGES: u64 = 2_000;
+
+/// How many damaged images are made for each question.
+const DAMAGED: u64 = 400;
+
+/// The general words, which stand for a diagnosis that was not found.
+const GENERAL: [&str; 10] = [
+    "an image has 1 to 32,768 bytes",
+    "a record has a full head and a length of at least 4, and ends inside the image",
+    "a record's kind is known, and its length is the one that its fields make",
+    "numbers, counts, marks, op and n are in bounds, and records in order",
+    "the first version is 0.0, and each next one follows on it",
+    "a type byte is allowed at its place",
+    "what is named exists, and every block but 0 is named by exactly one PROM",
+    "types fit",
+    "a block's mark covers its effect",
+    "no register is read before it is assigned, used after it is emptied, or emptied after it is captured",
+];
+
+/// Asserts what `fir check` says of an image; the question that refuses it.
+#[track_caller]
+fn checked(image: &[u8], origin: &str) -> Option<u8> {
+    let done = fir(&["check", "-"], image);
+    assert_eq!(done.errors, "", "{origin}");
+    match library::verdict(image) {
+        Verdict::Accepted { versions } => {
+            assert_eq!(done.status, 0, "{origin}");
+            assert_eq!(done.text(), reference::report(image), "{origin}");
+            let last = format!("accepted {versions}\n");
+            assert!(done.text().ends_with(&last), "{origin}");
+            None
+        }
+        Verdict::Refused(no) => {
+            assert_eq!(done.status, 1, "{origin}");
+            let begin = format!("refused by {} at {}: ", no.question, no.offset);
+            let text = done.text();
+            let words = text.strip_prefix(&begin);
+            let words = words.unwrap_or_else(|| panic!("{origin}: {text}"));
+            let words = words.strip_suffix('\n').expect("a whole line");
+            assert!(!words.contains('\n'), "{origin}: {words}");
+            let general = GENERAL[usize::from(no.question) - 1];
+            assert_ne!(
+                words,
+                general,
+                "{origin}: no diagnosis\n{}",
+                text::listing(image)
+            );
+            Some(no.question)
+        }
+    }
+}
+
+#[test]
+fn refusals_begin_with_the_proved_number_and_place_and_have_words() {
+    let mut met = BTreeMap::new();
+    let mut meet = |image: &[u8], origin: &str| {
+        *met.entry(checked(image, origin)).or_insert(0) += 1;
+    };
+    for seed in 0..DAMAGED {
+        for question in 1..=10 {
+            let image = damaged_at(question, seed);
+            meet(&image, &format!("damaged at {question}, seed {seed}"));
+        }
+    }
+    for seed in 0..IMAGES {
+        meet(&mutated(seed), &format!("mutated, seed {seed}"));
+        meet(&any(seed), &format!("any, seed {seed}"));
+    }
+    println!("{met:?}");
+    for question in 1..=10 {
+        assert!(met.contains_key(&Some(question)), "never met: {question}");
+    }
+    assert!(met.contains_key(&None), "no image was accepted");
+}
+
+/// Asserts that an image comes back from its text byte for byte.
+#[track_caller]
+fn comes_back(image: &[u8], origin: &str) {
+    let text = fir(&["dis", "-"], image);
+    assert_eq!((text.status, text.errors.as_str()), (0, ""), "{origin}");
+    let bytes = fir(&["asm", "-"], &text.output);
+    assert_eq!((bytes.status, bytes.errors.as_str()), (0, ""), "{origin}");
+    assert!(bytes.output == image, "{origin}\n{}", text.text());
+}
+
+#[test]
+fn images_come_back_from_their_text() {
+    for seed in 0..IMAGES {
+        comes_back(&accepted(seed), &format!("accepted, seed {seed}"));
+        comes_back(&mutated(seed), &format!("mutated, seed {seed}"));
+        comes_back(&any(seed), &format!("any, seed {seed}"));
+    }
+    let mut random = Random::new(7);
+    for length in 0..600 {
+        let bytes: Vec<u8> = (0..length).map(|_| random.byte()).collect();
+        comes_back(&bytes, &format!("{length} bytes of chance"));
+    }
+}
+
+#[test]
+fn a_text_and_its_image_get_the_same_verdict() {
+    for seed in 0..IMAGES / 10 {
+        let image = any(seed);
+        let text = fir(&["dis", "-"], &image);
+        let file = file("same", "text.fir", &text.output);
+        let (by_text, by_bytes) = (fir(&["check", &file], b""), fir(&["check", "-"], &image));
+        assert_eq!(by_text.status, by_bytes.status, "seed {seed}");
+        let head = |text: String| text.split([':', '(']).next().map(|s| s.trim().to_string());
+        assert_eq!(head(by_text.text()), head(by_bytes.text()), "seed {seed}");
+    }
+}

@@ -1,0 +1,157 @@
+//! No file and no command line makes the tool panic: it answers with a status
+//! of 0, 1 or 2, and with words where it is 2.
+
+mod support;
+
+use generator::{accepted, any, mutated, Random};
+use std::ffi::OsString;
+use std::os::unix::ffi::OsStringExt;
+use support::{file, fir, fir_of};
+
+/// How many command lines, and how many texts, are made.
+const LINES: u64 = 6_000;
+const TEXTS: u64 = 3_000;
+
+/// Files of all sorts: images, texts, chance, a folder, and one that is missing.
+fn files(seed: u64) -> Vec<String> {
+    let chance: Vec<u8> = (0..200).map(|n| Random::new(seed + n).byte()).collect();
+    let text = text::disassemble(&accepted(seed));
+    vec![
+        file("robust", "accepted.bin", &accepted(seed)),
+        file("robust", "any.bin", &any(seed)),
+        file("robust", "mutated.bin", &mutated(seed)),
+        file("robust", "chance.bin", &chance),
+        file("robust", "chance.fir", &chance),
+        file("robust", "accepted.fir", text.as_bytes()),
+        file("robust", "empty.fir", b""),
+        env!("CARGO_TARGET_TMPDIR").to_string(),
+        "missing/file".to_string(),
+        "-".to_string(),
+    ]
+}
+
+/// A word of a command line; most make sense at some place.
+fn word(random: &mut Random, files: &[String]) -> OsString {
+    let entry = format!("{}.{}", random.below(4), random.below(3));
+    let number = random.number() as i32 >> random.below(32);
+    let vector: Vec<i32> = (0..random.below(19)).map(|n| n as i32 - 3).collect();
+    let odd = [
+        "",
+        "--",
+        "--budget=",
+        "0.",
+        ".",
+        "..",
+        "[",
+        "]",
+        "[]",
+        "[,]",
+        "--help",
+        "-1",
+        "1e3",
+        "4294967295",
+        "-99999999999",
+        "18446744073709551616.0",
+        "é",
+        "[é]",
+    ];
+    let text = match random.below(8) {
+        0 | 1 => random.pick(files),
+        2 | 3 => entry,
+        4 => number.to_string(),
+        5 => format!("{vector:?}"),
+        6 => random.pick(&odd).to_string(),
+        _ => {
+            let bytes = (0..random.below(5)).map(|_| random.byte().max(1)).collect();
+            return OsString::from_vec(bytes);
+        }
+    };
+    text.into()
+}
+
+/// A command line; what is written goes to a file of the test's own.
+fn line(random: &mut Random, files: &[String], out: &str) -> Vec<OsString> {
+    let command = random.pick(&[
+        "check", "check", "run", "run", "trace", "asm", "dis", "help",
+    ]);
+    let mut line: Vec<OsString> = vec![command.into(), random.pick(files).into()];
+    if command == "run" || command == "trace" {
+        line.push(format!("{}.{}", random.below(2), random.below(2)).into());
+        line.extend((0..random.below(3)).map(|_| "5".into()));
+        line.extend(["--budget".into(), random.below(300).to_string().into()]);
+    }
+    if command == "asm" || command == "dis" {
+        line.extend(["-o".into(), out.into()]);
+    }
+    match random.below(12) {
+        0 => drop(line.pop()),
+        1 => drop(line.remove(1)),
+        2 => line[0] = word(random, files),
+        3 => line.insert(0, word(random, files)),
+        4 | 5 => line.push(word(random, files)),
+        _ => {}
+    }
+    line
+}
+
+#[test]
+fn no_command_line_makes_it_panic() {
+    let out = file("robust", "out", b"");
+    let mut statuses = [0; 3];
+    let mut made = files(0);
+    for seed in 0..LINES {
+        if seed % 50 == 0 {
+            made = files(seed);
+        }
+        let mut random = Random::new(seed);
+        let line = line(&mut random, &made, &out);
+        let done = fir_of(&line, &any(seed % 100));
+        statuses[usize::from(done.status)] += 1;
+        let complains = !done.errors.is_empty();
+        match done.status {
+            0 => assert!(!complains, "{line:?}: {done:?}"),
+            1 => assert!(complains || !done.output.is_empty(), "{line:?}"),
+            _ => assert!(complains && done.output.is_empty(), "{line:?}: {done:?}"),
+        }
+    }
+    println!("{statuses:?}");
+    assert!(statuses.iter().all(|&count| count > 500), "{statuses:?}");
+}
+
+/// A text with some of its signs changed, taken out or doubled.
+fn changed(random: &mut Random, text: &str) -> String {
+    let mut signs: Vec<char> = text.chars().collect();
+    for _ in 0..1 + random.below(4) {
+        let place = random.below(signs.len());
+        let signs_to_try = [
+            'r', '9', ' ', '\n', '#', '-', '[', ',', 'é', '.', '=', 'x', '0',
+        ];
+        match random.below(3) {
+            0 => drop(signs.remove(place)),
+            1 => signs.insert(place, random.pick(&signs_to_try)),
+            _ => signs[place] = random.pick(&signs_to_try),
+        }
+    }
+    signs.into_iter().collect()
+}
+
+#[test]
+fn no_text_makes_it_panic() {
+    let mut statuses = [0; 3];
+    for seed in 0..TEXTS {
+        let mut random = Random::new(seed);
+        let text = changed(&mut random, &text::disassemble(&accepted(seed % 300)));
+        let file = file("robust", "changed.fir", text.as_bytes());
+        for call in [
+            &["check", &file][..],
+            &["asm", &file],
+            &["run", &file, "0.0", "--budget", "9"],
+        ] {
+            let done = fir(call, b"");
+            statuses[usize::from(done.status)] += 1;
+            assert!(done.status < 2, "seed {seed}: {done:?}");
+        }
+    }
+    println!("{statuses:?}");
+    assert!(statuses[0] > 100 && statuses[1] > 100, "{statuses:?}");
+}

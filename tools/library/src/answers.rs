@@ -1,0 +1,171 @@
+//! What the library answers, as plain enums.
+
+use crate::constants::{
+    FIR_ACCEPTED, FIR_DEEP, FIR_INTEGER, FIR_IS_INTEGER, FIR_IS_PROMISE, FIR_IS_VECTOR, FIR_ITEMS,
+    FIR_NOTHING, FIR_OUTSIDE, FIR_PROMISES, FIR_REFUSED, FIR_STEPS, FIR_STUCK, FIR_UNDEF,
+    FIR_VECTOR, FIR_VECTORS,
+};
+use crate::raw::{FirAnswer, FirEntry, FirSaid, FirValue, FirVerdict};
+
+/// A no: the question, and the offset of the first record that fails.
+#[derive(Clone, Copy, PartialEq, Eq, Debug)]
+pub struct Refusal {
+    /// The question, 1 to 13.
+    pub question: u8,
+    /// The offset of the record; the image's length where records are missing.
+    pub offset: usize,
+}
+
+/// What the ten questions say of an image.
+#[derive(Clone, Copy, PartialEq, Eq, Debug)]
+pub enum Verdict {
+    /// Yes to all.
+    Accepted {
+        /// How many versions the image has.
+        versions: usize,
+    },
+    /// The first no.
+    Refused(Refusal),
+}
+
+/// How a run ended.
+#[derive(Clone, Copy, PartialEq, Eq, Debug)]
+pub enum End {
+    /// DONE with an integer.
+    Integer(i32),
+    /// DONE with a vector of so many items.
+    Vector(usize),
+    /// UNDEF.
+    Undef,
+    /// A 33rd activation was needed.
+    Deep,
+    /// A 65th vector was needed.
+    Vectors,
+    /// A 65th promise was needed.
+    Promises,
+}
+
+/// What a single step says.
+#[derive(Clone, Copy, PartialEq, Eq, Debug)]
+pub enum Said {
+    /// The run goes on.
+    GoesOn,
+    /// The run ended so, with this step or before it.
+    Ended(End),
+    /// The state is none of a begun run of this image; it is as it was.
+    Stuck,
+}
+
+/// The answer to a budget.
+#[derive(Clone, Copy, PartialEq, Eq, Debug)]
+pub enum Answer {
+    /// The budget is used up.
+    Steps,
+    /// The run ended so, under this budget or before it.
+    Ended(End),
+    /// The state is none of a begun run of this image.
+    Stuck,
+    /// Nothing was done: state and buffer are as they were.
+    Refused(Refusal),
+}
+
+/// The answer to a budget, and the steps taken under it.
+#[derive(Clone, Copy, PartialEq, Eq, Debug)]
+pub struct Ran {
+    /// The answer.
+    pub answer: Answer,
+    /// The steps taken.
+    pub steps: u32,
+}
+
+/// What a register or a name holds.
+#[derive(Clone, Copy, PartialEq, Eq, Debug)]
+pub enum Held {
+    /// Nothing.
+    Nothing,
+    /// An integer.
+    Integer(i32),
+    /// The vector at a place.
+    Vector(usize),
+    /// The promise at a place.
+    Promise(usize),
+}
+
+impl From<FirVerdict> for Verdict {
+    fn from(verdict: FirVerdict) -> Verdict {
+        match verdict.question {
+            FIR_ACCEPTED => Verdict::Accepted {
+                versions: verdict.detail,
+            },
+            question => Verdict::Refused(Refusal {
+                question,
+                offset: verdict.detail,
+            }),
+        }
+    }
+}
+
+impl From<FirEntry> for Result<(), Refusal> {
+    fn from(entry: FirEntry) -> Result<(), Refusal> {
+        match entry.question {
+            FIR_ACCEPTED => Ok(()),
+            question => Err(Refusal {
+                question,
+                offset: entry.offset.into(),
+            }),
+        }
+    }
+}
+
+impl From<FirSaid> for Said {
+    fn from(said: FirSaid) -> Said {
+        match said.code {
+            FIR_STEPS => Said::GoesOn,
+            FIR_STUCK => Said::Stuck,
+            code => Said::Ended(end(code, said.length, said.value)),
+        }
+    }
+}
+
+impl From<FirAnswer> for Ran {
+    fn from(ran: FirAnswer) -> Ran {
+        let answer = match ran.code {
+            FIR_STEPS => Answer::Steps,
+            FIR_STUCK => Answer::Stuck,
+            FIR_REFUSED => Answer::Refused(Refusal {
+                question: ran.question,
+                offset: ran.offset.into(),
+            }),
+            code => Answer::Ended(end(code, ran.length, ran.value)),
+        };
+        let steps = ran.steps;
+        Ran { answer, steps }
+    }
+}
+
+impl From<FirValue> for Option<Held> {
+    fn from(value: FirValue) -> Option<Held> {
+        match value.kind {
+            FIR_NOTHING => Some(Held::Nothing),
+            FIR_IS_INTEGER => Some(Held::Integer(value.number)),
+            FIR_IS_VECTOR => Some(Held::Vector(value.place.into())),
+            FIR_IS_PROMISE => Some(Held::Promise(value.place.into())),
+            FIR_OUTSIDE => None,
+            kind => panic!("the library gives a value of kind {kind}, which fir.h does not list"),
+        }
+    }
+}
+
+/// The end of a code, its length and its value.
+fn end(code: u8, length: u8, value: i32) -> End {
+    let length = usize::from(length);
+    match code {
+        FIR_INTEGER => End::Integer(value),
+        FIR_VECTOR if length <= FIR_ITEMS => End::Vector(length),
+        FIR_UNDEF => End::Undef,
+        FIR_DEEP => End::Deep,
+        FIR_VECTORS => End::Vectors,
+        FIR_PROMISES => End::Promises,
+        _ => panic!("the library answers {code} with length {length}, which fir.h does not list"),
+    }
+}

@@ -1,0 +1,75 @@
+//! The numbers of `fir.h`, under its names.
+
+/// The longest image.
+pub const FIR_IMAGE_BYTES: usize = 32_768;
+/// Functions are numbered below this.
+pub const FIR_FUNCTIONS: usize = 32;
+/// Versions of a function are numbered below this.
+pub const FIR_VERSIONS: usize = 4;
+/// The registers of a call.
+pub const FIR_REGISTERS: usize = 16;
+/// The names of a call.
+pub const FIR_NAMES: usize = 8;
+/// The calls and forces that live at once.
+pub const FIR_ACTIVATIONS: usize = 32;
+/// The items of a vector, and the fewest places of a result buffer.
+pub const FIR_ITEMS: usize = 16;
+
+/// No question says no.
+pub const FIR_ACCEPTED: u8 = 0;
+/// The image has 1 to 32,768 bytes.
+pub const FIR_REFUSED_SIZE: u8 = 1;
+/// Each record has a full head, a length of at least 4, and ends inside the image.
+pub const FIR_REFUSED_RECORDS: u8 = 2;
+/// Each kind is known, its length the one its fields make.
+pub const FIR_REFUSED_KINDS: u8 = 3;
+/// Numbers, counts, marks, op and n are in bounds, records in order.
+pub const FIR_REFUSED_BOUNDS: u8 = 4;
+/// The first version is 0.0, each next one follows on it.
+pub const FIR_REFUSED_NUMBERING: u8 = 5;
+/// Each type byte is allowed at its place.
+pub const FIR_REFUSED_TYPE_BYTES: u8 = 6;
+/// What is named exists.
+pub const FIR_REFUSED_EXISTENCE: u8 = 7;
+/// Types fit.
+pub const FIR_REFUSED_TYPES: u8 = 8;
+/// Each block's mark covers its effect.
+pub const FIR_REFUSED_EFFECTS: u8 = 9;
+/// Flow holds.
+pub const FIR_REFUSED_FLOW: u8 = 10;
+/// The entry exists.
+pub const FIR_REFUSED_ENTRY: u8 = 11;
+/// The argument words are used up, each argument matching its parameter.
+pub const FIR_REFUSED_ARGUMENTS: u8 = 12;
+/// The result buffer has at least 16 places.
+pub const FIR_REFUSED_BUFFER: u8 = 13;
+
+/// The run goes on: the step was taken, or the budget is used up.
+pub const FIR_STEPS: u8 = 0;
+/// DONE with an integer.
+pub const FIR_INTEGER: u8 = 1;
+/// DONE with a vector.
+pub const FIR_VECTOR: u8 = 2;
+/// UNDEF.
+pub const FIR_UNDEF: u8 = 3;
+/// DEEP: a 33rd activation is needed.
+pub const FIR_DEEP: u8 = 4;
+/// VECTORS: a 65th vector is needed.
+pub const FIR_VECTORS: u8 = 5;
+/// PROMISES: a 65th promise is needed.
+pub const FIR_PROMISES: u8 = 6;
+/// The state is none of a begun run of this image.
+pub const FIR_STUCK: u8 = 7;
+/// Refused by a question at an offset.
+pub const FIR_REFUSED: u8 = 8;
+
+/// An empty register or an unset name.
+pub const FIR_NOTHING: u8 = 0;
+/// An integer.
+pub const FIR_IS_INTEGER: u8 = 1;
+/// A vector.
+pub const FIR_IS_VECTOR: u8 = 2;
+/// A promise.
+pub const FIR_IS_PROMISE: u8 = 3;
+/// No such place of a live call.
+pub const FIR_OUTSIDE: u8 = 4;

@@ -1,0 +1,186 @@
+//! The state of a run, and what can be done with it.
+
+#![allow(unsafe_code)] // The library is called across a C boundary.
+
+use crate::answers::{Held, Ran, Refusal, Said};
+use crate::constants::{FIR_ACTIVATIONS, FIR_ITEMS, FIR_NAMES, FIR_REGISTERS};
+use crate::raw;
+use std::sync::Once;
+
+/// The registers and names of a call.
+pub const CELLS: usize = FIR_REGISTERS + FIR_NAMES;
+/// How many vectors count at once, and how many promises.
+pub const PLACES: usize = 64;
+/// The numbers of an activation in [`State::stack`].
+pub const ACTIVATION: usize = 6;
+/// The numbers of a promise in [`State::promises`].
+pub const PROMISE: usize = 3;
+
+/// The state of a run: numbers alone, field for field the `fir_state` of
+/// `fir.h`, which says what they mean. Every content is allowed.
+#[repr(C)]
+#[derive(Clone, PartialEq, Eq)]
+pub struct State {
+    /// The integers of the cells.
+    pub numbers: [i32; FIR_ACTIVATIONS * CELLS],
+    /// 16 items of each vector.
+    pub items: [i32; PLACES * FIR_ITEMS],
+    /// The integer of each promise that was forced.
+    pub caches: [i32; PLACES],
+    /// The items of a vector that the run is DONE with.
+    pub result: [i32; FIR_ITEMS],
+    /// The codes of the cells.
+    pub codes: [u16; FIR_ACTIVATIONS * CELLS],
+    /// Of each call: its function and its version.
+    pub owners: [u8; FIR_ACTIVATIONS * 2],
+    /// Of each activation: 0 call or 1 force, the promise, d, its call, block, next instruction.
+    pub stack: [u8; FIR_ACTIVATIONS * ACTIVATION],
+    /// Of each vector.
+    pub lengths: [u8; PLACES],
+    /// Of each promise: its call, its block, 1 where it was forced.
+    pub promises: [u8; PLACES * PROMISE],
+    /// How many calls are live.
+    pub calls: u8,
+    /// How many activations are live.
+    pub depth: u8,
+    /// `FIR_STEPS` while the run goes on, else its end.
+    pub status: u8,
+    /// Of the vector that the run is DONE with.
+    pub length: u8,
+    /// The integer that the run is DONE with.
+    pub value: i32,
+}
+
+/// The version that a run enters.
+#[derive(Clone, Copy, PartialEq, Eq, Debug)]
+pub struct Entry {
+    /// Its function.
+    pub function: usize,
+    /// Its number within the function.
+    pub version: usize,
+}
+
+impl State {
+    /// A state without calls: that of no run.
+    pub fn blank() -> State {
+        State {
+            numbers: [0; FIR_ACTIVATIONS * CELLS],
+            items: [0; PLACES * FIR_ITEMS],
+            caches: [0; PLACES],
+            result: [0; FIR_ITEMS],
+            codes: [0; FIR_ACTIVATIONS * CELLS],
+            owners: [0; FIR_ACTIVATIONS * 2],
+            stack: [0; FIR_ACTIVATIONS * ACTIVATION],
+            lengths: [0; PLACES],
+            promises: [0; PLACES * PROMISE],
+            calls: 0,
+            depth: 0,
+            status: 0,
+            length: 0,
+            value: 0,
+        }
+    }
+
+    /// Begins a run in this state, which stays as it was where the run is
+    /// refused. The buffer is asked for its length only.
+    pub fn begin(
+        &mut self,
+        image: &[u8],
+        entry: Entry,
+        words: &[i32],
+        buffer: &[i32],
+    ) -> Result<(), Refusal> {
+        assert_layout();
+        // SAFETY: the slices lend what their lengths say and the state is one
+        // of the library's layout; it alone is written, and `&mut` shares it
+        // with none of them.
+        let begun = unsafe {
+            raw::fir_begin(
+                image.as_ptr(),
+                image.len(),
+                entry.function,
+                entry.version,
+                words.as_ptr(),
+                words.len(),
+                buffer.as_ptr(),
+                buffer.len(),
+                self,
+            )
+        };
+        begun.into()
+    }
+
+    /// Takes a single step.
+    pub fn step(&mut self, image: &[u8]) -> Said {
+        assert_layout();
+        // SAFETY: as in `begin`.
+        unsafe { raw::fir_step(image.as_ptr(), image.len(), self) }.into()
+    }
+
+    /// Takes at most so many steps. A vector that the run is DONE with is
+    /// written to the buffer from place 0 on; all else in the buffer stays.
+    pub fn budget(&mut self, image: &[u8], budget: u32, buffer: &mut [i32]) -> Ran {
+        assert_layout();
+        // SAFETY: as in `begin`; the buffer, which is written too, is lent by a
+        // `&mut` of its own.
+        let ran = unsafe {
+            raw::fir_budget(
+                image.as_ptr(),
+                image.len(),
+                self,
+                budget,
+                buffer.as_mut_ptr(),
+                buffer.len(),
+            )
+        };
+        ran.into()
+    }
+
+    /// Begins a run in this state and takes at most so many steps; the state
+    /// stays as it was where the run is refused.
+    pub fn run(
+        &mut self,
+        image: &[u8],
+        entry: Entry,
+        words: &[i32],
+        budget: u32,
+        buffer: &mut [i32],
+    ) -> Ran {
+        assert_layout();
+        // SAFETY: as in `budget`.
+        let ran = unsafe {
+            raw::fir_run(
+                image.as_ptr(),
+                image.len(),
+                entry.function,
+                entry.version,
+                words.as_ptr(),
+                words.len(),
+                budget,
+                buffer.as_mut_ptr(),
+                buffer.len(),
+                self,
+            )
+        };
+        ran.into()
+    }
+
+    /// What a place of a live call holds: registers are the places 0 to 15,
+    /// names the places 16 to 23. None where there is no such place.
+    pub fn look(&self, call: usize, place: usize) -> Option<Held> {
+        assert_layout();
+        // SAFETY: the state is one of the library's layout, and is only read.
+        unsafe { raw::fir_look(self, call, place) }.into()
+    }
+}
+
+/// Asserts, once, that the library was built with this layout of a state.
+fn assert_layout() {
+    static ONCE: Once = Once::new();
+    ONCE.call_once(|| {
+        // SAFETY: these functions take nothing.
+        let theirs = unsafe { (raw::fir_state_size(), raw::fir_state_alignment()) };
+        let own = (size_of::<State>(), align_of::<State>());
+        assert_eq!(theirs, own, "size and alignment of a state, the library's");
+    });
+}
