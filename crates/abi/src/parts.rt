@@ -371,7 +371,7 @@ fn enter<'s>(
 ) -> Entry
     ensures { λ r. ⌜ (r ≡ beginOf (now (image .entry)) function version (now (words .entry)) (now (buffer .entry)) .entry) × Began r (beginOf (now (image .entry)) function version (now (words .entry)) (now (buffer .entry)) .state) (snapshotOf (now (numbers .entry)) (now (items .entry)) (now (caches .entry)) (now (result .entry)) (now (codes .entry)) (now (owners .entry)) (now (stack .entry)) (now (lengths .entry)) (now (promises .entry)) (now (calls .entry)) (now (depth .entry)) (now (status .entry)) (now (length .entry)) (now (value .entry))) (snapshotOf (now (numbers .exit)) (now (items .exit)) (now (caches .exit)) (now (result .exit)) (now (codes .exit)) (now (owners .exit)) (now (stack .exit)) (now (lengths .exit)) (now (promises .exit)) (now (calls .exit)) (now (depth .exit)) (now (status .exit)) (now (length .exit)) (now (value .exit))) ⌝ }
 {
-    let begun = engine::begin(image, function, version, words, buffer);
+    let begun = begin::begin(image, function, version, words, buffer);
     let entry = begun.entry;
     match entry {
         Entry::Refused(q, p) => Entry::Refused(q, p),

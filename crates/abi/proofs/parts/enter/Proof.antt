@@ -6,7 +6,7 @@ use Rattle.abi.proofs.parts.enter.Statement.{statement}
 use Rattle.abi.proofs.parts.enter.Tie as tie
 use Rattle.abi.proofs.parts.enter.Reads as reads
 use Rattle.abi.proofs.parts.enter.Lts as lts
-use Rattle.engine.proofs.begin.Reads as begin-reads
+use Rattle.begin.proofs.begin.Reads as begin-reads
 use Rattle.snapshots.proofs.store.Reads as store-reads
 
 -- src/parts.rt:374:9

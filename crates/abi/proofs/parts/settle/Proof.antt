@@ -98,7 +98,7 @@ returns-5 c =
 -- src/parts.rt:59:1
 returns-6 : tie.Need-returns-6
 returns-6 c =
-    λ numbers caches codes owners stack promises. comes-stop numbers _ caches _ codes owners stack _ promises _ _ _ _ _ _ _ _ ((c .before .before .before .before .before .before .turn3) .given .1) ((c .before .before .end-of) .ensures) ((c .end3) .ensures)
+    λ numbers caches codes owners stack promises. comes-stop numbers _ caches _ codes owners stack _ promises _ _ _ _ _ _ _ _ ((c .before .before .before .before .before .before .turn3) .given .1) ((c .before .end-of) .ensures) ((c .end3) .ensures)
 
 pub settle-spec : {M : Type 1} → statement M
 settle-spec =
