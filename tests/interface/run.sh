@@ -20,7 +20,7 @@ ok() {
     echo "interface: $*"
 }
 
-rt staticlib abi >/dev/null || fail "the library is not built"
+rt staticlib abi >/dev/null 2>&1 || fail "the library is not built"
 mkdir -p "$out"
 
 echo '#include "fir.h"' >"$out/empty.cc"
