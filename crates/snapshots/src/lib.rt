@@ -160,18 +160,18 @@ pub fn store(
     ensures { λ _. ⌜ held (snapshotOf (now (numbers .exit)) (now (items .exit)) (now (caches .exit)) (now (result .exit)) (now (codes .exit)) (now (owners .exit)) (now (stack .exit)) (now (lengths .exit)) (now (promises .exit)) (now (calls .exit)) (now (depth .exit)) (now (status .exit)) (now (length .exit)) (now (value .exit))) ≡ state ⌝ }
 {
     let frames = state.frames;
-    let activations = state.activations;
-    let vectors = state.vectors;
-    let delayed = state.promises;
-    let left = state.status;
     flat::load_frames(frames, owners, codes, numbers);
+    let activations = state.activations;
     flat::load_activations(activations, stack);
+    let vectors = state.vectors;
     flat::load_vectors(vectors, lengths, items);
+    let delayed = state.promises;
     flat::load_promises(delayed, promises, caches);
     let items_left = state.result;
     *result = items_left;
     *calls = state.calls;
     *depth = state.depth;
+    let left = state.status;
     let mark = mark(left);
     *status = mark.status;
     *length = mark.length;

@@ -12,19 +12,19 @@ use Rattle.flat.proofs.load_promises.Reads as load-promises-reads
 use Rattle.flat.proofs.load_vectors.Reads as load-vectors-reads
 use Rattle.snapshots.proofs.mark.Reads as mark-reads
 
--- src/lib.rt:167:5
+-- src/lib.rt:163:5
 load-frames-requires : tie.Need-load-frames-requires
 load-frames-requires c κs = search needs
 
--- src/lib.rt:168:5
+-- src/lib.rt:165:5
 load-activations-requires : tie.Need-load-activations-requires
 load-activations-requires c κs = search needs
 
--- src/lib.rt:169:5
+-- src/lib.rt:167:5
 load-vectors-requires : tie.Need-load-vectors-requires
 load-vectors-requires c κs = search needs
 
--- src/lib.rt:170:5
+-- src/lib.rt:169:5
 load-promises-requires : tie.Need-load-promises-requires
 load-promises-requires c κs = search needs
 
@@ -36,7 +36,7 @@ mark-requires c κs = search needs
 returns : tie.Need-returns
 unfolding snapshotOf
 returns c =
-    held-is _ ((c .before .before .before .before .before .before .before .before .before .before .before .before .before .before .before .before .before .before .before) .args .state) refl refl refl ((c .before .before .before .before .before .before .before .before .before .before .before .load-frames) .ensures .0) ((c .before .before .before .before .before .before .before .before .before .load-activations) .ensures .0) ((c .before .before .before .before .before .before .load-vectors) .ensures .0) ((c .before .before .before .load-promises) .ensures .0) (status-same _ ((c .before .mark) .result .value) _ _ (search needs) ((c .before .mark) .ensures))
+      held-is _ ((c .before .before .before .before .before .before .before .before .before .before .before .before .before .before .before .before .before .before .before) .args .state) refl refl refl ((c .before .before .before .before .before .before .before .before .before .before .before .before .before .before .load-frames) .ensures .0) ((c .before .before .before .before .before .before .before .before .before .before .before .load-activations) .ensures .0) ((c .before .before .before .before .before .before .before .load-vectors) .ensures .0) ((c .before .before .before .load-promises) .ensures .0) (status-same _ ((c .before .mark) .result .value) _ _ (search needs) ((c .before .mark) .ensures))
 
 pub store-spec : {M : Type 1} → statement M
 store-spec =

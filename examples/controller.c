@@ -1,0 +1,146 @@
+/*
+ * A controller loop: a FIR image computes the positions of three valves from the temperature that is wanted, the one that is
+ * measured, and the positions so far. It gets a budget of steps in each tick and goes on in the next one where they are used
+ * up, so a tick never takes longer than its budget.
+ *
+ *     controller            runs the image below
+ *     controller FILE       runs the image in FILE
+ */
+#include <stdio.h>
+
+#include "fir.h"
+
+#define VALVES 3
+#define TICKS 12
+#define BUDGET 15
+
+/* Function 0: a quarter of what is wanted less what is measured is added to each position, and function 1 keeps the sum
+ * within 0 to 100. */
+static const uint8_t built_in[] = {
+    21, 0, 1, 0, 0, 0, 3, 11, 3, 1, 2, 2, 3, 2, 2, 2, 2, 2, 2, 2, 3, /* VERSION 0.0 */
+    7, 0, 2, 0, 0, 10, 16,                                          /* BLOCK, its result in r10 */
+    9, 0, 16, 0, 4, 4, 0, 0, 0,                                     /* LIT r4 = 4 */
+    8, 0, 24, 0, 3, 1, 0, 1,                                        /* r3 = r0 - r1 */
+    8, 0, 24, 0, 5, 3, 3, 4,                                        /* r5 = r3 / r4 */
+    9, 0, 16, 0, 6, 0, 0, 0, 0,                                     /* LIT r6 = 0 */
+    7, 0, 22, 0, 7, 2, 6,                                           /* GET r7 = r2[r6] */
+    8, 0, 24, 0, 7, 0, 7, 5,                                        /* r7 = r7 + r5 */
+    9, 0, 33, 0, 7, 1, 0, 1, 7,                                     /* CALL r7 = 1.0(r7) */
+    9, 0, 16, 0, 6, 1, 0, 0, 0,                                     /* the same for r8 */
+    7, 0, 22, 0, 8, 2, 6,                                           /* */
+    8, 0, 24, 0, 8, 0, 8, 5,                                        /* */
+    9, 0, 33, 0, 8, 1, 0, 1, 8,                                     /* */
+    9, 0, 16, 0, 6, 2, 0, 0, 0,                                     /* and for r9 */
+    7, 0, 22, 0, 9, 2, 6,                                           /* */
+    8, 0, 24, 0, 9, 0, 9, 5,                                        /* */
+    9, 0, 33, 0, 9, 1, 0, 1, 9,                                     /* */
+    9, 0, 20, 0, 10, 3, 7, 8, 9,                                    /* VEC r10 = r7, r8, r9 */
+    17, 0, 1, 0, 1, 0, 1, 7, 2, 1, 2, 2, 2, 2, 2, 2, 2,             /* VERSION 1.0 */
+    7, 0, 2, 0, 0, 6, 6,                                            /* BLOCK, its result in r6 */
+    9, 0, 16, 0, 1, 100, 0, 0, 0,                                   /* LIT r1 = 100 */
+    8, 0, 24, 0, 2, 4, 1, 0,                                        /* r2 = r1 < r0 */
+    8, 0, 25, 0, 3, 2, 1, 0,                                        /* SELECT r3 = r2 ? r1 : r0 */
+    9, 0, 16, 0, 4, 0, 0, 0, 0,                                     /* LIT r4 = 0 */
+    8, 0, 24, 0, 5, 4, 3, 4,                                        /* r5 = r3 < r4 */
+    8, 0, 25, 0, 6, 5, 4, 3,                                        /* SELECT r6 = r5 ? r4 : r3 */
+};
+
+static uint8_t loaded[FIR_IMAGE_BYTES + 1]; /* one byte more, so that a longer file is refused and not cut */
+static uint8_t text[4096];
+static fir_state state;
+
+/* What is checked of an image, by the number of the question. */
+static const char *const questions[] = {"accepted", "size",      "records", "kinds", "bounds", "numbering", "type bytes",
+                                        "existence", "types", "effects", "flow",  "entry",  "arguments", "buffer"};
+
+static int refused(const char *what, unsigned question, size_t offset)
+{
+    printf("%s refused: %s, at %lu\n", what, questions[question], (unsigned long)offset);
+    return 1;
+}
+
+/* The plant: open valves warm it, and it loses heat. */
+static int32_t warmed(int32_t measured, const int32_t *valves)
+{
+    return measured + (valves[0] + valves[1] + valves[2]) / 12 - 5;
+}
+
+/* Begins the run of a new set of positions: what is wanted, what is measured, and the positions so far. */
+static fir_entry begin(const uint8_t *image, size_t length, int32_t wanted, int32_t measured, const int32_t *valves)
+{
+    const int32_t words[] = {-1, wanted, -1, measured, VALVES, valves[0], valves[1], valves[2]};
+    return fir_begin(image, length, 0, 0, words, sizeof words / sizeof *words, valves, FIR_ITEMS, &state);
+}
+
+static int control(const uint8_t *image, size_t length)
+{
+    int32_t valves[FIR_ITEMS] = {0};
+    int32_t measured = 180;
+    int tick;
+    fir_value error;
+    fir_answer answer;
+    fir_entry entry = begin(image, length, 215, measured, valves);
+    if (entry.question != FIR_ACCEPTED)
+        return refused("run", entry.question, entry.offset);
+    for (tick = 0; tick < TICKS; tick++) {
+        answer = fir_budget(image, length, &state, BUDGET, valves, FIR_ITEMS);
+        printf("tick %2d, %2lu steps: ", tick, (unsigned long)answer.steps);
+        switch (answer.code) {
+        case FIR_STEPS:
+            error = fir_look(&state, 0, 3);
+            printf("goes on, the error is %ld\n", (long)error.number);
+            continue;
+        case FIR_VECTOR:
+            measured = warmed(measured, valves);
+            printf("valves at %ld %ld %ld, measured %ld\n", (long)valves[0], (long)valves[1], (long)valves[2], (long)measured);
+            break;
+        case FIR_INTEGER:
+            printf("no positions, but the integer %ld\n", (long)answer.value);
+            return 1;
+        case FIR_UNDEF:
+            printf("undefined\n");
+            return 1;
+        case FIR_DEEP:
+            printf("too many calls at once\n");
+            return 1;
+        case FIR_VECTORS:
+            printf("too many vectors\n");
+            return 1;
+        case FIR_PROMISES:
+            printf("too many promises\n");
+            return 1;
+        case FIR_STUCK:
+            printf("the state is none of a run of this image\n");
+            return 1;
+        case FIR_REFUSED:
+        default:
+            return refused("budget", answer.question, answer.offset);
+        }
+        entry = begin(image, length, 215, measured, valves);
+        if (entry.question != FIR_ACCEPTED)
+            return refused("run", entry.question, entry.offset);
+    }
+    return 0;
+}
+
+int main(int count, char **arguments)
+{
+    const uint8_t *image = built_in;
+    size_t length = sizeof built_in;
+    fir_verdict verdict;
+    if (count > 1) {
+        FILE *file = fopen(arguments[1], "rb");
+        if (file == NULL) {
+            perror(arguments[1]);
+            return 2;
+        }
+        image = loaded;
+        length = fread(loaded, 1, sizeof loaded, file);
+        fclose(file);
+    }
+    verdict = fir_check(image, length);
+    if (verdict.question != FIR_ACCEPTED)
+        return refused("image", verdict.question, verdict.detail);
+    fwrite(text, 1, fir_report(image, length, text, sizeof text), stdout);
+    return control(image, length);
+}

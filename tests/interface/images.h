@@ -1,0 +1,84 @@
+/* Images for the hosts of the interface, put together record by record. */
+#ifndef IMAGES_H
+#define IMAGES_H
+
+#include <string.h>
+
+#include "fir.h"
+
+typedef struct image {
+    uint8_t bytes[FIR_IMAGE_BYTES];
+    size_t length;
+} image;
+
+static void record(image *to, unsigned kind, const uint8_t *body, size_t length)
+{
+    uint8_t *at = to->bytes + to->length;
+    at[0] = (uint8_t)((length + 4) & 255);
+    at[1] = (uint8_t)((length + 4) >> 8);
+    at[2] = (uint8_t)kind;
+    at[3] = 0;
+    memcpy(at + 4, body, length);
+    to->length += length + 4;
+}
+
+#define RECORD(to, kind, ...)                        \
+    do {                                             \
+        const uint8_t body[] = {__VA_ARGS__};        \
+        record(to, kind, body, sizeof body);         \
+    } while (0)
+
+enum { VERSION = 1, BLOCK = 2, LIT = 16, VEC = 20, ARITH = 24, SELECT = 25, PROM = 29, FORCE = 30, CALL = 33, DISPATCH = 34 };
+
+/* r0 counted down to 0 by a call of itself through an arithmetic of `busy` instructions: long runs, deep calls. */
+static void countdown(image *to, unsigned busy)
+{
+    unsigned i;
+    to->length = 0;
+    RECORD(to, VERSION, 0, 0, 1, 4, 2, 1, 2, 2, 2, 2);
+    RECORD(to, BLOCK, 0, 3, (uint8_t)(busy + 3));
+    RECORD(to, LIT, 1, 1, 0, 0, 0);
+    RECORD(to, ARITH, 2, 1, 0, 1);
+    for (i = 0; i < busy; i++)
+        RECORD(to, ARITH, 3, 0, 0, 1);
+    RECORD(to, CALL, 3, 0, 0, 1, 2);
+}
+
+/* Straight arithmetic of 47 instructions in each of `functions` functions, each calling the next. */
+static void chain(image *to, unsigned functions)
+{
+    unsigned f, i;
+    to->length = 0;
+    for (f = 0; f < functions; f++) {
+        RECORD(to, VERSION, (uint8_t)f, 0, 1, 3, 2, 1, 2, 2, 2);
+        RECORD(to, BLOCK, 0, 2, 48);
+        RECORD(to, LIT, 1, 1, 0, 0, 0);
+        for (i = 0; i < 46; i++)
+            RECORD(to, ARITH, 2, 0, 0, 1);
+        if (f + 1 < functions)
+            RECORD(to, CALL, 2, (uint8_t)(f + 1), 0, 1, 0);
+        else
+            RECORD(to, ARITH, 2, 0, 0, 1);
+    }
+}
+
+/* Seven promise blocks, each made and forced by the one before it, and a dispatch at the end. */
+static void nested(image *to)
+{
+    unsigned b;
+    to->length = 0;
+    RECORD(to, VERSION, 0, 0, 1, 16, 2, 8, 2, 4, 4, 4, 4, 4, 4, 4, 2, 2, 2, 2, 2, 2, 2, 2);
+    for (b = 0; b < 8; b++) {
+        RECORD(to, BLOCK, 0, (uint8_t)(8 + b), b < 7 ? 2 : 1);
+        if (b < 7) {
+            RECORD(to, PROM, (uint8_t)(1 + b), (uint8_t)(b + 1));
+            RECORD(to, FORCE, (uint8_t)(8 + b), (uint8_t)(1 + b));
+        } else {
+            RECORD(to, DISPATCH, 15, 1, 0, 2, 1, 2, 0);
+        }
+    }
+    RECORD(to, VERSION, 1, 0, 1, 1, 2, 1, 2);
+    RECORD(to, BLOCK, 0, 0, 0);
+}
+
+#endif

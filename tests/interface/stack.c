@@ -1,0 +1,89 @@
+/* How deep each function of the interface goes on its stack: it is called on a thread whose stack is painted, and the paint
+ * that is gone is counted, less what a call of an empty function takes. */
+#define _POSIX_C_SOURCE 200112L
+#include <pthread.h>
+#include <stdio.h>
+#include <stdlib.h>
+
+#include "images.h"
+
+#define STACK (4u << 20)
+#define LIMIT (48u << 10)
+#define PAINT 0xa5
+
+static image tried;
+static fir_state state;
+static int32_t buffer[FIR_ITEMS];
+static const int32_t words[] = {-1, 40};
+static uint8_t text[1u << 16];
+
+static void nothing(void) { }
+static void check(void) { fir_check(tried.bytes, tried.length); }
+static void report(void) { fir_report(tried.bytes, tried.length, text, sizeof text); }
+static void begin(void) { fir_begin(tried.bytes, tried.length, 0, 0, words, 2, buffer, FIR_ITEMS, &state); }
+static void step(void) { fir_step(tried.bytes, tried.length, &state); }
+static void budget(void) { fir_budget(tried.bytes, tried.length, &state, 100000, buffer, FIR_ITEMS); }
+static void run(void) { fir_run(tried.bytes, tried.length, 0, 0, words, 2, 100000, buffer, FIR_ITEMS, &state); }
+static void look(void) { fir_look(&state, 0, 3); }
+
+static void *call(void *function)
+{
+    ((void (*)(void))(*(void (**)(void))function))();
+    return NULL;
+}
+
+static size_t depth(void (*function)(void))
+{
+    static uint8_t *stack;
+    size_t left = 0;
+    pthread_t thread;
+    pthread_attr_t attributes;
+    if (stack == NULL && posix_memalign((void **)&stack, 4096, STACK) != 0)
+        exit(2);
+    memset(stack, PAINT, STACK);
+    pthread_attr_init(&attributes);
+    if (pthread_attr_setstack(&attributes, stack, STACK) != 0 || pthread_create(&thread, &attributes, call, &function) != 0)
+        exit(2);
+    pthread_join(thread, NULL);
+    while (left < STACK && stack[left] == PAINT)
+        left++;
+    return STACK - left;
+}
+
+int main(void)
+{
+    static const struct {
+        const char *name;
+        void (*function)(void);
+    } calls[] = {{"fir_check", check}, {"fir_report", report}, {"fir_begin", begin}, {"fir_step", step},
+                 {"fir_budget", budget}, {"fir_run", run}, {"fir_look", look}};
+    size_t least = depth(nothing);
+    size_t deepest[sizeof calls / sizeof *calls] = {0};
+    size_t i, kind;
+    int failed = 0;
+    for (kind = 0; kind < 3; kind++) {
+        if (kind == 0)
+            countdown(&tried, 40);
+        else if (kind == 1)
+            chain(&tried, FIR_FUNCTIONS);
+        else
+            nested(&tried);
+        if (fir_check(tried.bytes, tried.length).question != FIR_ACCEPTED) {
+            printf("stack: image %lu is refused\n", (unsigned long)kind);
+            return 1;
+        }
+        for (i = 0; i < sizeof calls / sizeof *calls; i++) {
+            size_t taken = depth(calls[i].function) - least;
+            if (deepest[i] < taken)
+                deepest[i] = taken;
+        }
+    }
+    for (i = 0; i < sizeof calls / sizeof *calls; i++) {
+        printf("stack: %s %lu bytes\n", calls[i].name, (unsigned long)deepest[i]);
+        failed += deepest[i] > LIMIT;
+    }
+    if (failed != 0)
+        return 1;
+    printf("stack: %lu passed\n", (unsigned long)(sizeof calls / sizeof *calls));
+    return 0;
+}
