@@ -26,6 +26,15 @@ static void budget(void) { fir_budget(tried.bytes, tried.length, &state, 100000,
 static void run(void) { fir_run(tried.bytes, tried.length, 0, 0, words, 2, 100000, buffer, FIR_ITEMS, &state); }
 static void look(void) { fir_look(&state, 0, 3); }
 
+/* Runs that are refused by 11, 12 and 13. */
+static void refusals(void)
+{
+    fir_begin(tried.bytes, tried.length, 31, 3, words, 2, buffer, FIR_ITEMS, &state);
+    fir_begin(tried.bytes, tried.length, 0, 0, words, 1, buffer, FIR_ITEMS, &state);
+    fir_run(tried.bytes, tried.length, 0, 0, words, 2, 1000, buffer, FIR_ITEMS - 1, &state);
+    fir_budget(tried.bytes, tried.length, &state, 1000, buffer, FIR_ITEMS - 1);
+}
+
 static void *call(void *function)
 {
     ((void (*)(void))(*(void (**)(void))function))();
@@ -56,7 +65,7 @@ int main(void)
         const char *name;
         void (*function)(void);
     } calls[] = {{"fir_check", check}, {"fir_report", report}, {"fir_begin", begin}, {"fir_step", step},
-                 {"fir_budget", budget}, {"fir_run", run}, {"fir_look", look}};
+                 {"fir_budget", budget}, {"fir_run", run}, {"fir_look", look}, {"refusals", refusals}};
     size_t least = depth(nothing);
     size_t deepest[sizeof calls / sizeof *calls] = {0};
     size_t i, kind;
