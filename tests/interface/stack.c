@@ -8,6 +8,7 @@
 #include "images.h"
 
 #define STACK (4u << 20)
+#define LIMIT (48u << 10)
 #define PAINT 0xa5
 
 static image tried;
@@ -19,12 +20,20 @@ static uint8_t text[1u << 16];
 static void nothing(void) { }
 static void check(void) { fir_check(tried.bytes, tried.length); }
 static void report(void) { fir_report(tried.bytes, tried.length, text, sizeof text); }
-static void refuse(void) { fir_begin(tried.bytes, tried.length - 1, 0, 0, words, 2, buffer, FIR_ITEMS, &state); }
 static void begin(void) { fir_begin(tried.bytes, tried.length, 0, 0, words, 2, buffer, FIR_ITEMS, &state); }
 static void step(void) { fir_step(tried.bytes, tried.length, &state); }
 static void budget(void) { fir_budget(tried.bytes, tried.length, &state, 100000, buffer, FIR_ITEMS); }
 static void run(void) { fir_run(tried.bytes, tried.length, 0, 0, words, 2, 100000, buffer, FIR_ITEMS, &state); }
 static void look(void) { fir_look(&state, 0, 3); }
+
+/* Runs that are refused by 11, 12 and 13. */
+static void refusals(void)
+{
+    fir_begin(tried.bytes, tried.length, 31, 3, words, 2, buffer, FIR_ITEMS, &state);
+    fir_begin(tried.bytes, tried.length, 0, 0, words, 1, buffer, FIR_ITEMS, &state);
+    fir_run(tried.bytes, tried.length, 0, 0, words, 2, 1000, buffer, FIR_ITEMS - 1, &state);
+    fir_budget(tried.bytes, tried.length, &state, 1000, buffer, FIR_ITEMS - 1);
+}
 
 static void *call(void *function)
 {
@@ -55,9 +64,8 @@ int main(void)
     static const struct {
         const char *name;
         void (*function)(void);
-        size_t most; /* in KiB */
-    } calls[] = {{"fir_check", check, 8},   {"fir_report", report, 8}, {"fir_begin, refused", refuse, 56}, {"fir_begin", begin, 56},
-                 {"fir_step", step, 8},     {"fir_budget", budget, 8}, {"fir_run", run, 56},               {"fir_look", look, 8}};
+    } calls[] = {{"fir_check", check}, {"fir_report", report}, {"fir_begin", begin}, {"fir_step", step},
+                 {"fir_budget", budget}, {"fir_run", run}, {"fir_look", look}, {"refusals", refusals}};
     size_t least = depth(nothing);
     size_t deepest[sizeof calls / sizeof *calls] = {0};
     size_t i, kind;
@@ -81,7 +89,7 @@ int main(void)
     }
     for (i = 0; i < sizeof calls / sizeof *calls; i++) {
         printf("stack: %s %lu bytes\n", calls[i].name, (unsigned long)deepest[i]);
-        failed += deepest[i] > calls[i].most << 10;
+        failed += deepest[i] > LIMIT;
     }
     if (failed != 0)
         return 1;

@@ -1,5 +1,5 @@
 -- What steps come to, in the parts of a state.
-use mathlib.Core.Path.{_≡_, refl, sym, ap, subst, _∙_}
+use mathlib.Core.Path.{_≡_, refl, sym, ap, _∙_}
 use mathlib.Core.List.{List}
 use mathlib.Core.Bool.{Bool, cond, true, false}
 use mathlib.Core.Option.{Option, none, some}
@@ -37,10 +37,9 @@ use Rattle.stepping.specs.Going.{Resumes, ranOf}
 use Rattle.stepping.specs.declared.Counted.{Counted}
 use Rattle.engine.specs.Parts.{saidOf}
 use Rattle.engine.proofs.Driving.{delivers, leaves, refuses, run-begun, run-refused, steps-once, takes, under-ended, under-running}
-use Rattle.abi.specs.Answers.{answerNumbers, entryNumbers, saidNumbers}
+use Rattle.abi.specs.Answers.{answerNumbers, saidNumbers}
 use Rattle.abi.specs.Exits.{Answers, Began, Comes, Left}
 use Rattle.abi.specs.declared.answers.FirAnswer.{FirAnswer}
-use Rattle.abi.specs.declared.answers.FirEntry.{FirEntry}
 use Rattle.abi.specs.declared.answers.FirSaid.{FirSaid}
 use Rattle.abi.specs.declared.parts.Outcome.{Outcome}
 
@@ -207,10 +206,6 @@ taken-left P s n buffer E E′ X e h = rw (e, budgetOf) (go (budgetIn P s n (s .
     go u Answer.Steps t h = h
     go u (Answer.Ended e) t h = h
     go u Answer.Stuck t h = h
-
--- a beginning in numbers
-pub begins : (b : Begun) (E X : Snapshot) (x : Entry) → (x ≡ b .entry) × Began x (b .state) E X → {r : FirEntry} → r ≡ entryNumbers x → (r ≡ entryNumbers (b .entry)) × Began (b .entry) (b .state) E X
-begins b E X x h e = (e ∙ ap entryNumbers (h .0), subst (λ (u : Entry). Began u (b .state) E X) (h .0) (h .1))
 
 began-refused : (x : Entry) (s : State) (E X : Snapshot) (q p : ℕ) → x ≡ Entry.Refused q p → Began x s E X → X ≡ E
 unfolding Began

@@ -3,3 +3,4 @@ pub mod Fields
 pub mod Lent
 pub mod Looking
 pub mod Seen
+pub mod Starting

@@ -4,11 +4,14 @@ ghost use Prim.Native.Nat.{ℕ, _<_};
 ghost use lib.ListN.{length};
 ghost use lib.IntN.{ℤ};
 ghost use mathlib.Core.List.{List};
-ghost use Rattle.machine.specs.Begin.{beginOf, programOf, runOf};
+ghost use Rattle.machine.specs.Begin.{arguments, beginOf, programOf, question12, runOf};
 ghost use Rattle.machine.specs.Runs.{budgetIn, budgetOf, bufferOf, runFrom, stepOf};
 ghost use Rattle.machine.specs.declared.Answer.{Answer};
 ghost use Rattle.machine.specs.declared.Status.{Status};
 ghost use Rattle.memory.specs.Memory.{memoryOf};
+ghost use Rattle.program.specs.Places.{versionAt};
+ghost use Rattle.program.specs.Program.{parameterTypes};
+ghost use Rattle.begin.specs.Filled.{Limited, startedOf};
 ghost use Rattle.snapshots.specs.Held.{held, snapshotOf, statusOf};
 ghost use Rattle.stepping.specs.Going.{Placed, Sized, ranOf};
 ghost use Rattle.abi.specs.Answers.{entryNumbers, saidNumbers};
@@ -19,11 +22,17 @@ use crate::answers::FirAnswer;
 use crate::answers::FirEntry;
 use crate::answers::FirSaid;
 use crate::answers::FirValue;
+use checker::Verdict;
+use checker::questions;
 use instructions::Turn;
+use layout::Found;
 use machine::Answer;
 use machine::End;
 use machine::Entry;
+use machine::Frame;
 use machine::Status;
+use machine::Vector;
+use program::lookup;
 use stepping::Counted;
 
 /// The fewest places of a result buffer.
@@ -347,7 +356,103 @@ pub fn budget<'s>(
     answers::answer(answer, outcome.steps)
 }
 
-/// Begins a run: its first state is stored. A refusal writes nothing.
+/// Writes the first state of a run whose one call has the frame, with these vectors.
+fn start<'s>(
+    frame: Frame,
+    vectors: [Vector; 64],
+    numbers: &'s mut [i32; 768],
+    items: &'s mut [i32; 1024],
+    caches: &'s mut [i32; 64],
+    result: &'s mut [i32; 16],
+    codes: &'s mut [u16; 768],
+    owners: &'s mut [u8; 64],
+    stack: &'s mut [u8; 192],
+    lengths: &'s mut [u8; 64],
+    promises: &'s mut [u8; 192],
+    calls: &'s mut u8,
+    depth: &'s mut u8,
+    status: &'s mut u8,
+    length: &'s mut u8,
+    value: &'s mut i32,
+)
+    ensures { λ _. ⌜ held (snapshotOf (now (numbers .exit)) (now (items .exit)) (now (caches .exit)) (now (result .exit)) (now (codes .exit)) (now (owners .exit)) (now (stack .exit)) (now (lengths .exit)) (now (promises .exit)) (now (calls .exit)) (now (depth .exit)) (now (status .exit)) (now (length .exit)) (now (value .exit))) ≡ startedOf frame vectors ⌝ }
+{
+    let blank = Frame::new(0, 0);
+    let mut frames = [blank; 32];
+    frames[0] = frame;
+    flat::load_frames(frames, owners, codes, numbers);
+    flat::load_vectors(vectors, lengths, items);
+    *stack = [0; 192];
+    *promises = [0; 192];
+    *caches = [0; 64];
+    *result = [0; 16];
+    *calls = 1;
+    *depth = 1;
+    *status = 0;
+    *length = 0;
+    *value = 0;
+}
+
+/// Begins a run of the version at `v`: questions 12 and 13.
+fn entered<'s>(
+    image: &[u8],
+    v: usize,
+    words: &[i32],
+    buffer: &[i32],
+    numbers: &'s mut [i32; 768],
+    items: &'s mut [i32; 1024],
+    caches: &'s mut [i32; 64],
+    result: &'s mut [i32; 16],
+    codes: &'s mut [u16; 768],
+    owners: &'s mut [u8; 64],
+    stack: &'s mut [u8; 192],
+    lengths: &'s mut [u8; 64],
+    promises: &'s mut [u8; 192],
+    calls: &'s mut u8,
+    depth: &'s mut u8,
+    status: &'s mut u8,
+    length: &'s mut u8,
+    value: &'s mut i32,
+) -> Entry
+    requires { ⌜ Limited (versionAt (now image) v) ⌝ }
+    ensures { λ r. ⌜ (r ≡ question12 (versionAt (now (image .entry)) v) (arguments (parameterTypes (versionAt (now (image .entry)) v)) (now (words .entry))) (now (buffer .entry)) .entry) × Began r (question12 (versionAt (now (image .entry)) v) (arguments (parameterTypes (versionAt (now (image .entry)) v)) (now (words .entry))) (now (buffer .entry)) .state) (snapshotOf (now (numbers .entry)) (now (items .entry)) (now (caches .entry)) (now (result .entry)) (now (codes .entry)) (now (owners .entry)) (now (stack .entry)) (now (lengths .entry)) (now (promises .entry)) (now (calls .entry)) (now (depth .entry)) (now (status .entry)) (now (length .entry)) (now (value .entry))) (snapshotOf (now (numbers .exit)) (now (items .exit)) (now (caches .exit)) (now (result .exit)) (now (codes .exit)) (now (owners .exit)) (now (stack .exit)) (now (lengths .exit)) (now (promises .exit)) (now (calls .exit)) (now (depth .exit)) (now (status .exit)) (now (length .exit)) (now (value .exit))) ⌝ }
+{
+    let filled = begin::fill(image, v, words);
+    let whole = filled.whole;
+    if !whole {
+        return Entry::Refused(12, 0);
+    }
+    if buffer.len() < ITEMS {
+        return Entry::Refused(13, 0);
+    }
+    let function = layout::field(image, v, 0) as u8;
+    let version = layout::field(image, v, 1) as u8;
+    let mut frame = Frame::new(function, version);
+    let registers = filled.registers;
+    frame.registers = registers;
+    let vectors = filled.vectors;
+    start(
+        frame,
+        vectors,
+        numbers,
+        items,
+        caches,
+        result,
+        codes,
+        owners,
+        stack,
+        lengths,
+        promises,
+        calls,
+        depth,
+        status,
+        length,
+        value,
+    );
+    Entry::Begun
+}
+
+/// Begins a run: its first state is written. A refusal writes nothing.
 fn enter<'s>(
     image: &[u8],
     function: usize,
@@ -371,14 +476,15 @@ fn enter<'s>(
 ) -> Entry
     ensures { λ r. ⌜ (r ≡ beginOf (now (image .entry)) function version (now (words .entry)) (now (buffer .entry)) .entry) × Began r (beginOf (now (image .entry)) function version (now (words .entry)) (now (buffer .entry)) .state) (snapshotOf (now (numbers .entry)) (now (items .entry)) (now (caches .entry)) (now (result .entry)) (now (codes .entry)) (now (owners .entry)) (now (stack .entry)) (now (lengths .entry)) (now (promises .entry)) (now (calls .entry)) (now (depth .entry)) (now (status .entry)) (now (length .entry)) (now (value .entry))) (snapshotOf (now (numbers .exit)) (now (items .exit)) (now (caches .exit)) (now (result .exit)) (now (codes .exit)) (now (owners .exit)) (now (stack .exit)) (now (lengths .exit)) (now (promises .exit)) (now (calls .exit)) (now (depth .exit)) (now (status .exit)) (now (length .exit)) (now (value .exit))) ⌝ }
 {
-    let begun = begin::begin(image, function, version, words, buffer);
-    let entry = begun.entry;
-    match entry {
-        Entry::Refused(q, p) => Entry::Refused(q, p),
-        Entry::Begun => {
-            let state = begun.state;
-            snapshots::store(
-                state,
+    match questions::verdict(image) {
+        Verdict::Refused(q, p) => Entry::Refused(q, p as u16),
+        Verdict::Accepted(_) => match lookup::version(image, function, version) {
+            Found::Nothing => Entry::Refused(11, 0),
+            Found::At(v) => entered(
+                image,
+                v,
+                words,
+                buffer,
                 numbers,
                 items,
                 caches,
@@ -393,9 +499,8 @@ fn enter<'s>(
                 status,
                 length,
                 value,
-            );
-            Entry::Begun
-        }
+            ),
+        },
     }
 }
 

@@ -39,10 +39,10 @@ enum Argument {
 }
 
 /// What the arguments make: the first registers and the first vectors; `whole` where there is one for each parameter and no word is left.
-struct Filled {
-    whole: bool,
-    registers: [Place; 16],
-    vectors: [Vector; 64],
+pub struct Filled {
+    pub whole: bool,
+    pub registers: [Place; 16],
+    pub vectors: [Vector; 64],
 }
 
 /// The argument that begins at the word `p`, if there is one.
@@ -130,7 +130,7 @@ fn unfilled() -> Filled
 }
 
 /// Reads an argument for each parameter of the version at `v`.
-fn fill(image: &[u8], v: usize, words: &[i32]) -> Filled
+pub fn fill(image: &[u8], v: usize, words: &[i32]) -> Filled
     requires { ⌜ Limited (versionAt (now image) v) ⌝ }
     ensures { λ r. ⌜ r ≡ filledOf (arguments (parameterTypes (versionAt (now (image .entry)) v)) (now (words .entry))) ⌝ }
 {

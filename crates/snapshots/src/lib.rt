@@ -1,6 +1,6 @@
 //! The state of a run as a struct of numbers, and back.
 ghost use mathlib.Core.Path.{_≡_};
-ghost use Rattle.snapshots.specs.Held.{endingOf, held, snapshotOf, statusOf};
+ghost use Rattle.snapshots.specs.Held.{endingOf, held, statusOf};
 use machine::End;
 use machine::State;
 use machine::Status;
@@ -139,42 +139,43 @@ pub fn state(snapshot: Snapshot) -> State
     }
 }
 
-/// Stores a state: its snapshot is written to the parts.
-pub fn store(
-    state: State,
-    numbers: &mut [i32; 768],
-    items: &mut [i32; 1024],
-    caches: &mut [i32; 64],
-    result: &mut [i32; 16],
-    codes: &mut [u16; 768],
-    owners: &mut [u8; 64],
-    stack: &mut [u8; 192],
-    lengths: &mut [u8; 64],
-    promises: &mut [u8; 192],
-    calls: &mut u8,
-    depth: &mut u8,
-    status: &mut u8,
-    length: &mut u8,
-    value: &mut i32,
-)
-    ensures { λ _. ⌜ held (snapshotOf (now (numbers .exit)) (now (items .exit)) (now (caches .exit)) (now (result .exit)) (now (codes .exit)) (now (owners .exit)) (now (stack .exit)) (now (lengths .exit)) (now (promises .exit)) (now (calls .exit)) (now (depth .exit)) (now (status .exit)) (now (length .exit)) (now (value .exit))) ≡ state ⌝ }
+/// A snapshot of a state.
+pub fn snapshot_of(state: State) -> Snapshot
+    ensures { λ r. ⌜ held r ≡ state ⌝ }
 {
     let frames = state.frames;
-    flat::load_frames(frames, owners, codes, numbers);
     let activations = state.activations;
-    flat::load_activations(activations, stack);
     let vectors = state.vectors;
-    flat::load_vectors(vectors, lengths, items);
     let delayed = state.promises;
-    flat::load_promises(delayed, promises, caches);
-    let items_left = state.result;
-    *result = items_left;
-    *calls = state.calls;
-    *depth = state.depth;
-    let left = state.status;
-    let mark = mark(left);
-    *status = mark.status;
-    *length = mark.length;
-    let z = mark.value;
-    *value = z;
+    let result = state.result;
+    let status = state.status;
+    let mut owners = [0u8; 64];
+    let mut codes = [0u16; 768];
+    let mut numbers = [0i32; 768];
+    let mut stack = [0u8; 192];
+    let mut lengths = [0u8; 64];
+    let mut items = [0i32; 1024];
+    let mut promises = [0u8; 192];
+    let mut caches = [0i32; 64];
+    flat::load_frames(frames, &mut owners, &mut codes, &mut numbers);
+    flat::load_activations(activations, &mut stack);
+    flat::load_vectors(vectors, &mut lengths, &mut items);
+    flat::load_promises(delayed, &mut promises, &mut caches);
+    let mark = mark(status);
+    Snapshot {
+        numbers: numbers,
+        items: items,
+        caches: caches,
+        result: result,
+        codes: codes,
+        owners: owners,
+        stack: stack,
+        lengths: lengths,
+        promises: promises,
+        calls: state.calls,
+        depth: state.depth,
+        status: mark.status,
+        length: mark.length,
+        value: mark.value,
+    }
 }

@@ -1,4 +1,4 @@
-use Rattle.abi.proofs.Coming.{begins}
+use Rattle.abi.proofs.Starting.{begins}
 use borrow.Author.Needs.{needs}
 use Rattle.abi.proofs.parts.begin.Statement.{statement}
 use Rattle.abi.proofs.parts.begin.Tie as tie

@@ -1,42 +1,78 @@
-use Rattle.abi.specs.Exits.{Began}
-use Rattle.machine.specs.declared.Begun.{Begun}
-use mathlib.Core.Path.{refl, sym, ap, _∙_}
+use Rattle.abi.proofs.Starting.{began-as, began-not}
+use native.Mathlib.Omega.{arith}
+use mathlib.Core.Path.{sym, _∙_}
+use Rattle.checker.proofs.Offsets.{refused-low}
+use Rattle.begin.proofs.Answers.{refused-by, no-entry, entry-at, entry-bounded}
 use borrow.Author.Needs.{needs}
 use Rattle.abi.proofs.parts.enter.Statement.{statement}
 use Rattle.abi.proofs.parts.enter.Tie as tie
 use Rattle.abi.proofs.parts.enter.Reads as reads
 use Rattle.abi.proofs.parts.enter.Lts as lts
-use Rattle.begin.proofs.begin.Reads as begin-reads
-use Rattle.snapshots.proofs.store.Reads as store-reads
+use Rattle.abi.proofs.parts.entered.Reads as entered-reads
+use Rattle.checker.proofs.questions.verdict.Reads as verdict-reads
+use Rattle.program.proofs.lookup.version.Reads as version-reads
 
--- src/parts.rt:374:9
-begin-requires : tie.Need-begin-requires
-begin-requires c κs = search needs
+-- src/parts.rt:479:11
+verdict-requires : tie.Need-verdict-requires
+verdict-requires c κs = search needs
 
--- src/parts.rt:377:24
-enum-known-entry : tie.Need-enum-known-entry
-enum-known-entry c = search needs
+-- src/parts.rt:480:26
+enum-known-q : tie.Need-enum-known-q
+enum-known-q c = search needs
 
--- src/parts.rt:379:17
+-- src/parts.rt:480:53
+cast-t25 : tie.Need-cast-t25
+cast-t25 c =
+    record { fits = omega (arith, refused-low _ _ _ (sym ((c .before .before .before .verdict) .ensures) ∙ (c .before .q) .given .1)) }
+
+-- src/parts.rt:481:39
 enum-told : tie.Need-enum-told
 enum-told c = search needs
 
--- src/parts.rt:380:13
-store-requires : tie.Need-store-requires
-store-requires c κs = search needs
+-- src/parts.rt:481:39
+version-requires : tie.Need-version-requires
+version-requires c κs = search needs
 
--- src/parts.rt:351:1
+-- src/parts.rt:482:31
+enum-told-2 : tie.Need-enum-told-2
+enum-told-2 c = search needs
+
+-- src/parts.rt:483:23
+enum-known-v : tie.Need-enum-known-v
+enum-known-v c = search needs
+
+-- src/parts.rt:483:29
+entered-requires : tie.Need-entered-requires
+entered-requires c κs =
+    entry-bounded _ _ _ ((c .before .before .before .before .before .before .before .before .before .before .before .before .before .before .before .before .before .before .before .before .before .before) .args .words .now) ((c .before .before .before .before .before .before .before .before .before .before .before .before .before .before .before .before .before .before .before .before .before .before) .args .buffer .now) _ (sym ((c .before .before .before .before .before .before .before .before .before .before .before .before .before .before .before .before .before .before .before .before .verdict) .ensures) ∙ (c .before .before .before .before .before .before .before .before .before .before .before .before .before .before .before .before .before .before .enum-told) .given .1) _ (sym ((c .before .before .before .before .before .before .before .before .before .before .before .before .before .before .before .before .before .version) .ensures) ∙ (c .before .before .before .before .before .before .before .before .before .before .before .before .before .before .before .v) .given .1)
+
+-- src/parts.rt:456:1
 returns : tie.Need-returns
-unfolding Began
 returns c =
-    (sym ((c .before .entry) .given .1) ∙ ap (λ (b : Begun). b .entry) ((c .before .before .before .begin) .ensures), refl)
+    began-not _ _ _ _ (refused-by _ _ _ _ _ _ _ (sym ((c .before .before .before .verdict) .ensures) ∙ (c .before .q) .given .1))
 
--- src/parts.rt:351:1
+-- src/parts.rt:456:1
 returns-2 : tie.Need-returns-2
-unfolding Began
 returns-2 c =
-    (sym ((c .before .before .before .before .before .before .before .before .before .before .before .before .before .before .before .before .enum-told) .given .1) ∙ ap (λ (b : Begun). b .entry) ((c .before .before .before .before .before .before .before .before .before .before .before .before .before .before .before .before .before .before .begin) .ensures), (c .store) .ensures ∙ ap (λ (b : Begun). b .state) ((c .before .before .before .before .before .before .before .before .before .before .before .before .before .before .before .before .before .before .begin) .ensures))
+    began-not _ _ _ _ (no-entry _ _ _ _ _ _ (sym ((c .before .before .before .before .before .verdict) .ensures) ∙ (c .before .before .before .enum-told) .given .1) (sym ((c .before .before .version) .ensures) ∙ (c .enum-told2) .given .1))
+
+-- src/parts.rt:456:1
+returns-3 : tie.Need-returns-3
+returns-3 c =
+    began-as _ _ _ _ _ (entry-at _ _ _ _ _ _ (sym ((c .before .before .before .before .before .before .before .before .before .before .before .before .before .before .before .before .before .before .before .before .before .verdict) .ensures) ∙ (c .before .before .before .before .before .before .before .before .before .before .before .before .before .before .before .before .before .before .before .enum-told) .given .1) _ (sym ((c .before .before .before .before .before .before .before .before .before .before .before .before .before .before .before .before .before .before .version) .ensures) ∙ (c .before .before .before .before .before .before .before .before .before .before .before .before .before .before .before .before .v) .given .1)) ((c .entered) .ensures)
 
 pub enter-spec : {M : Type 1} → statement M
 enter-spec =
-    tie.close (tie.spec begin-requires enum-known-entry enum-told store-requires returns returns-2)
+    tie.close
+    (tie.spec
+    verdict-requires
+    enum-known-q
+    cast-t25
+    enum-told
+    version-requires
+    enum-told-2
+    enum-known-v
+    entered-requires
+    returns
+    returns-2
+    returns-3)
