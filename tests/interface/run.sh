@@ -20,8 +20,8 @@ ok() {
     echo "interface: $*"
 }
 
-rt staticlib abi >/dev/null 2>&1 || fail "the library is not built"
 mkdir -p "$out"
+rt staticlib abi >"$out/library.txt" 2>&1 || { cat "$out/library.txt"; fail "the library is not built"; }
 
 echo '#include "fir.h"' >"$out/empty.cc"
 c++ -x c++ -std=c++98 -Wall -Wextra -Werror -Iinclude -c "$out/empty.cc" -o "$out/empty_cc.o" || fail "the header as C++98"

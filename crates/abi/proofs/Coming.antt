@@ -3,7 +3,7 @@ use mathlib.Core.Path.{_≡_, refl, sym, ap, _∙_}
 use mathlib.Core.List.{List}
 use mathlib.Core.Bool.{Bool, cond, true, false}
 use mathlib.Core.Option.{Option, none, some}
-use Prim.Native.Nat.{ℕ, zero, suc, _+_, _<_, _≤_}
+use Prim.Native.Nat.{ℕ, zero, suc, _+_, _≤_}
 use lib.IntN.{ℤ}
 use lib.ListN.{length}
 use lib.Dec.{ltb}
@@ -12,7 +12,7 @@ use Rattle.checker.specs.Verdicts.{verdictOf}
 use Rattle.checker.specs.declared.Verdict.{Verdict}
 use Rattle.machine.specs.Begin.{Given, arguments, beginAfter, beginOf, enteredOf, programOf, question11, question12, question13, refused, runOf}
 use Rattle.machine.specs.Calls.{closed}
-use Rattle.machine.specs.Runs.{budgetIn, budgetOf, bufferOf, continued, longEnough, runFrom, stepOf}
+use Rattle.machine.specs.Runs.{budgetIn, budgetOf, continued, longEnough, runFrom, stepOf}
 use Rattle.machine.specs.States.{itemsOf, over, withEnd, withStack}
 use Rattle.machine.specs.declared.Answer.{Answer}
 use Rattle.machine.specs.declared.Begun.{Begun}
@@ -36,7 +36,7 @@ use Rattle.snapshots.specs.declared.Snapshot.{Snapshot}
 use Rattle.stepping.specs.Going.{Resumes, ranOf}
 use Rattle.stepping.specs.declared.Counted.{Counted}
 use Rattle.engine.specs.Parts.{saidOf}
-use Rattle.engine.proofs.Driving.{delivers, leaves, refuses, run-begun, run-refused, steps-once, takes, under-ended, under-running}
+use Rattle.engine.proofs.Driving.{delivers, leaves, run-begun, run-refused, steps-once, takes, under-ended}
 use Rattle.abi.specs.Answers.{answerNumbers, saidNumbers}
 use Rattle.abi.specs.Exits.{Answers, Began, Comes, Left}
 use Rattle.abi.specs.declared.answers.FirAnswer.{FirAnswer}

@@ -1,12 +1,12 @@
 -- A place of a live call, by the cells of the state.
-use mathlib.Core.Path.{_≡_, refl, sym, ap, _∙_}
+use mathlib.Core.Path.{_≡_, refl}
 use mathlib.Core.Bool.{Bool, cond, true, false}
 use Prim.Native.Nat.{ℕ, _+_, _-_, _*_, _<_, _≤_}
 use native.Mathlib.Omega.{arith}
 use lib.Dec.{ltb}
 use borrow.Author.Tests.{lt-ltb, le-ltb, ltb-true, ltb-false}
 use Rattle.machine.specs.States.{liveFrames}
-use Rattle.machine.specs.Try.{Try, got, stuck, _>>=_, at}
+use Rattle.machine.specs.Try.{got, stuck, _>>=_, at}
 use Rattle.machine.specs.declared.Frame.{Frame}
 use Rattle.machine.specs.declared.Value.{Value}
 use Rattle.memory.specs.Memory.{Memory, cellIn, frameIn, framesOf, memoryOf, stateOf}

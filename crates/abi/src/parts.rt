@@ -5,7 +5,7 @@ ghost use lib.ListN.{length};
 ghost use lib.IntN.{ℤ};
 ghost use mathlib.Core.List.{List};
 ghost use Rattle.machine.specs.Begin.{arguments, beginOf, programOf, question12, runOf};
-ghost use Rattle.machine.specs.Runs.{budgetIn, budgetOf, bufferOf, runFrom, stepOf};
+ghost use Rattle.machine.specs.Runs.{budgetIn, budgetOf, runFrom, stepOf};
 ghost use Rattle.machine.specs.declared.Answer.{Answer};
 ghost use Rattle.machine.specs.declared.Status.{Status};
 ghost use Rattle.memory.specs.Memory.{memoryOf};

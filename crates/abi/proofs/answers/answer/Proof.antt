@@ -1,3 +1,4 @@
+-- `abi::answers::answer`: by the answer; an end by its numbers.
 use Rattle.abi.specs.Answers.{answerNumbers}
 use mir.Facts.{toZ-ofZ}
 use mir.Syntax.{w32}
@@ -5,59 +6,44 @@ use mir.Val.{SFits}
 use borrow.Author.Needs.{needs}
 use Rattle.abi.proofs.answers.answer.Statement.{statement}
 use Rattle.abi.proofs.answers.answer.Tie as tie
-use Rattle.abi.proofs.answers.answer.Reads as reads
-use Rattle.abi.proofs.answers.answer.Lts as lts
-use Rattle.abi.proofs.answers.plain.Reads as plain-reads
-use Rattle.snapshots.proofs.end_mark.Reads as end-mark-reads
 
--- src/answers.rt:134:25
 enum-known-answer : tie.Need-enum-known-answer
 enum-known-answer c = search needs
 
--- src/answers.rt:142:26
 enum-told : tie.Need-enum-told
 enum-told c = search needs
 
--- src/answers.rt:142:26
 plain-requires : tie.Need-plain-requires
 plain-requires c κs = search needs
 
--- src/answers.rt:143:23
 enum-known-answer-2 : tie.Need-enum-known-answer-2
 enum-known-answer-2 c = search needs
 
--- src/answers.rt:144:17
 end-mark-requires : tie.Need-end-mark-requires
 end-mark-requires c κs = search needs
 
--- src/answers.rt:154:26
 enum-told-2 : tie.Need-enum-told-2
 enum-told-2 c = search needs
 
--- src/answers.rt:154:26
 plain-requires-2 : tie.Need-plain-requires-2
 plain-requires-2 c κs = search needs
 
--- src/answers.rt:130:1
 returns : tie.Need-returns
 unfolding answerNumbers
 returns c =
     rw ((c .before .answer) .given .1)
 
--- src/answers.rt:130:1
 returns-2 : tie.Need-returns-2
 unfolding answerNumbers
 returns-2 c =
     rw ((c .before .enum-told) .given .1) ((c .plain) .ensures)
 
--- src/answers.rt:130:1
 returns-3 : tie.Need-returns-3
 unfolding answerNumbers
 returns-3 c =
     let s : SFits w32 ((c .before .end-mark) .result .value) = search needs in
     rw (toZ-ofZ s, (c .before .end-mark) .ensures, (c .before .before .before .answer2) .given .1)
 
--- src/answers.rt:130:1
 returns-4 : tie.Need-returns-4
 unfolding answerNumbers
 returns-4 c =

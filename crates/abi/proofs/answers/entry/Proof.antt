@@ -1,25 +1,20 @@
+-- `abi::answers::entry`: by the entry.
 use Rattle.abi.specs.Answers.{entryNumbers}
 use borrow.Author.Needs.{needs}
 use Rattle.abi.proofs.answers.entry.Statement.{statement}
 use Rattle.abi.proofs.answers.entry.Tie as tie
-use Rattle.abi.proofs.answers.entry.Reads as reads
-use Rattle.abi.proofs.answers.entry.Lts as lts
 
--- src/answers.rt:73:25
 enum-told : tie.Need-enum-told
 enum-told c = search needs
 
--- src/answers.rt:77:24
 enum-known-entry : tie.Need-enum-known-entry
 enum-known-entry c = search needs
 
--- src/answers.rt:69:1
 returns : tie.Need-returns
 unfolding entryNumbers
 returns c =
     rw ((c .enum-told) .given .1)
 
--- src/answers.rt:69:1
 returns-2 : tie.Need-returns-2
 unfolding entryNumbers
 returns-2 c =

@@ -1,11 +1,9 @@
+-- `abi::answers::plain`: by computation.
 use Rattle.abi.specs.Answers.{plainNumbers}
 use mathlib.Core.Path.{refl}
 use Rattle.abi.proofs.answers.plain.Statement.{statement}
 use Rattle.abi.proofs.answers.plain.Tie as tie
-use Rattle.abi.proofs.answers.plain.Reads as reads
-use Rattle.abi.proofs.answers.plain.Lts as lts
 
--- src/answers.rt:116:1
 returns : tie.Need-returns
 unfolding plainNumbers
 returns c =

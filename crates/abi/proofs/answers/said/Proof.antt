@@ -1,3 +1,4 @@
+-- `abi::answers::said`: by the answer; an end by its numbers.
 use Rattle.abi.specs.Answers.{saidNumbers}
 use Rattle.engine.specs.Parts.{saidOf}
 use mir.Facts.{toZ-ofZ}
@@ -6,50 +7,38 @@ use mir.Val.{SFits}
 use borrow.Author.Needs.{needs}
 use Rattle.abi.proofs.answers.said.Statement.{statement}
 use Rattle.abi.proofs.answers.said.Tie as tie
-use Rattle.abi.proofs.answers.said.Reads as reads
-use Rattle.abi.proofs.answers.said.Lts as lts
-use Rattle.snapshots.proofs.end_mark.Reads as end-mark-reads
 
--- src/answers.rt:89:34
 enum-told : tie.Need-enum-told
 enum-told c = search needs
 
--- src/answers.rt:94:26
 enum-told-2 : tie.Need-enum-told-2
 enum-told-2 c = search needs
 
--- src/answers.rt:99:23
 enum-known-answer : tie.Need-enum-known-answer
 enum-known-answer c = search needs
 
--- src/answers.rt:100:17
 end-mark-requires : tie.Need-end-mark-requires
 end-mark-requires c κs = search needs
 
--- src/answers.rt:107:26
 enum-told-3 : tie.Need-enum-told-3
 enum-told-3 c = search needs
 
--- src/answers.rt:85:1
 returns : tie.Need-returns
 unfolding saidNumbers saidOf
 returns c =
     rw ((c .enum-told) .given .1)
 
--- src/answers.rt:85:1
 returns-2 : tie.Need-returns-2
 unfolding saidNumbers saidOf
 returns-2 c =
     rw ((c .enum-told2) .given .1)
 
--- src/answers.rt:85:1
 returns-3 : tie.Need-returns-3
 unfolding saidNumbers saidOf
 returns-3 c =
     let s : SFits w32 ((c .before .end-mark) .result .value) = search needs in
     rw (toZ-ofZ s, (c .before .end-mark) .ensures, (c .before .before .before .answer) .given .1)
 
--- src/answers.rt:85:1
 returns-4 : tie.Need-returns-4
 unfolding saidNumbers saidOf
 returns-4 c =

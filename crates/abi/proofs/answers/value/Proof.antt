@@ -1,3 +1,4 @@
+-- `abi::answers::value`: by the value.
 use Rattle.abi.specs.Looks.{valueNumbers}
 use mir.Facts.{toZ-ofZ}
 use mir.Syntax.{w32}
@@ -5,45 +6,35 @@ use mir.Val.{SFits}
 use borrow.Author.Needs.{needs}
 use Rattle.abi.proofs.answers.value.Statement.{statement}
 use Rattle.abi.proofs.answers.value.Tie as tie
-use Rattle.abi.proofs.answers.value.Reads as reads
-use Rattle.abi.proofs.answers.value.Lts as lts
 
--- src/answers.rt:163:25
 enum-told : tie.Need-enum-told
 enum-told c = search needs
 
--- src/answers.rt:168:24
 enum-known-value : tie.Need-enum-known-value
 enum-known-value c = search needs
 
--- src/answers.rt:173:23
 enum-known-value-2 : tie.Need-enum-known-value-2
 enum-known-value-2 c = search needs
 
--- src/answers.rt:178:24
 enum-known-value-3 : tie.Need-enum-known-value-3
 enum-known-value-3 c = search needs
 
--- src/answers.rt:159:1
 returns : tie.Need-returns
 unfolding valueNumbers
 returns c =
     rw ((c .enum-told) .given .1)
 
--- src/answers.rt:159:1
 returns-2 : tie.Need-returns-2
 unfolding valueNumbers
 returns-2 c =
     let s : SFits w32 ((c .before .value) .given .0 .0) = search needs in
     rw (toZ-ofZ s, (c .before .value) .given .1)
 
--- src/answers.rt:159:1
 returns-3 : tie.Need-returns-3
 unfolding valueNumbers
 returns-3 c =
     rw ((c .before .value2) .given .1)
 
--- src/answers.rt:159:1
 returns-4 : tie.Need-returns-4
 unfolding valueNumbers
 returns-4 c =

@@ -1,25 +1,20 @@
+-- `abi::answers::verdict`: by the verdict.
 use Rattle.abi.specs.Answers.{verdictNumbers}
 use borrow.Author.Needs.{needs}
 use Rattle.abi.proofs.answers.verdict.Statement.{statement}
 use Rattle.abi.proofs.answers.verdict.Tie as tie
-use Rattle.abi.proofs.answers.verdict.Reads as reads
-use Rattle.abi.proofs.answers.verdict.Lts as lts
 
--- src/answers.rt:57:27
 enum-known-verdict : tie.Need-enum-known-verdict
 enum-known-verdict c = search needs
 
--- src/answers.rt:61:26
 enum-known-verdict-2 : tie.Need-enum-known-verdict-2
 enum-known-verdict-2 c = search needs
 
--- src/answers.rt:53:1
 returns : tie.Need-returns
 unfolding verdictNumbers
 returns c =
     rw ((c .before .verdict) .given .1)
 
--- src/answers.rt:53:1
 returns-2 : tie.Need-returns-2
 unfolding verdictNumbers
 returns-2 c =

@@ -1,3 +1,4 @@
+-- `abi::parts::budget`: question 13, then the budget and what it delivers.
 use Rattle.abi.proofs.Coming.{answers-refused, answers-taken}
 use Rattle.snapshots.specs.Held.{held, snapshotOf}
 use Rattle.engine.proofs.Driving.{refuses}
@@ -5,38 +6,26 @@ use mathlib.Core.Path.{refl}
 use borrow.Author.Needs.{needs}
 use Rattle.abi.proofs.parts.budget.Statement.{statement}
 use Rattle.abi.proofs.parts.budget.Tie as tie
-use Rattle.abi.proofs.parts.budget.Reads as reads
-use Rattle.abi.proofs.parts.budget.Lts as lts
-use Rattle.abi.proofs.answers.answer.Reads as answer-reads
-use Rattle.abi.proofs.parts.under.Reads as under-reads
-use Rattle.delivery.proofs.deliver.Reads as deliver-reads
 
--- src/parts.rt:269:9
 answer-requires : tie.Need-answer-requires
 answer-requires c κs = search needs
 
--- src/parts.rt:269:9
 returns : tie.Need-returns
 returns c =
     answers-refused _ _ _ _ (refuses _ _ _ _ ((c .before .if1) .taken)) ((c .answer) .ensures) refl
 
--- src/parts.rt:271:9
 under-requires : tie.Need-under-requires
 under-requires c κs = search needs
 
--- src/parts.rt:291:5
 deliver-requires : tie.Need-deliver-requires
 deliver-requires c κs = search needs
 
--- src/parts.rt:292:5
 answer-requires-2 : tie.Need-answer-requires-2
 answer-requires-2 c κs = search needs
 
--- src/parts.rt:247:1
 same-length : tie.Need-same-length
 same-length c = search needs
 
--- src/parts.rt:247:1
 returns-2 : tie.Need-returns-2
 unfolding held snapshotOf
 returns-2 c =

@@ -1,17 +1,13 @@
+-- `abi::parts::end`: an end is its numbers.
 use Rattle.snapshots.proofs.Whole.{ends-again, status-same}
 use mathlib.Core.Path.{refl}
 use borrow.Author.Needs.{needs}
 use Rattle.abi.proofs.parts.end.Statement.{statement}
 use Rattle.abi.proofs.parts.end.Tie as tie
-use Rattle.abi.proofs.parts.end.Reads as reads
-use Rattle.abi.proofs.parts.end.Lts as lts
-use Rattle.snapshots.proofs.end_mark.Reads as end-mark-reads
 
--- src/parts.rt:47:9
 end-mark-requires : tie.Need-end-mark-requires
 end-mark-requires c κs = search needs
 
--- src/parts.rt:44:1
 returns : tie.Need-returns
 returns c =
     (refl, refl, status-same _ ((c .before .end-mark) .result .value) _ _ (search needs) (ends-again _ ((c .before .end-mark) .ensures)))

@@ -1,3 +1,4 @@
+-- `abi::parts::entered`: questions 12 and 13.
 use Rattle.abi.proofs.Starting.{began-not, began-with}
 use borrow.Author.Tests.{not-true, not-false}
 use Rattle.program.specs.Places.{versionAt}
@@ -5,52 +6,36 @@ use Rattle.begin.proofs.Answers.{not-whole, too-short, begun-with}
 use borrow.Author.Needs.{needs}
 use Rattle.abi.proofs.parts.entered.Statement.{statement}
 use Rattle.abi.proofs.parts.entered.Tie as tie
-use Rattle.abi.proofs.parts.entered.Reads as reads
-use Rattle.abi.proofs.parts.entered.Lts as lts
-use Rattle.abi.proofs.parts.start.Reads as start-reads
-use Rattle.begin.proofs.fill.Reads as fill-reads
-use Rattle.layout.proofs.field.Reads as field-reads
-use Rattle.machine.proofs.Frame.new.Reads as new-reads
 
--- src/parts.rt:420:9
 fill-requires : tie.Need-fill-requires
 fill-requires c κs = search needs
 
--- src/parts.rt:423:9
 returns : tie.Need-returns
 returns c =
     began-not _ _ _ _ (not-whole _ _ _ _ ((c .before .fill) .ensures) (not-true _ ((c .if1) .taken)))
 
--- src/parts.rt:426:9
 returns-2 : tie.Need-returns-2
 returns-2 c =
     began-not _ _ _ _ (too-short _ _ _ _ ((c .before .before .fill) .ensures) (not-false _ ((c .before .if1) .left)) ((c .if2) .taken))
 
--- src/parts.rt:428:20
 field-requires : tie.Need-field-requires
 field-requires c κs = search needs
 
--- src/parts.rt:428:20
 cast-function : tie.Need-cast-function
 cast-function c = search needs
 
--- src/parts.rt:429:19
 field-requires-2 : tie.Need-field-requires-2
 field-requires-2 c κs = search needs
 
--- src/parts.rt:429:19
 cast-version : tie.Need-cast-version
 cast-version c = search needs
 
--- src/parts.rt:430:9
 new-requires : tie.Need-new-requires
 new-requires c κs = search needs
 
--- src/parts.rt:434:5
 start-requires : tie.Need-start-requires
 start-requires c κs = search needs
 
--- src/parts.rt:397:1
 returns-3 : tie.Need-returns-3
 unfolding versionAt
 returns-3 c =

@@ -1,62 +1,47 @@
+-- `abi::parts::look`: by the bounds.
 use Rattle.abi.specs.Looks.{lookIn, valueNumbers}
 use mathlib.Core.Path.{ap, _∙_}
 use borrow.Author.Tests.{lt-ltb, le-ltb}
 use borrow.Author.Needs.{needs}
 use Rattle.abi.proofs.parts.look.Statement.{statement}
 use Rattle.abi.proofs.parts.look.Tie as tie
-use Rattle.abi.proofs.parts.look.Reads as reads
-use Rattle.abi.proofs.parts.look.Lts as lts
-use Rattle.abi.proofs.answers.outside.Reads as outside-reads
-use Rattle.abi.proofs.answers.value.Reads as value-reads
-use Rattle.flat.proofs.cell.Reads as cell-reads
 
--- src/parts.rt:531:9
 outside-requires : tie.Need-outside-requires
 outside-requires c κs = search needs
 
--- src/parts.rt:531:9
 returns : tie.Need-returns
 unfolding lookIn
 returns c =
     simp (le-ltb _ _ ((c .before .if1) .taken), (c .outside) .ensures)
 
--- src/parts.rt:535:9
 outside-requires-2 : tie.Need-outside-requires-2
 outside-requires-2 c κs = search needs
 
--- src/parts.rt:535:9
 returns-2 : tie.Need-returns-2
 unfolding lookIn
 returns-2 c =
     simp (lt-ltb _ _ ((c .before .before .before .if1) .left), le-ltb _ _ ((c .before .if2) .taken), (c .outside2) .ensures)
 
--- src/parts.rt:538:9
 outside-requires-3 : tie.Need-outside-requires-3
 outside-requires-3 c κs = search needs
 
--- src/parts.rt:538:9
 returns-3 : tie.Need-returns-3
 unfolding lookIn
 returns-3 c =
     simp (lt-ltb _ _ ((c .before .before .before .before .if1) .left), lt-ltb _ _ ((c .before .before .if2) .left), le-ltb _ _ ((c .before .if3) .taken), (c .outside3) .ensures)
 
--- src/parts.rt:540:44
 mul-cell : tie.Need-mul-cell
 mul-cell c = search needs
 
--- src/parts.rt:540:44
 add-cell : tie.Need-add-cell
 add-cell c = search needs
 
--- src/parts.rt:540:9
 cell-requires : tie.Need-cell-requires
 cell-requires c κs = search needs
 
--- src/parts.rt:541:5
 value-requires : tie.Need-value-requires
 value-requires c κs = search needs
 
--- src/parts.rt:521:1
 returns-4 : tie.Need-returns-4
 unfolding lookIn
 returns-4 c =
