@@ -72,7 +72,7 @@ typedef struct fir_entry {
 #define FIR_DEEP 4      /* DEEP: a 33rd activation is needed */
 #define FIR_VECTORS 5   /* VECTORS: a 65th vector is needed */
 #define FIR_PROMISES 6  /* PROMISES: a 65th promise is needed */
-#define FIR_STUCK 7     /* the state is none of a begun run of this image; it is as it was */
+#define FIR_STUCK 7     /* the state is none of a begun run of this image; it stands for what it stood for */
 #define FIR_REFUSED 8   /* refused by `question` at `offset`; state and buffer are as they were */
 
 /* What a single step says: FIR_STEPS to FIR_STUCK. */
