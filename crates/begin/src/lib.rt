@@ -129,7 +129,8 @@ fn unfilled() -> Filled
     }
 }
 
-/// Reads an argument for each parameter of the version at `v`.
+/// Reads an argument for each parameter of the version at `v`. Public for the C interface, which asks of a version of an
+/// accepted image.
 pub fn fill(image: &[u8], v: usize, words: &[i32]) -> Filled
     requires { ⌜ Limited (versionAt (now image) v) ⌝ }
     ensures { λ r. ⌜ r ≡ filledOf (arguments (parameterTypes (versionAt (now (image .entry)) v)) (now (words .entry))) ⌝ }

@@ -195,7 +195,7 @@ fn items_of(items: &[i32; 1024], v: usize) -> [i32; 16]
     all
 }
 
-/// The vector `v`. The engine asks for one that is there.
+/// The vector `v`. Public for the engine and the C interface, which ask for one that is there.
 pub fn vector(lengths: &[u8; 64], items: &[i32; 1024], v: usize) -> Vector
     requires { ⌜ v < 64 ⌝ }
     ensures { λ r. ⌜ r ≡ vectorIn (now (lengths .entry)) (now (items .entry)) v ⌝ }
@@ -277,7 +277,7 @@ fn value(c: u16, z: i32) -> Value
     Value::Empty
 }
 
-/// The value of the cell `i`.
+/// The value of the cell `i`. Public for the C interface, which asks for one that is there.
 pub fn cell(codes: &[u16; 768], numbers: &[i32; 768], i: usize) -> Value
     requires { ⌜ i < 768 ⌝ }
     ensures { λ r. ⌜ r ≡ cellIn (now (codes .entry)) (now (numbers .entry)) i ⌝ }
