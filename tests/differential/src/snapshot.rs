@@ -2,18 +2,15 @@
 //! of the reference that the numbers stand for.
 
 use library::State as Snapshot;
+use library::{
+    ACTIVATION, CELLS, FIR_DEEP, FIR_INTEGER, FIR_PROMISES, FIR_STEPS, FIR_UNDEF, FIR_VECTOR,
+    FIR_VECTORS, OWNER, PROMISE,
+};
 use reference::bounds::{ACTIVATIONS, ITEMS, NAMES, PROMISES, REGISTERS, VECTORS};
 use reference::state::{Activation, Frame, Opener, Promise};
 use reference::{End, Integer, State, Status, Value};
 
-/// The register places and names of one frame.
-pub const CELLS: usize = REGISTERS + NAMES;
-/// The numbers of one frame's owner: its function and its version.
-pub const OWNER: usize = 2;
-/// The numbers of one activation.
-pub const ACTIVATION: usize = 6;
-/// The numbers of one promise.
-pub const PROMISE: usize = 3;
+const _: () = assert!(CELLS == REGISTERS + NAMES);
 
 /// The code of an empty register or an unset name.
 pub const EMPTY: u16 = 0;
@@ -48,17 +45,17 @@ pub fn untouched() -> Snapshot {
     }
 }
 
-/// The end of a number from 1 to 6, with its length and value.
-pub fn end(number: u8, length: u8, value: Integer) -> Result<End, String> {
-    match number {
-        1 => Ok(End::Integer(value)),
-        2 if usize::from(length) <= ITEMS => Ok(End::Vector(length.into())),
-        2 => Err(format!("a result of {length} items")),
-        3 => Ok(End::Undef),
-        4 => Ok(End::Deep),
-        5 => Ok(End::Vectors),
-        6 => Ok(End::Promises),
-        _ => Err(format!("{number} is the number of no end")),
+/// The end of a code, with its length and value.
+fn end(code: u8, length: u8, value: Integer) -> Result<End, String> {
+    match code {
+        FIR_INTEGER => Ok(End::Integer(value)),
+        FIR_VECTOR if usize::from(length) <= ITEMS => Ok(End::Vector(length.into())),
+        FIR_VECTOR => Err(format!("a result of {length} items")),
+        FIR_UNDEF => Ok(End::Undef),
+        FIR_DEEP => Ok(End::Deep),
+        FIR_VECTORS => Ok(End::Vectors),
+        FIR_PROMISES => Ok(End::Promises),
+        _ => Err(format!("{code} is the code of no end")),
     }
 }
 
@@ -165,8 +162,8 @@ fn promise(snapshot: &Snapshot, place: usize) -> Result<Promise, String> {
 /// Whether the run goes on.
 fn status(snapshot: &Snapshot) -> Result<Status, String> {
     match snapshot.status {
-        0 => Ok(Status::Running),
-        number => end(number, snapshot.length, snapshot.value).map(Status::Ended),
+        FIR_STEPS => Ok(Status::Running),
+        code => end(code, snapshot.length, snapshot.value).map(Status::Ended),
     }
 }
 

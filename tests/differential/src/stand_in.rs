@@ -5,13 +5,13 @@
 
 #![allow(unsafe_code)] // The library's functions are named and called as in C.
 
-use crate::snapshot::{
-    state_of, untouched, ACTIVATION, CELLS, FILLING, INTEGER, OWNER, PROMISE, PROMISED, VECTOR,
-};
+use crate::snapshot::{state_of, untouched, EMPTY, FILLING, INTEGER, PROMISED, VECTOR};
 use library::State as Snapshot;
 use library::{
-    FIR_IS_INTEGER, FIR_IS_PROMISE, FIR_IS_VECTOR, FIR_NOTHING, FIR_OUTSIDE, FIR_REFUSED,
-    FIR_STEPS, FIR_STUCK,
+    FirAnswer, FirEntry, FirSaid, FirValue, FirVerdict, ACTIVATION, CELLS, FIR_ACCEPTED, FIR_DEEP,
+    FIR_INTEGER, FIR_IS_INTEGER, FIR_IS_PROMISE, FIR_IS_VECTOR, FIR_NOTHING, FIR_OUTSIDE,
+    FIR_PROMISES, FIR_REFUSED, FIR_STEPS, FIR_STUCK, FIR_UNDEF, FIR_VECTOR, FIR_VECTORS, OWNER,
+    PROMISE,
 };
 use reference::bounds::{ITEMS, REGISTERS};
 use reference::state::Opener;
@@ -47,7 +47,7 @@ fn put_frame(snapshot: &mut Snapshot, state: &State, index: usize) {
     let held = frame.registers.iter().chain(&frame.names);
     for (cell, &value) in (index * CELLS..).zip(held) {
         snapshot.codes[cell] = match value {
-            None => 0,
+            None => EMPTY,
             Some(Value::Integer(_)) => INTEGER,
             Some(Value::Vector(place)) => VECTOR + place as u16,
             Some(Value::Promise(place)) => PROMISED + place as u16,
@@ -94,16 +94,16 @@ fn put_promises(snapshot: &mut Snapshot, state: &State) {
     }
 }
 
-/// An end's number, length and value.
+/// An end's code, length and value.
 fn numbers(end: End) -> (u8, u8, i32) {
     let nothing = i32::from_le_bytes([FILLING; 4]);
     match end {
-        End::Integer(value) => (1, FILLING, value),
-        End::Vector(length) => (2, length as u8, nothing),
-        End::Undef => (3, FILLING, nothing),
-        End::Deep => (4, FILLING, nothing),
-        End::Vectors => (5, FILLING, nothing),
-        End::Promises => (6, FILLING, nothing),
+        End::Integer(value) => (FIR_INTEGER, FILLING, value),
+        End::Vector(length) => (FIR_VECTOR, length as u8, nothing),
+        End::Undef => (FIR_UNDEF, FILLING, nothing),
+        End::Deep => (FIR_DEEP, FILLING, nothing),
+        End::Vectors => (FIR_VECTORS, FILLING, nothing),
+        End::Promises => (FIR_PROMISES, FILLING, nothing),
     }
 }
 
@@ -133,64 +133,24 @@ unsafe fn lent<'a, T>(first: *const T, length: usize) -> &'a [T] {
     slice::from_raw_parts(first, length)
 }
 
-// The structs of `fir.h` that its functions give.
-
-#[repr(C)]
-struct Verdicted {
-    detail: usize,
-    question: u8,
-}
-
-#[repr(C)]
-struct Begun {
-    offset: u16,
-    question: u8,
-}
-
-#[repr(C)]
-struct Stepped {
-    value: i32,
-    code: u8,
-    length: u8,
-}
-
-#[repr(C)]
-struct Answered {
-    steps: u32,
-    value: i32,
-    offset: u16,
-    code: u8,
-    length: u8,
-    question: u8,
-}
-
-#[repr(C)]
-struct Seen {
-    number: i32,
-    kind: u8,
-    place: u8,
-}
-
-impl Answered {
-    /// An answer without a refusal.
-    fn new((code, length, value): (u8, u8, i32), steps: u32) -> Answered {
-        Answered {
-            steps,
-            value,
-            offset: u16::MAX,
-            code,
-            length,
-            question: FILLING,
-        }
+/// An answer without a refusal.
+fn answered((code, length, value): (u8, u8, i32), steps: u32) -> FirAnswer {
+    FirAnswer {
+        steps,
+        value,
+        offset: u16::MAX,
+        code,
+        length,
+        question: FILLING,
     }
+}
 
-    /// A refusal.
-    fn refused(refusal: Refusal) -> Answered {
-        Answered {
-            offset: refusal.offset as u16,
-            question: refusal.number,
-            ..Answered::new((FIR_REFUSED, FILLING, 0), 0)
-        }
+/// An answer that is a refusal.
+fn refused(question: u8, offset: u16) -> FirAnswer {
+    FirAnswer {
+        offset,
+        question,
+        ..answered((FIR_REFUSED, FILLING, 0), 0)
     }
 }
 
@@ -205,12 +165,12 @@ extern "C" fn fir_state_alignment() -> usize {
 }
 
 #[no_mangle]
-unsafe extern "C" fn fir_check(image: *const u8, length: usize) -> Verdicted {
+unsafe extern "C" fn fir_check(image: *const u8, length: usize) -> FirVerdict {
     let (detail, question) = match verdict(lent(image, length)) {
-        Verdict::Accepted(versions) => (versions, 0),
+        Verdict::Accepted(versions) => (versions, FIR_ACCEPTED),
         Verdict::Refused(refusal) => (refusal.offset, refusal.number),
     };
-    Verdicted { detail, question }
+    FirVerdict { detail, question }
 }
 
 #[no_mangle]
@@ -242,7 +202,7 @@ unsafe extern "C" fn fir_begin(
     buffer: *const i32,
     buffer_length: usize,
     after: *mut Snapshot,
-) -> Begun {
+) -> FirEntry {
     let (words, buffer) = (lent(words, words_length), lent(buffer, buffer_length));
     let program = program(lent(image, image_length));
     let begun =
@@ -250,12 +210,12 @@ unsafe extern "C" fn fir_begin(
     match begun {
         Ok(state) => {
             *after = snapshot(&state);
-            Begun {
-                question: 0,
+            FirEntry {
+                question: FIR_ACCEPTED,
                 offset: u16::MAX,
             }
         }
-        Err(refusal) => Begun {
+        Err(refusal) => FirEntry {
             question: refusal.number,
             offset: refusal.offset as u16,
         },
@@ -267,7 +227,7 @@ unsafe extern "C" fn fir_step(
     image: *const u8,
     image_length: usize,
     state: *mut Snapshot,
-) -> Stepped {
+) -> FirSaid {
     let program = program(lent(image, image_length)).expect("an accepted image");
     let (after, said) = state_of(&*state).expect("a state").step(&program);
     let (code, length, value) = match said {
@@ -276,7 +236,7 @@ unsafe extern "C" fn fir_step(
         Said::Ended(end) => numbers(end),
     };
     *state = snapshot(&after);
-    Stepped {
+    FirSaid {
         value,
         code,
         length,
@@ -291,19 +251,19 @@ unsafe extern "C" fn fir_budget(
     budget: u32,
     buffer: *mut i32,
     buffer_length: usize,
-) -> Answered {
+) -> FirAnswer {
     let program = program(lent(image, image_length)).expect("an accepted image");
     let buffer = slice::from_raw_parts_mut(buffer, buffer_length);
     let before = state_of(&*state).expect("a state");
     let (after, answer, steps) = before.budget(&program, budget, buffer);
     let numbers = match answer {
-        Answer::Refused(refusal) => return Answered::refused(refusal),
+        Answer::Refused(refusal) => return refused(refusal.number, refusal.offset as u16),
         Answer::Steps => (FIR_STEPS, FILLING, 0),
         Answer::Stuck => (FIR_STUCK, FILLING, 0),
         Answer::Ended(end) => numbers(end),
     };
     *state = snapshot(&after);
-    Answered::new(numbers, steps)
+    answered(numbers, steps)
 }
 
 #[no_mangle]
@@ -318,7 +278,7 @@ unsafe extern "C" fn fir_run(
     buffer: *mut i32,
     buffer_length: usize,
     state: *mut Snapshot,
-) -> Answered {
+) -> FirAnswer {
     let begun = fir_begin(
         image,
         image_length,
@@ -330,17 +290,14 @@ unsafe extern "C" fn fir_run(
         buffer_length,
         state,
     );
-    if begun.question > 0 {
-        return Answered::refused(Refusal {
-            number: begun.question,
-            offset: begun.offset.into(),
-        });
+    if begun.question != FIR_ACCEPTED {
+        return refused(begun.question, begun.offset);
     }
     fir_budget(image, image_length, state, budget, buffer, buffer_length)
 }
 
 #[no_mangle]
-unsafe extern "C" fn fir_look(state: *const Snapshot, call: usize, place: usize) -> Seen {
+unsafe extern "C" fn fir_look(state: *const Snapshot, call: usize, place: usize) -> FirValue {
     let state = state_of(&*state).expect("a state");
     let held = state.frames.get(call).and_then(|frame| {
         let name = || frame.names.get(place.checked_sub(REGISTERS)?);
@@ -353,7 +310,7 @@ unsafe extern "C" fn fir_look(state: *const Snapshot, call: usize, place: usize)
         Some(Some(Value::Vector(place))) => (0, FIR_IS_VECTOR, place as u8),
         Some(Some(Value::Promise(place))) => (0, FIR_IS_PROMISE, place as u8),
     };
-    Seen {
+    FirValue {
         number,
         kind,
         place,

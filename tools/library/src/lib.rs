@@ -15,4 +15,6 @@ pub use answers::{Answer, End, Held, Ran, Refusal, Said, Verdict};
 pub use checking::{report, verdict};
 pub use constants::*;
 pub use parts::{Activation, Opener, Promise};
-pub use state::{Entry, State, ACTIVATION, CELLS, PLACES, PROMISE};
+#[cfg(feature = "stand_in")]
+pub use raw::{FirAnswer, FirEntry, FirSaid, FirValue, FirVerdict};
+pub use state::{Entry, State, ACTIVATION, CELLS, OWNER, PLACES, PROMISE};

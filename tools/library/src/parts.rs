@@ -2,7 +2,7 @@
 //! and promises, read out of its numbers.
 
 use crate::constants::{FIR_ACTIVATIONS, FIR_ITEMS};
-use crate::state::{State, ACTIVATION, PLACES, PROMISE};
+use crate::state::{State, ACTIVATION, OWNER, PLACES, PROMISE};
 
 /// What opened an activation.
 #[derive(Clone, Copy, PartialEq, Eq, Debug)]
@@ -43,7 +43,7 @@ impl State {
     /// The function and the version of a live call.
     pub fn owner(&self, call: usize) -> Option<(u8, u8)> {
         let live = call < self.calls.into() && call < FIR_ACTIVATIONS;
-        live.then(|| (self.owners[2 * call], self.owners[2 * call + 1]))
+        live.then(|| (self.owners[OWNER * call], self.owners[OWNER * call + 1]))
     }
 
     /// A live activation, the oldest being 0.

@@ -5,41 +5,57 @@ use crate::state::State;
 /// A verdict: `FIR_ACCEPTED` and the number of versions, or a question and its offset.
 #[repr(C)]
 pub struct FirVerdict {
+    /// How many versions, or the offset.
     pub detail: usize,
+    /// The question, or `FIR_ACCEPTED`.
     pub question: u8,
 }
 
 /// Whether a run has begun: `FIR_ACCEPTED`, or a question and its offset.
 #[repr(C)]
 pub struct FirEntry {
+    /// The offset of a refusal.
     pub offset: u16,
+    /// The question, or `FIR_ACCEPTED`.
     pub question: u8,
 }
 
 /// What a single step says.
 #[repr(C)]
 pub struct FirSaid {
+    /// The integer that the run is DONE with.
     pub value: i32,
+    /// `FIR_STEPS`, an end, or `FIR_STUCK`.
     pub code: u8,
+    /// Of the vector that the run is DONE with.
     pub length: u8,
 }
 
 /// The answer to a budget, and the steps taken under it.
 #[repr(C)]
 pub struct FirAnswer {
+    /// The steps taken.
     pub steps: u32,
+    /// The integer that the run is DONE with.
     pub value: i32,
+    /// The offset of a refusal.
     pub offset: u16,
+    /// `FIR_STEPS`, an end, `FIR_STUCK` or `FIR_REFUSED`.
     pub code: u8,
+    /// Of the vector that the run is DONE with.
     pub length: u8,
+    /// The question of a refusal.
     pub question: u8,
 }
 
 /// What a register or a name holds.
 #[repr(C)]
 pub struct FirValue {
+    /// The integer.
     pub number: i32,
+    /// `FIR_NOTHING`, `FIR_IS_...` or `FIR_OUTSIDE`.
     pub kind: u8,
+    /// The place of the vector or promise.
     pub place: u8,
 }
 

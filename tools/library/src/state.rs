@@ -11,6 +11,8 @@ use std::sync::Once;
 pub const CELLS: usize = FIR_REGISTERS + FIR_NAMES;
 /// How many vectors count at once, and how many promises.
 pub const PLACES: usize = 64;
+/// The numbers of a call in [`State::owners`].
+pub const OWNER: usize = 2;
 /// The numbers of an activation in [`State::stack`].
 pub const ACTIVATION: usize = 6;
 /// The numbers of a promise in [`State::promises`].
@@ -32,7 +34,7 @@ pub struct State {
     /// The codes of the cells.
     pub codes: [u16; FIR_ACTIVATIONS * CELLS],
     /// Of each call: its function and its version.
-    pub owners: [u8; FIR_ACTIVATIONS * 2],
+    pub owners: [u8; FIR_ACTIVATIONS * OWNER],
     /// Of each activation: 0 call or 1 force, the promise, d, its call, block, next instruction.
     pub stack: [u8; FIR_ACTIVATIONS * ACTIVATION],
     /// Of each vector.
@@ -69,7 +71,7 @@ impl State {
             caches: [0; PLACES],
             result: [0; FIR_ITEMS],
             codes: [0; FIR_ACTIVATIONS * CELLS],
-            owners: [0; FIR_ACTIVATIONS * 2],
+            owners: [0; FIR_ACTIVATIONS * OWNER],
             stack: [0; FIR_ACTIVATIONS * ACTIVATION],
             lengths: [0; PLACES],
             promises: [0; PLACES * PROMISE],
