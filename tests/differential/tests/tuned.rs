@@ -3,9 +3,9 @@
 use differential::tally::Tally;
 use differential::tuned::{Code, Machine};
 use differential::watched::{Watched, ENDINGS};
-use generator::{accepted, accepted_of, entry, words, Random, Special, Theme};
+use generator::{accepted, accepted_of, begun, Random, Special, Theme};
 use reference::bounds::{Steps, BUFFER};
-use reference::{Answer, Program, State};
+use reference::{Answer, Program};
 
 /// How many generated programs are run.
 const PROGRAMS: u64 = 12_000;
@@ -26,17 +26,13 @@ fn any_budget(random: &mut Random) -> Steps {
 /// Runs a program from its entry on both, by budgets of any size, past its end.
 fn compare(image: &[u8], seed: u64, met: &mut Tally) {
     let program = Program::accept(image).expect("an accepted image");
-    let Some((function, version)) = entry(seed, &program) else {
-        return;
-    };
-    let words = words(seed, &program, (function, version));
-    let Ok(begun) = State::begin(&program, function, version, &words, &[0; BUFFER]) else {
+    let Some(mut state) = begun(seed, &program) else {
         return;
     };
     let code = Code::new(&program);
-    let mut tuned = Machine::new(&program, &code, &begun);
+    let mut tuned = Machine::new(&program, &code, &state);
     let mut random = Random::new(seed);
-    let (mut state, mut taken) = (begun.clone(), 0);
+    let mut taken = 0;
     for _ in 0..200 {
         let budget = any_budget(&mut random);
         let (after, answer, steps) = state.budget(&program, budget, &mut [0; BUFFER]);

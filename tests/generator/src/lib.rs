@@ -25,7 +25,8 @@ pub use special::Special;
 pub use theme::Theme;
 
 use draft::Draft;
-use reference::{Integer, Program};
+use reference::bounds::BUFFER;
+use reference::{Integer, Program, State};
 
 /// What an image was made for.
 #[derive(Clone, Copy, PartialEq, Eq, PartialOrd, Ord, Debug)]
@@ -140,6 +141,14 @@ pub fn words(seed: u64, program: &Program, entry: (usize, usize)) -> Vec<Integer
     } else {
         words
     }
+}
+
+/// The run of an accepted image that begins at its entry with its words; none
+/// if there is no entry or the words do not match.
+pub fn begun(seed: u64, program: &Program) -> Option<State> {
+    let (function, version) = entry(seed, program)?;
+    let words = words(seed, program, (function, version));
+    State::begin(program, function, version, &words, &[0; BUFFER]).ok()
 }
 
 /// A list of single steps and budgets, some lent too short a buffer.

@@ -1,7 +1,7 @@
 //! States that no run reaches: a step never panics, and where it is stuck nothing changes.
 
 use crate::tally::Tally;
-use generator::{accepted, entry, words, Random};
+use generator::{accepted, begun, Random};
 use reference::bounds::BUFFER;
 use reference::state::{Activation, Opener, Promise};
 use reference::{Answer, Program, Said, State, Value};
@@ -97,12 +97,7 @@ fn broken_states_step_without_panic_and_stuck_ones_stay_as_they_are() {
     let mut met = Tally::new();
     for seed in 0..6000 {
         let program = Program::accept(&accepted(seed)).expect("an accepted image");
-        let Some((function, version)) = entry(seed, &program) else {
-            continue;
-        };
-        let words = words(seed, &program, (function, version));
-        let begun = State::begin(&program, function, version, &words, &[0; BUFFER]);
-        let Ok(mut state) = begun else {
+        let Some(mut state) = begun(seed, &program) else {
             continue;
         };
         let mut random = Random::new(seed);

@@ -1,7 +1,7 @@
 //! Event lists: budgets do what as many single steps do, and buffers are kept to.
 
 use crate::tally::Tally;
-use generator::{accepted, entry, events, words, Event};
+use generator::{accepted, begun, entry, events, Event};
 use reference::bounds::BUFFER;
 use reference::{Answer, End, Integer, Program, Refusal, Said, State, Status};
 
@@ -65,12 +65,7 @@ fn budgets_do_what_single_steps_do_and_write_only_items() {
     let mut met = Tally::new();
     for seed in 0..2500 {
         let program = Program::accept(&accepted(seed)).expect("an accepted image");
-        let Some((function, version)) = entry(seed, &program) else {
-            continue;
-        };
-        let words = words(seed, &program, (function, version));
-        let begun = State::begin(&program, function, version, &words, &[0; BUFFER]);
-        let Ok(mut state) = begun else {
+        let Some(mut state) = begun(seed, &program) else {
             continue;
         };
         for event in events(seed) {
@@ -95,13 +90,11 @@ fn words_are_sometimes_wrong() {
     let mut met = Tally::new();
     for seed in 0..1000 {
         let program = Program::accept(&accepted(seed)).expect("an accepted image");
-        let Some((function, version)) = entry(seed, &program) else {
-            met.meet("no entry");
-            continue;
-        };
-        let words = words(seed, &program, (function, version));
-        let begun = State::begin(&program, function, version, &words, &[0; BUFFER]);
-        met.meet(if begun.is_ok() { "begun" } else { "refused" });
+        met.meet(match begun(seed, &program) {
+            Some(_) => "begun",
+            None if entry(seed, &program).is_none() => "no entry",
+            None => "refused",
+        });
     }
     println!("{met}");
     assert!(met.count(&"begun") > 700);

@@ -1,20 +1,12 @@
 //! Runs of accepted images: demand 3 at each step, and every end reached.
 
 use crate::tally::Tally;
-use generator::{accepted, accepted_of, entry, words, Special, Theme};
-use reference::bounds::BUFFER;
+use generator::{accepted, accepted_of, begun, Special, Theme};
 use reference::monitor::{check_state, check_step};
 use reference::{kinds, End, Instruction, Program, Said, State, Value};
 
 /// The most steps that a run is given.
 const STEPS: usize = 4000;
-
-/// A begun run, if the words match.
-fn begin(program: &Program, seed: u64) -> Option<State> {
-    let (function, version) = entry(seed, program)?;
-    let words = words(seed, program, (function, version));
-    State::begin(program, function, version, &words, &[0; BUFFER]).ok()
-}
 
 /// Steps a run to its end under the monitor of demand 3; its last state, what
 /// the last step said, and how many were tried.
@@ -97,7 +89,7 @@ fn demand_3_holds_at_each_step_and_every_end_is_reached() {
     let (mut met, mut steps, mut runs) = (Tally::new(), 0, 0);
     for seed in 0..6000 {
         let program = Program::accept(&accepted(seed)).expect("an accepted image");
-        let Some(state) = begin(&program, seed) else {
+        let Some(state) = begun(seed, &program) else {
             met.meet("refused by 12".to_string());
             continue;
         };
@@ -178,7 +170,7 @@ fn runs_show_what_is_worth_meeting() {
     let mut met = Tally::new();
     for seed in 0..1500 {
         let program = Program::accept(&accepted(seed)).expect("an accepted image");
-        let Some(mut state) = begin(&program, seed) else {
+        let Some(mut state) = begun(seed, &program) else {
             continue;
         };
         for _ in 0..STEPS {
@@ -220,7 +212,7 @@ fn large_and_special_programs_run_under_the_monitor_too() {
     for theme in themes {
         for seed in 0..20 {
             let program = Program::accept(&accepted_of(theme, seed)).expect("an accepted image");
-            if let Some(state) = begin(&program, seed) {
+            if let Some(state) = begun(seed, &program) {
                 run_monitored(&program, state, seed);
             }
         }
