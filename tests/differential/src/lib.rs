@@ -11,7 +11,6 @@ pub mod snapshot;
 mod stand_in;
 pub mod tally;
 pub mod tuned;
-pub mod watched;
 pub mod workloads;
 
 pub use engine::verdict;

@@ -5,10 +5,10 @@ use differential::difference::difference;
 use differential::engine;
 use differential::snapshot::{state_of, untouched};
 use differential::tally::Tally;
-use differential::watched::{Watched, ENDINGS};
 use generator::{accepted, damaged, entry, events, words, Event, Random};
 use library::State as Snapshot;
 use reference::bounds::{Steps, BUFFER, FUNCTIONS, ITEMS, VERSIONS_EACH};
+use reference::watched::{Watched, ENDINGS};
 use reference::{Answer, Integer, Program, Refusal, Said, State};
 use std::thread;
 
@@ -301,7 +301,7 @@ fn run(seed: u64, met: &mut Tally) -> usize {
     met.meet("begun");
     let mut pair = Pair {
         image: &image,
-        reference: Watched::new(checked, state),
+        reference: Watched::new(checked, state, &origin),
         proved,
         events: 0,
     };

@@ -2,9 +2,9 @@
 
 use differential::tally::Tally;
 use differential::tuned::{Code, Machine};
-use differential::watched::{Watched, ENDINGS};
 use generator::{accepted, accepted_of, begun, Random, Special, Theme};
 use reference::bounds::{Steps, BUFFER};
+use reference::watched::{Watched, ENDINGS};
 use reference::{Answer, Program};
 
 /// How many generated programs are run.
@@ -44,7 +44,7 @@ fn compare(image: &[u8], seed: u64, met: &mut Tally) {
             break;
         }
     }
-    if let Some(ending) = Watched::new(&program, state).ending() {
+    if let Some(ending) = Watched::new(&program, state, &format!("seed {seed}")).ending() {
         met.meet(ending);
     }
 }

@@ -12,7 +12,7 @@
 //! | Types fit when | [`questions`] |
 //! | Flow | [`flow`] |
 //! | Steps | [`state`], [`counts`], [`outside`], [`steps`] |
-//! | What demand 3 speaks of | [`monitor`] |
+//! | What demand 3 speaks of | [`monitor`], [`watched`] |
 //! | Program | [`report`] |
 
 pub mod begin;
@@ -30,6 +30,7 @@ pub mod report;
 pub mod state;
 pub mod steps;
 pub mod types;
+pub mod watched;
 
 pub use begin::begin;
 pub use bounds::Integer;

@@ -1,13 +1,19 @@
-//! A run of the reference under its monitor of demand 3.
+//! A run under the monitor of demand 3, for tests.
 
-use reference::bounds::{Steps, ITEMS};
-use reference::monitor::{check_state, check_step};
-use reference::{kinds, Answer, End, Instruction, Integer, Program, Said, State, Status, Value};
+use crate::bounds::{Integer, Steps, ITEMS};
+use crate::instruction::Instruction;
+use crate::kinds;
+use crate::monitor::{check_state, check_step};
+use crate::program::Program;
+use crate::state::{End, State, Status, Value};
+use crate::steps::{Answer, Said};
 
-/// A run of the reference; demand 3 is asserted at its start and at each step.
+/// A run; demand 3 is asserted at its start and at each step.
 pub struct Watched<'p> {
     program: &'p Program,
     state: State,
+    /// What a failed assertion names.
+    origin: String,
     /// The steps that were tried while the run went on.
     tried: usize,
 }
@@ -15,11 +21,13 @@ pub struct Watched<'p> {
 impl<'p> Watched<'p> {
     /// A run that has begun.
     #[track_caller]
-    pub fn new(program: &'p Program, state: State) -> Watched<'p> {
-        assert_eq!(check_state(program, &state), Ok(()), "at the start");
+    pub fn new(program: &'p Program, state: State, origin: &str) -> Watched<'p> {
+        let checked = check_state(program, &state);
+        assert_eq!(checked, Ok(()), "{origin}, at the start");
         Watched {
             program,
             state,
+            origin: origin.to_string(),
             tried: 0,
         }
     }
@@ -46,7 +54,7 @@ impl<'p> Watched<'p> {
         self.tried += usize::from(!self.ended());
         let checked = check_step(self.program, &self.state, said);
         let checked = checked.and_then(|()| check_state(self.program, &after));
-        assert_eq!(checked, Ok(()), "at step {}", self.tried);
+        assert_eq!(checked, Ok(()), "{}, step {}", self.origin, self.tried);
         if let Said::Ended(end) = said {
             self.assert_kept(&after, end);
         }
@@ -66,7 +74,11 @@ impl<'p> Watched<'p> {
         if matches!(answer, Answer::Ended(end) if !end.counts()) {
             self.step();
         }
-        assert_eq!(self.state, after, "a budget does what its steps do");
+        let origin = &self.origin;
+        assert_eq!(
+            self.state, after,
+            "{origin}: a budget does what its steps do"
+        );
         (answer, steps)
     }
 
@@ -76,7 +88,11 @@ impl<'p> Watched<'p> {
         if !matches!(end, End::Integer(_) | End::Vector(_)) {
             let mut restored = after.clone();
             restored.status = self.state.status;
-            assert_eq!(restored, self.state, "{end:?} changes nothing else");
+            let origin = &self.origin;
+            assert_eq!(
+                restored, self.state,
+                "{origin}: {end:?} changes nothing else"
+            );
         }
     }
 
