@@ -9,7 +9,6 @@ pub mod engine;
 pub mod snapshot;
 #[cfg(feature = "stand_in")]
 mod stand_in;
-pub mod tally;
 pub mod tuned;
 pub mod workloads;
 

@@ -4,8 +4,7 @@
 use differential::difference::difference;
 use differential::engine;
 use differential::snapshot::{state_of, untouched};
-use differential::tally::Tally;
-use generator::{accepted, damaged, entry, events, words, Event, Random};
+use generator::{accepted, damaged, entry, events, words, Event, Random, Tally};
 use library::State as Snapshot;
 use reference::bounds::{Steps, BUFFER, FUNCTIONS, ITEMS, VERSIONS_EACH};
 use reference::watched::{Watched, ENDINGS};
@@ -102,7 +101,7 @@ impl Pair<'_> {
 
     /// Does the events of a seed, and goes past the end.
     #[track_caller]
-    fn act_all(&mut self, seed: u64, origin: &str, met: &mut Tally) {
+    fn act_all(&mut self, seed: u64, origin: &str, met: &mut Tally<String>) {
         let mut after_end = 0;
         for event in event_list(seed) {
             if after_end < MOST_AFTER_END {
@@ -117,21 +116,21 @@ impl Pair<'_> {
 
     /// Does one event on both sides, and compares.
     #[track_caller]
-    fn act(&mut self, event: Event, origin: &str, met: &mut Tally) {
+    fn act(&mut self, event: Event, origin: &str, met: &mut Tally<String>) {
         let ended = self.reference.ended();
         self.events += 1;
-        met.meet("events in all");
+        met.meet("events in all".to_string());
         match event {
             Event::Step => {
                 let said = self.step(origin);
-                met.meet(&format!("step {}: {}", when(ended), name_said(said)));
+                met.meet(format!("step {}: {}", when(ended), name_said(said)));
             }
             Event::Budget { budget, places } => {
                 let answer = self.budget(budget, places, origin);
                 let size = size(budget);
                 let when = when(ended);
-                met.meet(&format!("{size} budget {when}: {}", name_answer(answer)));
-                met.meet(&format!("buffer of {places} places"));
+                met.meet(format!("{size} budget {when}: {}", name_answer(answer)));
+                met.meet(format!("buffer of {places} places"));
             }
         }
         self.assert_same_state(origin);
@@ -280,13 +279,13 @@ fn begin(
 }
 
 /// Runs a program under its list of events; how many steps were tried.
-fn run(seed: u64, met: &mut Tally) -> usize {
+fn run(seed: u64, met: &mut Tally<String>) -> usize {
     let origin = format!("seed {seed}");
     let image = accepted(seed);
     let program = Program::accept(&image);
     let checked = program.as_ref().expect("an accepted image");
     let Some(entry) = entry(seed, checked) else {
-        met.meet("no entry");
+        met.meet("no entry".to_string());
         return 0;
     };
     let words = words(seed, checked, entry);
@@ -294,11 +293,11 @@ fn run(seed: u64, met: &mut Tally) -> usize {
     let (state, proved) = match begin(&image, &program, entry, &words, BUFFER, &origin) {
         Ok(begun) => begun,
         Err(refusal) => {
-            met.meet(&format!("begin refused by {}", refusal.number));
+            met.meet(format!("begin refused by {}", refusal.number));
             return 0;
         }
     };
-    met.meet("begun");
+    met.meet("begun".to_string());
     let mut pair = Pair {
         image: &image,
         reference: Watched::new(checked, state, &origin),
@@ -307,7 +306,7 @@ fn run(seed: u64, met: &mut Tally) -> usize {
     };
     pair.assert_same_state(&origin);
     pair.act_all(seed, &origin, met);
-    met.meet(pair.reference.ending().unwrap_or("goes on"));
+    met.meet(pair.reference.ending().unwrap_or("goes on").to_string());
     pair.reference.tried()
 }
 
@@ -319,7 +318,7 @@ fn begin_wrongly(
     program: &Result<Program, Refusal>,
     entry: (usize, usize),
     words: &[Integer],
-    met: &mut Tally,
+    met: &mut Tally<String>,
 ) {
     let mut random = Random::new(seed ^ 0x00C0_FFEE);
     let (mut entry, mut words, mut places) = (entry, words.to_vec(), BUFFER);
@@ -341,7 +340,7 @@ fn begin_wrongly(
         &format!("seed {seed}"),
     );
     if let Err(refusal) = begun {
-        met.meet(&format!("begin refused by {}", refusal.number));
+        met.meet(format!("begin refused by {}", refusal.number));
     }
 }
 
@@ -375,7 +374,10 @@ fn other_words(random: &mut Random, mut words: Vec<Integer>) -> Vec<Integer> {
 }
 
 /// What all workers met, and the steps that they tried.
-fn in_parallel(seeds: u64, work: impl Fn(u64, &mut Tally) -> usize + Sync) -> (Tally, usize) {
+fn in_parallel(
+    seeds: u64,
+    work: impl Fn(u64, &mut Tally<String>) -> usize + Sync,
+) -> (Tally<String>, usize) {
     let workers = thread::available_parallelism().map_or(1, usize::from) as u64;
     let work = &work;
     let share = |worker: u64| {
@@ -406,7 +408,7 @@ fn in_parallel(seeds: u64, work: impl Fn(u64, &mut Tally) -> usize + Sync) -> (T
 
 /// Asserts that each thing was met.
 #[track_caller]
-fn assert_met(met: &Tally, things: impl IntoIterator<Item = String>) {
+fn assert_met(met: &Tally<String>, things: impl IntoIterator<Item = String>) {
     for thing in things {
         assert!(met.count(&thing) > 0, "never met: {thing}");
     }
@@ -455,7 +457,7 @@ fn runs_agree_under_every_list_of_events() {
 }
 
 /// Begins a run of a damaged image; which question refuses it.
-fn begin_damaged(seed: u64, met: &mut Tally) -> usize {
+fn begin_damaged(seed: u64, met: &mut Tally<String>) -> usize {
     let image = damaged(seed).bytes;
     let program = Program::accept(&image);
     let mut random = Random::new(seed);
@@ -464,8 +466,8 @@ fn begin_damaged(seed: u64, met: &mut Tally) -> usize {
     let places = random.pick(&[0, BUFFER - 1, BUFFER, BUFFER]);
     let origin = format!("damaged seed {seed}");
     match begin(&image, &program, entry, &words, places, &origin) {
-        Ok(_) => met.meet("begun"),
-        Err(refusal) => met.meet(&format!("begin refused by {}", refusal.number)),
+        Ok(_) => met.meet("begun".to_string()),
+        Err(refusal) => met.meet(format!("begin refused by {}", refusal.number)),
     }
     0
 }

@@ -1,8 +1,7 @@
 //! The tuned interpreter and the reference give the same ends, results and steps.
 
-use differential::tally::Tally;
 use differential::tuned::{Code, Machine};
-use generator::{accepted, accepted_of, begun, Random, Special, Theme};
+use generator::{accepted, accepted_of, begun, Random, Special, Tally, Theme};
 use reference::bounds::{Steps, BUFFER};
 use reference::watched::{Watched, ENDINGS};
 use reference::{Answer, Program};
@@ -24,7 +23,7 @@ fn any_budget(random: &mut Random) -> Steps {
 }
 
 /// Runs a program from its entry on both, by budgets of any size, past its end.
-fn compare(image: &[u8], seed: u64, met: &mut Tally) {
+fn compare(image: &[u8], seed: u64, met: &mut Tally<&'static str>) {
     let program = Program::accept(image).expect("an accepted image");
     let Some(mut state) = begun(seed, &program) else {
         return;

@@ -15,6 +15,7 @@ mod random;
 mod registers;
 mod run;
 mod special;
+mod tally;
 mod theme;
 mod world;
 
@@ -22,6 +23,7 @@ pub use grow::Trap;
 pub use random::Random;
 pub use run::Event;
 pub use special::Special;
+pub use tally::Tally;
 pub use theme::Theme;
 
 use draft::Draft;

@@ -1,7 +1,6 @@
 //! Images that are to be accepted are accepted, and use all that there is.
 
-use crate::tally::Tally;
-use generator::{accepted, accepted_of, Special, Theme, Trap};
+use generator::{accepted, accepted_of, Special, Tally, Theme, Trap};
 use reference::bounds::{MAX_IMAGE, VERSIONS};
 use reference::{verdict, Kind, Mark, Program, Type, Verdict};
 
@@ -75,7 +74,8 @@ fn one_seed_gives_one_image() {
 
 #[test]
 fn all_instructions_types_and_marks_are_used() {
-    let (mut instructions, mut types, mut marks) = (Tally::new(), Tally::new(), Tally::new());
+    let (mut instructions, mut types, mut marks) =
+        (Tally::default(), Tally::default(), Tally::default());
     for seed in 0..2000 {
         let program = Program::accept(&accepted(seed)).expect("an accepted image");
         for version in &program.versions {

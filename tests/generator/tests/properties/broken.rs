@@ -1,7 +1,6 @@
 //! States that no run reaches: a step never panics, and where it is stuck nothing changes.
 
-use crate::tally::Tally;
-use generator::{accepted, begun, Random};
+use generator::{accepted, begun, Random, Tally};
 use reference::bounds::BUFFER;
 use reference::state::{Activation, Opener, Promise};
 use reference::{Answer, Program, Said, State, Value};
@@ -94,7 +93,7 @@ fn try_steps(program: &Program, mut state: State) -> Said {
 
 #[test]
 fn broken_states_step_without_panic_and_stuck_ones_stay_as_they_are() {
-    let mut met = Tally::new();
+    let mut met = Tally::default();
     for seed in 0..6000 {
         let program = Program::accept(&accepted(seed)).expect("an accepted image");
         let Some(mut state) = begun(seed, &program) else {
@@ -114,6 +113,6 @@ fn broken_states_step_without_panic_and_stuck_ones_stay_as_they_are() {
         });
     }
     println!("{met}");
-    assert!(met.count(&"stuck") > 1000);
-    assert!(met.count(&"ended") > 500);
+    assert!(met.count("stuck") > 1000);
+    assert!(met.count("ended") > 500);
 }

@@ -1,7 +1,6 @@
 //! Damaged images mostly meet the question they aim at, and all questions are met.
 
-use crate::tally::Tally;
-use generator::{any, damaged_at, image, Aim};
+use generator::{any, damaged_at, image, Aim, Tally};
 use reference::{questions_1_to_7, verdict, Instruction, Record, Refusal, Verdict};
 
 /// The number of the question that refuses an image, 0 if it is accepted.
@@ -16,7 +15,7 @@ fn number(image: &[u8]) -> u8 {
 fn damaged_images_mostly_meet_their_question() {
     const SEEDS: u64 = 1000;
     for aim in 1..=10 {
-        let mut met = Tally::new();
+        let mut met = Tally::default();
         for seed in 0..SEEDS {
             met.meet(number(&damaged_at(aim, seed)));
         }
@@ -29,7 +28,7 @@ fn damaged_images_mostly_meet_their_question() {
 fn any_images_meet_every_question_and_acceptance_in_every_few_thousand() {
     const SEEDS: u64 = 3000;
     for start in [0, 1_000_000, 7_777_777] {
-        let (mut met, mut bytes) = (Tally::new(), 0);
+        let (mut met, mut bytes) = (Tally::default(), 0);
         for seed in start..start + SEEDS {
             let image = any(seed);
             met.meet(number(&image));
@@ -102,7 +101,7 @@ fn boundaries(image: &[u8]) -> Vec<&'static str> {
 
 #[test]
 fn damaged_images_stand_at_each_boundary() {
-    let mut met = Tally::new();
+    let mut met = Tally::default();
     for aim in [1, 4, 7] {
         for seed in 0..2000 {
             boundaries(&damaged_at(aim, seed))

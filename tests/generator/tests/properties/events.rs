@@ -1,7 +1,6 @@
 //! Event lists: budgets do what as many single steps do, and buffers are kept to.
 
-use crate::tally::Tally;
-use generator::{accepted, begun, entry, events, Event};
+use generator::{accepted, begun, entry, events, Event, Tally};
 use reference::bounds::BUFFER;
 use reference::{Answer, End, Integer, Program, Refusal, Said, State, Status};
 
@@ -62,7 +61,7 @@ fn kind(answer: &str) -> String {
 
 #[test]
 fn budgets_do_what_single_steps_do_and_write_only_items() {
-    let mut met = Tally::new();
+    let mut met = Tally::default();
     for seed in 0..2500 {
         let program = Program::accept(&accepted(seed)).expect("an accepted image");
         let Some(mut state) = begun(seed, &program) else {
@@ -87,7 +86,7 @@ fn budgets_do_what_single_steps_do_and_write_only_items() {
 
 #[test]
 fn words_are_sometimes_wrong() {
-    let mut met = Tally::new();
+    let mut met = Tally::default();
     for seed in 0..1000 {
         let program = Program::accept(&accepted(seed)).expect("an accepted image");
         met.meet(match begun(seed, &program) {
@@ -97,6 +96,6 @@ fn words_are_sometimes_wrong() {
         });
     }
     println!("{met}");
-    assert!(met.count(&"begun") > 700);
-    assert!(met.count(&"refused") > 20);
+    assert!(met.count("begun") > 700);
+    assert!(met.count("refused") > 20);
 }

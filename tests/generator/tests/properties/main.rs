@@ -6,4 +6,3 @@ mod damaged;
 mod events;
 mod round_trip;
 mod runs;
-mod tally;

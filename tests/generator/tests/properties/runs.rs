@@ -1,7 +1,6 @@
 //! Runs of accepted images: demand 3 at each step, and every end reached.
 
-use crate::tally::Tally;
-use generator::{accepted, accepted_of, begun, Special, Theme};
+use generator::{accepted, accepted_of, begun, Special, Tally, Theme};
 use reference::state::Opener;
 use reference::watched::{Watched, ENDINGS};
 use reference::{Program, Said, State, Value};
@@ -21,7 +20,7 @@ fn run_watched(program: &Program, state: State, seed: u64) -> Watched<'_> {
 
 #[test]
 fn demand_3_holds_at_each_step_and_every_end_is_reached() {
-    let (mut met, mut steps, mut runs) = (Tally::new(), 0, 0);
+    let (mut met, mut steps, mut runs) = (Tally::default(), 0, 0);
     for seed in 0..6000 {
         let program = Program::accept(&accepted(seed)).expect("an accepted image");
         let Some(state) = begun(seed, &program) else {
@@ -40,7 +39,7 @@ fn demand_3_holds_at_each_step_and_every_end_is_reached() {
     for ending in ENDINGS {
         assert!(met.count(&ending) >= 3, "{ending}");
     }
-    assert_eq!(met.count(&"UNDEF, without a cause"), 0);
+    assert_eq!(met.count("UNDEF, without a cause"), 0);
 }
 
 /// What a state shows that is worth meeting.
@@ -85,7 +84,7 @@ fn sights(program: &Program, state: &State) -> Vec<&'static str> {
 
 #[test]
 fn runs_show_what_is_worth_meeting() {
-    let mut met = Tally::new();
+    let mut met = Tally::default();
     for seed in 0..1500 {
         let program = Program::accept(&accepted(seed)).expect("an accepted image");
         let Some(mut state) = begun(seed, &program) else {
