@@ -1,0 +1,161 @@
+//! Runs of the proved engine and of the reference, under the same lists of
+//! events: every answer, step count, place of the buffer and state agrees.
+
+mod begin;
+mod events;
+mod pair;
+
+use begin::{begin, begin_wrongly};
+use generator::{accepted, damaged, entry, words, Random, Tally};
+use pair::Pair;
+use reference::bounds::BUFFER;
+use reference::watched::{Watched, ENDINGS};
+use reference::Program;
+use std::thread;
+
+/// How many programs are generated; the fewest that begin a run, and the
+/// fewest steps that they take together.
+const PROGRAMS: u64 = 56_000;
+const FEWEST_RUNS: usize = 50_000;
+const FEWEST_STEPS: usize = 1_000_000;
+
+/// How many damaged images no run may begin of.
+const DAMAGED: u64 = 6_000;
+
+/// The bytes of a worker's stack: states are passed by value.
+const STACK: usize = 16 << 20;
+
+/// Runs a program under its list of events; how many steps were tried.
+fn run(seed: u64, met: &mut Tally<String>) -> usize {
+    let origin = format!("seed {seed}");
+    let image = accepted(seed);
+    let program = Program::accept(&image);
+    let checked = program.as_ref().expect("an accepted image");
+    let Some(entry) = entry(seed, checked) else {
+        met.meet("no entry".to_string());
+        return 0;
+    };
+    let words = words(seed, checked, entry);
+    begin_wrongly(seed, &image, &program, entry, &words, met);
+    let (state, proved) = match begin(&image, &program, entry, &words, BUFFER, &origin) {
+        Ok(begun) => begun,
+        Err(refusal) => {
+            met.meet(format!("begin refused by {}", refusal.number));
+            return 0;
+        }
+    };
+    met.meet("begun".to_string());
+    let reference = Watched::new(checked, state, &origin);
+    let mut pair = Pair::new(&image, reference, proved);
+    pair.assert_same_state(&origin);
+    pair.act_all(seed, &origin, met);
+    let ending = pair.reference().ending();
+    met.meet(ending.unwrap_or("goes on").to_string());
+    pair.reference().tried()
+}
+
+/// What all workers met, and the steps that they tried.
+fn in_parallel(
+    seeds: u64,
+    work: impl Fn(u64, &mut Tally<String>) -> usize + Sync,
+) -> (Tally<String>, usize) {
+    let workers = thread::available_parallelism().map_or(1, usize::from) as u64;
+    let work = &work;
+    let share = |worker: u64| {
+        move || {
+            let (mut met, mut steps) = (Tally::default(), 0);
+            for seed in (worker..seeds).step_by(workers as usize) {
+                steps += work(seed, &mut met);
+            }
+            (met, steps)
+        }
+    };
+    let (mut met, mut steps) = (Tally::default(), 0);
+    thread::scope(|scope| {
+        let start = |worker| {
+            let builder = thread::Builder::new().stack_size(STACK);
+            let started = builder.spawn_scoped(scope, share(worker));
+            started.expect("a worker starts")
+        };
+        let shares: Vec<_> = (0..workers).map(start).collect();
+        for worker in shares {
+            let (also, more) = worker.join().expect("a worker found no difference");
+            met.add(also);
+            steps += more;
+        }
+    });
+    (met, steps)
+}
+
+/// Asserts that each thing was met.
+#[track_caller]
+fn assert_met(met: &Tally<String>, things: impl IntoIterator<Item = String>) {
+    for thing in things {
+        assert!(met.count(&thing) > 0, "never met: {thing}");
+    }
+}
+
+#[test]
+fn runs_agree_under_every_list_of_events() {
+    if cfg!(feature = "stand_in") {
+        println!("The reference stands in for the proved engine.");
+    }
+    let (met, steps) = in_parallel(PROGRAMS, run);
+    println!("{PROGRAMS} programs, {steps} steps tried before an end\n{met}");
+    assert!(met.count("begun") >= FEWEST_RUNS, "too few runs");
+    assert!(steps >= FEWEST_STEPS, "{steps} steps");
+    assert_eq!(met.count("goes on"), 0, "a run was not brought to its end");
+    assert_met(&met, ENDINGS.map(String::from));
+    assert_met(&met, [11, 12, 13].map(|n| format!("begin refused by {n}")));
+    let ends = ["Integer", "Vector", "Undef", "Deep", "Vectors", "Promises"];
+    for end in ends {
+        for when in ["before", "after the end"] {
+            assert_met(&met, [format!("step {when}: {end}")]);
+            assert_met(&met, [format!("large budget {when}: {end}")]);
+        }
+        for size in ["empty", "small", "greatest"] {
+            assert_met(&met, [format!("{size} budget after the end: {end}")]);
+        }
+        assert_met(&met, [format!("greatest budget before: {end}")]);
+    }
+    for size in ["empty", "small", "large"] {
+        assert_met(&met, [format!("{size} budget before: refused by 13")]);
+        assert_met(
+            &met,
+            [format!("{size} budget after the end: refused by 13")],
+        );
+    }
+    assert_met(&met, ["step before: GoesOn".to_string()]);
+    assert_met(
+        &met,
+        ["empty", "small"].map(|s| format!("{s} budget before: Steps")),
+    );
+    assert_met(
+        &met,
+        (0..=BUFFER + 1).map(|n| format!("buffer of {n} places")),
+    );
+    assert_eq!(met.count("UNDEF, without a cause"), 0);
+}
+
+/// Begins a run of a damaged image; which question refuses it.
+fn begin_damaged(seed: u64, met: &mut Tally<String>) -> usize {
+    let image = damaged(seed).bytes;
+    let program = Program::accept(&image);
+    let mut random = Random::new(seed);
+    let entry = random.pick(&[(0, 0), (0, 1), (40, 0)]);
+    let words = vec![-1; random.below(4)];
+    let places = random.pick(&[0, BUFFER - 1, BUFFER, BUFFER]);
+    let origin = format!("damaged seed {seed}");
+    match begin(&image, &program, entry, &words, places, &origin) {
+        Ok(_) => met.meet("begun".to_string()),
+        Err(refusal) => met.meet(format!("begin refused by {}", refusal.number)),
+    }
+    0
+}
+
+#[test]
+fn no_run_begins_of_an_image_that_is_refused() {
+    let (met, _) = in_parallel(DAMAGED, begin_damaged);
+    println!("{DAMAGED} damaged images\n{met}");
+    assert_met(&met, (1..=10).map(|n| format!("begin refused by {n}")));
+}

@@ -1,0 +1,189 @@
+//! A run on both sides: each event is done on both, and what it gives compared.
+
+use crate::events::{event_list, events_after_the_end, size};
+use differential::difference::difference;
+use differential::engine;
+use differential::snapshot::state_of;
+use generator::{Event, Tally};
+use library::State as Snapshot;
+use reference::bounds::Steps;
+use reference::watched::Watched;
+use reference::{Answer, Integer, Said};
+
+/// The most events that a run gets after its end.
+const MOST_AFTER_END: usize = 8;
+
+/// Places beside a lent buffer, before it and after it.
+const MARGIN: usize = 8;
+
+/// A buffer to lend, between margins, every place with a number of its own.
+pub struct Lent {
+    places: usize,
+    memory: Vec<Integer>,
+}
+
+impl Lent {
+    /// A buffer of so many places.
+    pub fn new(places: usize, event: usize) -> Lent {
+        let number = |place: usize| 0x5A00_0000 ^ (place * 0x0001_0101 + event) as Integer;
+        Lent {
+            places,
+            memory: (0..places + 2 * MARGIN).map(number).collect(),
+        }
+    }
+
+    /// The places that are lent.
+    pub fn places(&mut self) -> &mut [Integer] {
+        &mut self.memory[MARGIN..MARGIN + self.places]
+    }
+}
+
+/// A run on both sides.
+pub struct Pair<'p> {
+    image: &'p [u8],
+    reference: Watched<'p>,
+    proved: Snapshot,
+    events: usize,
+}
+
+impl<'p> Pair<'p> {
+    /// A run that has begun on both sides.
+    pub fn new(image: &'p [u8], reference: Watched<'p>, proved: Snapshot) -> Pair<'p> {
+        Pair {
+            image,
+            reference,
+            proved,
+            events: 0,
+        }
+    }
+
+    /// The run of the reference.
+    pub fn reference(&self) -> &Watched<'p> {
+        &self.reference
+    }
+
+    /// Asserts that both are in the same state.
+    #[track_caller]
+    pub fn assert_same_state(&self, origin: &str) {
+        let expected = self.reference.state().clone().tidied();
+        let different = match state_of(&self.proved) {
+            Ok(found) => difference(&expected, &found),
+            Err(error) => Some(error),
+        };
+        if let Some(different) = different {
+            panic!(
+                "{origin}, event {}: the proved engine's state, {different}\n{}",
+                self.events,
+                text::listing(self.image)
+            );
+        }
+    }
+
+    /// Asserts that both gave the same.
+    #[track_caller]
+    fn assert_same<T: PartialEq + std::fmt::Debug>(&self, expected: T, found: T, origin: &str) {
+        assert!(
+            expected == found,
+            "{origin}, event {}: expected {expected:?}, the proved engine gives {found:?}\n{}",
+            self.events,
+            text::listing(self.image)
+        );
+    }
+
+    /// Does the events of a seed, and goes past the end.
+    #[track_caller]
+    pub fn act_all(&mut self, seed: u64, origin: &str, met: &mut Tally<String>) {
+        let mut after_end = 0;
+        for event in event_list(seed) {
+            if after_end < MOST_AFTER_END {
+                self.act(event, origin, met);
+            }
+            after_end += usize::from(self.reference.ended());
+        }
+        for event in events_after_the_end(seed) {
+            self.act(event, origin, met);
+        }
+    }
+
+    /// Does one event on both sides, and compares.
+    #[track_caller]
+    fn act(&mut self, event: Event, origin: &str, met: &mut Tally<String>) {
+        let ended = self.reference.ended();
+        self.events += 1;
+        met.meet("events in all".to_string());
+        match event {
+            Event::Step => {
+                let said = self.step(origin);
+                met.meet(format!("step {}: {}", when(ended), name_said(said)));
+            }
+            Event::Budget { budget, places } => {
+                let answer = self.budget(budget, places, origin);
+                let size = size(budget);
+                let when = when(ended);
+                met.meet(format!("{size} budget {when}: {}", name_answer(answer)));
+                met.meet(format!("buffer of {places} places"));
+            }
+        }
+        self.assert_same_state(origin);
+    }
+
+    /// A single step on both sides; what it says.
+    #[track_caller]
+    fn step(&mut self, origin: &str) -> Said {
+        let (after, found) = engine::step(self.image, &self.proved);
+        let expected = self.reference.step();
+        self.assert_same(expected, found, origin);
+        self.proved = after;
+        expected
+    }
+
+    /// A budget on both sides; its answer.
+    #[track_caller]
+    fn budget(&mut self, budget: Steps, places: usize, origin: &str) -> Answer {
+        let (mut expected, mut found) = (
+            Lent::new(places, self.events),
+            Lent::new(places, self.events),
+        );
+        let (after, answer, steps) =
+            engine::budget(self.image, &self.proved, budget, found.places());
+        let right = self.reference.budget(budget, expected.places());
+        self.assert_same(right, (answer, steps), origin);
+        self.assert_same(expected.memory, found.memory, origin);
+        if matches!(right.0, Answer::Refused(_)) {
+            assert!(after == self.proved, "{origin}: a refusal leaves the state");
+        }
+        self.proved = after;
+        right.0
+    }
+}
+
+/// Whether an event found the run at its end.
+fn when(ended: bool) -> &'static str {
+    if ended {
+        "after the end"
+    } else {
+        "before"
+    }
+}
+
+/// What a step says, without its numbers.
+fn name_said(said: Said) -> String {
+    match said {
+        Said::Ended(end) => name(&format!("{end:?}")),
+        said => name(&format!("{said:?}")),
+    }
+}
+
+/// What a budget answers, without its numbers.
+fn name_answer(answer: Answer) -> String {
+    match answer {
+        Answer::Refused(refusal) => format!("refused by {}", refusal.number),
+        Answer::Ended(end) => name(&format!("{end:?}")),
+        answer => name(&format!("{answer:?}")),
+    }
+}
+
+/// The letters of an answer.
+fn name(answer: &str) -> String {
+    answer.chars().filter(|c| c.is_alphabetic()).collect()
+}
