@@ -127,16 +127,25 @@ fn step_stopped_by_deep_does_not_count_and_budget_is_looked_at_first() {
     assert_eq!(run.budget(1), (Answer::Ended(End::Deep), 0));
 }
 
-#[test]
-fn single_step_of_an_ended_run_changes_nothing_and_gives_its_end_again() {
-    for (text, words, end) in [
+/// Runs that have ended, and how.
+fn ended_runs() -> impl Iterator<Item = (Run, End)> {
+    [
         (FOUR_STEPS, vec![-1, 5], End::Integer(20)),
         (VECTOR, vec![2, 7, 8], End::Vector(2)),
         (UNDEF, vec![-1, 0], End::Undef),
         (ENDLESS, vec![-1, 0], End::Deep),
-    ] {
+    ]
+    .into_iter()
+    .map(|(text, words, end)| {
         let mut run = Run::begin(text, &words);
-        run.budget(100);
+        assert_eq!(run.budget(100).0, Answer::Ended(end));
+        (run, end)
+    })
+}
+
+#[test]
+fn single_step_of_an_ended_run_changes_nothing_and_gives_its_end_again() {
+    for (mut run, end) in ended_runs() {
         let before = run.state.clone();
         assert_eq!(run.step(), Said::Ended(end));
         assert_eq!(run.state, before);
@@ -145,14 +154,7 @@ fn single_step_of_an_ended_run_changes_nothing_and_gives_its_end_again() {
 
 #[test]
 fn budget_on_an_ended_run_gives_its_end_with_0_steps() {
-    for (text, words, end) in [
-        (FOUR_STEPS, vec![-1, 5], End::Integer(20)),
-        (VECTOR, vec![2, 7, 8], End::Vector(2)),
-        (UNDEF, vec![-1, 0], End::Undef),
-        (ENDLESS, vec![-1, 0], End::Deep),
-    ] {
-        let mut run = Run::begin(text, &words);
-        run.budget(100);
+    for (run, end) in ended_runs() {
         for budget in [0, 1, 100] {
             let (state, answer, steps, _) = lend(&run, budget, 16);
             assert_eq!((answer, steps), (Answer::Ended(end), 0));
