@@ -1,13 +1,8 @@
 //! Images at the edges of the rules, made by hand.
 
+use cases::{image, IDENTITY};
 use generator::{accepted_of, Theme};
 use reference::bounds::{MAX_IMAGE, VERSIONS_EACH};
-
-/// The image I of the paper.
-pub const IDENTITY: [u8; 18] = [
-    0x0B, 0x00, 0x01, 0x00, 0x00, 0x00, 0x01, 0x01, 0x02, 0x01, 0x02, 0x07, 0x00, 0x02, 0x00, 0x00,
-    0x00, 0x00,
-];
 
 /// An accepted image with each instruction, by kind number but for USE, and
 /// with a promise block within another.
@@ -51,12 +46,6 @@ pub const EVERY_INSTRUCTION: &str = "
     version 1.0(r0: own vector) -> own vector
       block 0 quiet -> r0
 ";
-
-/// The image of a text that is known to be well formed.
-#[track_caller]
-pub fn image(text: &str) -> Vec<u8> {
-    text::assemble(text).unwrap_or_else(|error| panic!("{error}\n{text}"))
-}
 
 /// All images at the edges, with their names.
 pub fn edges() -> Vec<(String, Vec<u8>)> {

@@ -4,7 +4,7 @@
 
 mod mix;
 
-use crate::edges::image;
+use cases::image;
 use mix::mix;
 use reference::questions::records;
 use reference::Record;

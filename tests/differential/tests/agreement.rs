@@ -1,7 +1,8 @@
 //! The proved library and the reference say the same of every image.
 
+use cases::{image, IDENTITY};
 use differential::comparison::{assert_report, assert_verdict, assert_written};
-use differential::edges::{edges, identities, image, EVERY_INSTRUCTION, IDENTITY};
+use differential::edges::{edges, identities, EVERY_INSTRUCTION};
 use generator::any;
 use reference::bounds::VERSIONS;
 use reference::{report, report_of, Program, Verdict};

@@ -1,7 +1,11 @@
 //! The cases that the paper names, with verdicts and texts worked out by hand.
 
+use cases::{
+    calling_with, emptying_after, image, resulting, returning, CALLS_ITSELF, DIVISION, DUP_AND_SET,
+    IDENTITY, SET_ON_SHARED,
+};
 use differential::comparison::{assert_report, assert_verdict};
-use differential::edges::{identities, image, EVERY_INSTRUCTION, IDENTITY};
+use differential::edges::{identities, EVERY_INSTRUCTION};
 use reference::{report, verdict, Refusal, Verdict};
 
 /// Asserts that both checkers refuse an image so, and print so.
@@ -58,82 +62,37 @@ fn p5_identity_with_type_owned_integer_is_6_at_0() {
 
 #[test]
 fn p6_result_register_that_nothing_assigned_is_10_at_0() {
-    let with_result = |result: &str| {
-        image(&format!(
-            "version 0.0(r0: int) -> int
-               registers r1: int
-               block 0 quiet -> {result}"
-        ))
-    };
-    refuses(&with_result("r1"), 10, 0);
-    accepts(&with_result("r0"), &["0.0 1 0 0 0"]);
+    refuses(&image(&resulting("r1")), 10, 0);
+    accepts(&image(&resulting("r0")), &["0.0 1 0 0 0"]);
 }
 
 #[test]
 fn p7_dup_set_and_owned_return_is_accepted() {
     // Reads r0; assigns r1, r2, r3.
-    let image = image(
-        "version 0.0(r0: vector) -> own vector
-           registers r1: own vector, r2: int, r3: int
-           block 0 quiet -> r1
-             r1 = dup r0
-             r2 = lit 0
-             r3 = lit 42
-             set r1[r2] = r3",
-    );
-    accepts(&image, &["0.0 1 3 0 0"]);
+    accepts(&image(DUP_AND_SET), &["0.0 1 3 0 0"]);
 }
 
 #[test]
 fn p9_set_on_the_shared_vector_is_8_at_the_set() {
-    let image = image(
-        "version 0.0(r0: vector) -> vector
-           registers r1: own vector, r2: int, r3: int
-           block 0 quiet -> r0
-             r1 = dup r0
-             r2 = lit 0
-             r3 = lit 42
-             set r0[r2] = r3",
-    );
-    refuses(&image, 8, 14 + 7 + 6 + 9 + 9);
+    refuses(&image(SET_ON_SHARED), 8, 14 + 7 + 6 + 9 + 9);
 }
 
 #[test]
 fn p10_division_is_accepted() {
-    let image = image(
-        "version 0.0(r0: int, r1: int) -> int
-           block 0 quiet -> r0
-             r0 = div r0, r1",
-    );
-    accepts(&image, &["0.0 2 1 0 0"]);
+    accepts(&image(DIVISION), &["0.0 2 1 0 0"]);
 }
 
 #[test]
 fn p11_a_body_that_calls_itself_is_accepted() {
-    let image = image(
-        "version 0.0(r0: int) -> int
-           block 0 quiet -> r0
-             r0 = call 0.0(r0)",
-    );
-    accepts(&image, &["0.0 1 1 0 0"]);
+    accepts(&image(CALLS_ITSELF), &["0.0 1 1 0 0"]);
 }
 
 #[test]
 fn mistake_one_owned_register_given_as_owned_and_borrowed_in_one_call_is_8() {
-    let with_arguments = |arguments: &str| {
-        image(&format!(
-            "version 0.0(r0: own vector, r1: own vector, r2: int) -> int
-               block 0 quiet -> r2
-                 r2 = call 1.0({arguments})
-             version 1.0(r0: borrow vector, r1: own vector) -> int
-               registers r2: int
-               block 0 quiet -> r2
-                 r2 = len r0"
-        ))
-    };
-    refuses(&with_arguments("r0, r0"), 8, 13 + 7);
+    refuses(&image(&calling_with("r0, r0")), 8, 13 + 7);
     // 0.0 reads r0, r1, empties r1, assigns r2; 1.0 reads r0, assigns r2.
-    accepts(&with_arguments("r0, r1"), &["0.0 2 1 1 0", "1.0 1 1 0 0"]);
+    let image = image(&calling_with("r0, r1"));
+    accepts(&image, &["0.0 2 1 1 0", "1.0 1 1 0 0"]);
 }
 
 #[test]
@@ -188,19 +147,6 @@ fn mistake_reading_a_register_that_only_a_forced_block_assigned_is_10() {
     );
 }
 
-/// A body that makes a promise which captures a register, and then empties r0.
-fn emptying_after(captured: &str, emptying: &str) -> Vec<u8> {
-    image(&format!(
-        "version 0.0(r0: own vector, r1: own vector) -> own vector
-           registers r2: own vector, r3: quiet promise, r4: int
-           block 0 quiet -> r2
-             r3 = prom 1
-             r2 = {emptying}
-           block 1 quiet -> r4
-             r4 = len {captured}"
-    ))
-}
-
 #[test]
 fn mistake_emptying_a_register_after_a_promise_captured_it_is_10() {
     for emptying in [
@@ -208,25 +154,19 @@ fn mistake_emptying_a_register_after_a_promise_captured_it_is_10() {
         "call 0.0(r0, r1)",
         "dispatch 0(r0: own vector) -> own vector quiet",
     ] {
-        refuses(&emptying_after("r0", emptying), 10, 0);
+        refuses(&image(&emptying_after("r0", emptying)), 10, 0);
     }
     // Reads r0, r1; assigns r2, r3; empties r0; the promise captures r1, r4.
-    let image = emptying_after("r1", "use r0");
+    let image = image(&emptying_after("r1", "use r0"));
     accepts(&image, &["0.0 2 2 1 2"]);
 }
 
 #[test]
 fn mistake_returning_kind_0_is_6() {
-    let returning = |kind: &str| {
-        image(&format!(
-            "version 0.0(r0: {kind}) -> {kind}
-               block 0 quiet -> r0"
-        ))
-    };
-    refuses(&returning("any"), 6, 0);
-    refuses(&returning("quiet promise"), 6, 0);
-    refuses(&returning("reflective promise"), 6, 0);
-    accepts(&returning("value"), &["0.0 1 0 0 0"]);
+    for kind in ["any", "quiet promise", "reflective promise"] {
+        refuses(&image(&returning(kind)), 6, 0);
+    }
+    accepts(&image(&returning("value")), &["0.0 1 0 0 0"]);
 }
 
 #[test]

@@ -1,7 +1,7 @@
 //! The runs that the paper names, worked out by hand, asked of the proved
 //! engine, the reference and the tuned interpreter.
 
-use differential::edges::{image, IDENTITY};
+use cases::{image, CALLS_ITSELF, DIVISION, DUP_AND_SET, IDENTITY};
 use differential::engine;
 use differential::tuned::{Code, Machine};
 use reference::bounds::{Steps, BUFFER};
@@ -60,40 +60,25 @@ fn p3_identity_with_budget_0_is_steps_after_0() {
     gives(&IDENTITY, &[-1, 7], 0, Answer::Steps, 0, &[]);
 }
 
-/// DUP of a shared vector, place 0 set to 42, returned owned.
-fn set_42() -> Vec<u8> {
-    image(
-        "version 0.0(r0: vector) -> own vector
-           registers r1: own vector, r2: int, r3: int
-           block 0 quiet -> r1
-             r1 = dup r0
-             r2 = lit 0
-             r3 = lit 42
-             set r1[r2] = r3",
-    )
-}
-
 #[test]
 fn p7_dup_and_set_of_a_vector_is_done_with_42() {
+    let image = image(DUP_AND_SET);
     let answer = Answer::Ended(End::Vector(1));
-    gives(&set_42(), &[1, 1], 100, answer, 5, &[42]);
-    gives(&set_42(), &[1, 1], 4, Answer::Steps, 4, &[]);
+    gives(&image, &[1, 1], 100, answer, 5, &[42]);
+    gives(&image, &[1, 1], 4, Answer::Steps, 4, &[]);
     let answer = Answer::Ended(End::Vector(3));
-    gives(&set_42(), &[3, 1, 2, 3], 5, answer, 5, &[42, 2, 3]);
+    gives(&image, &[3, 1, 2, 3], 5, answer, 5, &[42, 2, 3]);
 }
 
 #[test]
 fn p8_set_on_an_empty_vector_is_undef() {
-    gives(&set_42(), &[0], 100, Answer::Ended(End::Undef), 4, &[]);
+    let undef = Answer::Ended(End::Undef);
+    gives(&image(DUP_AND_SET), &[0], 100, undef, 4, &[]);
 }
 
 #[test]
 fn p10_minus_7_divided_by_2_is_minus_3() {
-    let image = image(
-        "version 0.0(r0: int, r1: int) -> int
-           block 0 quiet -> r0
-             r0 = div r0, r1",
-    );
+    let image = image(DIVISION);
     gives(&image, &[-1, -7, -1, 2], 2, done(-3), 2, &[]);
     gives(&image, &[-1, 7, -1, -2], 2, done(-3), 2, &[]);
     let undef = Answer::Ended(End::Undef);
@@ -103,11 +88,7 @@ fn p10_minus_7_divided_by_2_is_minus_3() {
 
 #[test]
 fn p11_a_body_that_calls_itself_is_deep_after_31_steps() {
-    let image = image(
-        "version 0.0(r0: int) -> int
-           block 0 quiet -> r0
-             r0 = call 0.0(r0)",
-    );
+    let image = image(CALLS_ITSELF);
     let deep = Answer::Ended(End::Deep);
     gives(&image, &[-1, 0], 32, deep, 31, &[]);
     // Budget is looked at first.
@@ -133,7 +114,7 @@ fn vectors_is_said_at_the_65th_and_not_counted() {
 
 #[test]
 fn the_end_is_given_again_to_steps_and_budgets() {
-    let image = set_42();
+    let image = image(DUP_AND_SET);
     let mut buffer = [UNTOUCHED; BUFFER];
     let (state, _) = engine::begin(&image, (0, 0), &[1, 1], &buffer);
     let (ended, ..) = engine::budget(&image, &state, 5, &mut buffer);

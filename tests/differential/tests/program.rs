@@ -1,6 +1,7 @@
 //! The program `check`: it reads all of standard input and prints its report, nothing else.
 
-use differential::edges::{identities, image, EVERY_INSTRUCTION, IDENTITY};
+use cases::{image, IDENTITY};
+use differential::edges::{identities, EVERY_INSTRUCTION};
 use generator::{accepted, accepted_of, damaged, Theme};
 use reference::bounds::{MAX_IMAGE, VERSIONS};
 use reference::{report, verdict, Verdict};

@@ -2,8 +2,9 @@
 
 mod support;
 
+use cases::image;
 use std::fs;
-use support::{file, fir, image, Done};
+use support::{file, fir, Done};
 
 /// The identity on integers.
 const IDENTITY: &str = "version 0.0(r0: int) -> int\n  block 0 quiet -> r0\n";

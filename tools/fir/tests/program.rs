@@ -2,10 +2,11 @@
 
 mod support;
 
+use cases::image;
 use std::fs::OpenOptions;
 use std::io::{Read, Write};
 use std::process::{Command, Output, Stdio};
-use support::{file, image};
+use support::file;
 
 /// The program with arguments.
 fn program(arguments: &[&str]) -> Command {

@@ -2,7 +2,8 @@
 
 mod support;
 
-use support::{image, refused};
+use cases::image;
+use support::refused;
 
 /// An identity: VERSION at 0, BLOCK at 11, 18 bytes.
 const IDENTITY: &str = "version 0.0(r0: int) -> int\nblock 0 quiet -> r0\n";

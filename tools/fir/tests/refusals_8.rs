@@ -2,7 +2,8 @@
 
 mod support;
 
-use support::{image, refused};
+use cases::image;
+use support::refused;
 
 /// A version with a register of each type: VERSION at 0, BLOCK at 19, the first
 /// instruction at 26. Version 1.0 behind it has a parameter of each ownership.

@@ -2,7 +2,8 @@
 
 mod support;
 
-use support::{file, fir, image, refused};
+use cases::image;
+use support::{file, fir, refused};
 
 #[test]
 fn question_9_names_the_instruction_that_is_reflective() {

@@ -2,7 +2,8 @@
 
 mod support;
 
-use support::{fir, image};
+use cases::image;
+use support::fir;
 
 /// Asserts what a trace of version 0.0 prints, spaces in a row taken as one.
 #[track_caller]

@@ -1,5 +1,6 @@
 //! The examples of `docs/TEXT-FORM.md` assemble, and the scripts are accepted.
 
+use cases::image;
 use reference::{kinds, verdict, Verdict};
 use std::collections::BTreeSet;
 
@@ -24,12 +25,6 @@ fn first_column(section: &str) -> Vec<String> {
     let lines = section.expect("the section is there").lines();
     let cells = lines.filter_map(|line| line.strip_prefix("| `")?.split('`').next());
     cells.map(String::from).collect()
-}
-
-/// The image of a text.
-#[track_caller]
-fn image(text: &str) -> Vec<u8> {
-    text::assemble(text).unwrap_or_else(|error| panic!("{error}\n{text}"))
 }
 
 #[test]

@@ -1,6 +1,6 @@
 //! How long a verdict takes, by the proved library and by the reference.
 
-use differential::edges::image;
+use cases::image;
 use reference::questions::records;
 use reference::{verdict, Verdict};
 use std::fmt::Write;

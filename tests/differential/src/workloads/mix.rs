@@ -1,7 +1,7 @@
 //! Generated programs in one image, as the bottom of a workload's tree.
 
 use super::Workload;
-use crate::edges::image;
+use cases::image;
 use reference::bounds::{BUFFER, FUNCTIONS, MAX_IMAGE, VERSIONS};
 use reference::program::Version;
 use reference::questions::records;

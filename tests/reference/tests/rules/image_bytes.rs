@@ -162,7 +162,7 @@ fn kind_34_dispatch() {
 
 #[test]
 fn records_follow_one_another_from_offset_0() {
-    let records = reference::questions::records(&crate::support::IDENTITY);
+    let records = reference::questions::records(&cases::IDENTITY);
     let offsets: Vec<usize> = records.unwrap().iter().map(|r| r.offset).collect();
     assert_eq!(offsets, [0, 11]);
 }

@@ -1,6 +1,7 @@
 //! "Proved cases": P1 to P11.
 
-use crate::support::{image, refuses, refuses_image, IDENTITY, UNTOUCHED};
+use crate::support::{refuses, refuses_image, UNTOUCHED};
+use cases::{image, resulting, CALLS_ITSELF, DIVISION, DUP_AND_SET, IDENTITY, SET_ON_SHARED};
 use reference::{begin, Answer, End, Integer, Program, State};
 
 /// A budget given at the start of 0.0: its answer, its steps and the buffer after it.
@@ -11,17 +12,6 @@ fn run(image: &[u8], words: &[Integer], budget: u32) -> (Answer, u32, [Integer; 
     let (_, answer, steps) = state.budget(&program, budget, &mut buffer);
     (answer, steps, buffer)
 }
-
-/// DUP of a shared vector, SET of its place 0 to 42, returned owned.
-const DUP_AND_SET: &str = "
-    version 0.0(r0: vector) -> own vector
-      registers r1: own vector, r2: int, r3: int
-      block 0 quiet -> r1
-        r1 = dup r0
-        r2 = lit 0
-        r3 = lit 42
-        set r1[r2] = r3
-";
 
 #[test]
 fn p1_empty_image_is_1_at_0() {
@@ -62,13 +52,7 @@ fn p5_identity_with_return_type_owned_integer_is_6_at_0() {
 
 #[test]
 fn p6_result_register_that_nothing_assigned_is_10_at_0() {
-    refuses(
-        "version 0.0(r0: int) -> int
-           registers r1: int
-           block 0 quiet -> r1",
-        10,
-        0,
-    );
+    refuses(&resulting("r1"), 10, 0);
 }
 
 #[test]
@@ -88,38 +72,18 @@ fn p8_dup_set_and_owned_return_on_an_empty_vector_is_undef() {
 
 #[test]
 fn p9_set_on_the_shared_vector_is_8_at_the_set() {
-    refuses(
-        "version 0.0(r0: vector) -> vector
-           registers r1: own vector, r2: int, r3: int
-           block 0 quiet -> r0
-             r1 = dup r0
-             r2 = lit 0
-             r3 = lit 42
-             set r0[r2] = r3",
-        8,
-        14 + 7 + 6 + 9 + 9,
-    );
+    refuses(SET_ON_SHARED, 8, 14 + 7 + 6 + 9 + 9);
 }
 
 #[test]
 fn p10_minus_7_divided_by_2_is_minus_3() {
-    let division = image(
-        "version 0.0(r0: int, r1: int) -> int
-           block 0 quiet -> r0
-             r0 = div r0, r1",
-    );
-    let (answer, steps, _) = run(&division, &[-1, -7, -1, 2], 100);
+    let (answer, steps, _) = run(&image(DIVISION), &[-1, -7, -1, 2], 100);
     assert_eq!((answer, steps), (Answer::Ended(End::Integer(-3)), 2));
 }
 
 #[test]
 fn p11_a_body_that_calls_itself_with_budget_32_is_deep_after_31_steps() {
-    let endless = image(
-        "version 0.0(r0: int) -> int
-           block 0 quiet -> r0
-             r0 = call 0.0(r0)",
-    );
-    let (answer, steps, _) = run(&endless, &[-1, 5], 32);
+    let (answer, steps, _) = run(&image(CALLS_ITSELF), &[-1, 5], 32);
     assert_eq!((answer, steps), (Answer::Ended(End::Deep), 31));
 }
 

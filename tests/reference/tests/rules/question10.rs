@@ -1,6 +1,7 @@
 //! Question 10: flow.
 
-use crate::support::{accepts, image, refuses};
+use crate::support::{accepts, refuses};
+use cases::image;
 use reference::{verdict, Verdict};
 
 /// r0 own vector, r1 own vector, r2 int and r3 vector are parameters; r4 own

@@ -1,6 +1,7 @@
 //! Question 6: type bytes at their places.
 
-use crate::support::{image, refuses};
+use crate::support::refuses;
+use cases::image;
 use reference::{questions_1_to_7, Refusal};
 
 /// The bytes with which a text passes question 6; all others fail at the offset.

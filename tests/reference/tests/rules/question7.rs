@@ -1,6 +1,7 @@
 //! Question 7: what records name must exist.
 
-use crate::support::{accepts, image, refuses};
+use crate::support::{accepts, refuses};
+use cases::image;
 use reference::questions_1_to_7;
 
 /// Two registers, and an instruction at offset 19.

@@ -1,7 +1,8 @@
 //! Question 8: result registers, and what promise blocks may not do.
 
 use super::question8_operands::with_every_type;
-use crate::support::{accepts, image, refuses};
+use crate::support::{accepts, refuses};
+use cases::image;
 use reference::{verdict, Refusal, Verdict};
 
 /// The result registers with which a body of this return type is accepted; the

@@ -1,6 +1,7 @@
 //! Question 8: what each instruction takes and gives, over registers of every type.
 
-use crate::support::{accepts, image, refuses};
+use crate::support::{accepts, refuses};
+use cases::image;
 use reference::{verdict, Refusal, Verdict};
 
 /// r0 any, r1 value, r2 int, r3 vector, r4 quiet promise, r5 reflective

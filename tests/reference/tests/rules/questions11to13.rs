@@ -1,6 +1,7 @@
 //! Questions 11 to 13: how a run begins.
 
-use crate::support::{image, IDENTITY, UNTOUCHED};
+use crate::support::UNTOUCHED;
+use cases::{image, IDENTITY};
 use reference::state::Opener;
 use reference::{begin, Integer, Refusal, Status, Value};
 

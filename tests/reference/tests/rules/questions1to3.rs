@@ -1,6 +1,7 @@
 //! Questions 1 to 3: size, heads, kinds and lengths.
 
-use crate::support::{image, refuses_image, IDENTITY};
+use crate::support::refuses_image;
+use cases::{image, IDENTITY};
 
 /// The identity with a record after it.
 fn then_record(bytes: &[u8]) -> Vec<u8> {

@@ -1,6 +1,6 @@
 //! "Program": what `check` prints.
 
-use crate::support::{image, IDENTITY};
+use cases::{image, IDENTITY};
 use reference::report;
 
 #[test]

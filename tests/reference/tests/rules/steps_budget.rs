@@ -1,6 +1,7 @@
 //! "Steps": budgets, ends, and lent buffers.
 
-use crate::support::{Run, IDENTITY, UNTOUCHED};
+use crate::support::{Run, UNTOUCHED};
+use cases::{CALLS_ITSELF, IDENTITY};
 use reference::{Answer, End, Integer, Program, Refusal, Said, State};
 
 const TOO_SHORT: Answer = Answer::Refused(Refusal {
@@ -22,9 +23,6 @@ const VECTOR: &str = "version 0.0(r0: vector) -> vector\nblock 0 quiet -> r0";
 
 /// One step that makes UNDEF.
 const UNDEF: &str = "version 0.0(r0: int) -> int\nblock 0 quiet -> r0\nr0 = div r0, r0";
-
-/// A body that calls itself.
-const ENDLESS: &str = "version 0.0(r0: int) -> int\nblock 0 quiet -> r0\nr0 = call 0.0(r0)";
 
 /// A budget lent a buffer of so many places: the state, answer, steps and buffer after it.
 fn lend(run: &Run, budget: u32, places: usize) -> (State, Answer, u32, Vec<Integer>) {
@@ -121,7 +119,7 @@ fn step_that_makes_undef_counts() {
 
 #[test]
 fn step_stopped_by_deep_does_not_count_and_budget_is_looked_at_first() {
-    let mut run = Run::begin(ENDLESS, &[-1, 5]);
+    let mut run = Run::begin(CALLS_ITSELF, &[-1, 5]);
     assert_eq!(run.budget(31), (Answer::Steps, 31));
     assert_eq!(run.budget(0), (Answer::Steps, 0));
     assert_eq!(run.budget(1), (Answer::Ended(End::Deep), 0));
@@ -133,7 +131,7 @@ fn ended_runs() -> impl Iterator<Item = (Run, End)> {
         (FOUR_STEPS, vec![-1, 5], End::Integer(20)),
         (VECTOR, vec![2, 7, 8], End::Vector(2)),
         (UNDEF, vec![-1, 0], End::Undef),
-        (ENDLESS, vec![-1, 0], End::Deep),
+        (CALLS_ITSELF, vec![-1, 0], End::Deep),
     ]
     .into_iter()
     .map(|(text, words, end)| {
@@ -186,7 +184,7 @@ fn budget_on_an_ended_run_is_put_to_13_too() {
 
 #[test]
 fn ends_but_done_leave_calls_registers_and_names() {
-    let mut run = Run::begin(ENDLESS, &[-1, 5]);
+    let mut run = Run::begin(CALLS_ITSELF, &[-1, 5]);
     run.budget(100);
     assert_eq!(run.state.frames.len(), 32);
     assert_eq!(run.state.activations.len(), 32);

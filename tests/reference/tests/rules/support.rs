@@ -1,19 +1,9 @@
-//! How the tests build images, begin runs and compare answers.
+//! How the tests begin runs and compare answers.
 
+use cases::image;
 use reference::bounds::{Steps, BUFFER};
 use reference::monitor::{check_state, check_step};
 use reference::{verdict, Answer, End, Integer, Program, Refusal, Said, State, Value, Verdict};
-
-/// The image of a text.
-pub fn image(text: &str) -> Vec<u8> {
-    text::assemble(text).unwrap_or_else(|error| panic!("{error}\n{text}"))
-}
-
-/// The image I of the paper.
-pub const IDENTITY: [u8; 18] = [
-    0x0B, 0x00, 0x01, 0x00, 0x00, 0x00, 0x01, 0x01, 0x02, 0x01, 0x02, 0x07, 0x00, 0x02, 0x00, 0x00,
-    0x00, 0x00,
-];
 
 /// A buffer whose places show what was not written.
 pub const UNTOUCHED: [Integer; BUFFER] = [-99; BUFFER];

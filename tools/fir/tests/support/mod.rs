@@ -50,12 +50,6 @@ pub fn fir(arguments: &[&str], input: &[u8]) -> Done {
     fir_of(&arguments, input)
 }
 
-/// The image of a text.
-#[track_caller]
-pub fn image(text: &str) -> Vec<u8> {
-    text::assemble(text).unwrap_or_else(|error| panic!("{error}\n{text}"))
-}
-
 /// A file of this content, in a folder of the test's own.
 pub fn file(test: &str, name: &str, content: &[u8]) -> String {
     let folder = Path::new(env!("CARGO_TARGET_TMPDIR")).join(test);

@@ -1,0 +1,94 @@
+//! The images that the paper names, and the image of a text, for tests.
+
+/// The image of a text that is known to be well formed.
+#[track_caller]
+pub fn image(text: &str) -> Vec<u8> {
+    text::assemble(text).unwrap_or_else(|error| panic!("{error}\n{text}"))
+}
+
+/// The image I of the paper.
+pub const IDENTITY: [u8; 18] = [
+    0x0B, 0x00, 0x01, 0x00, 0x00, 0x00, 0x01, 0x01, 0x02, 0x01, 0x02, 0x07, 0x00, 0x02, 0x00, 0x00,
+    0x00, 0x00,
+];
+
+/// P6: a result register that is assigned, r0, or not, r1.
+pub fn resulting(register: &str) -> String {
+    format!(
+        "version 0.0(r0: int) -> int
+           registers r1: int
+           block 0 quiet -> {register}"
+    )
+}
+
+/// P7 and P8: DUP of a shared vector, SET of its place 0 to 42, returned owned.
+pub const DUP_AND_SET: &str = "
+    version 0.0(r0: vector) -> own vector
+      registers r1: own vector, r2: int, r3: int
+      block 0 quiet -> r1
+        r1 = dup r0
+        r2 = lit 0
+        r3 = lit 42
+        set r1[r2] = r3
+";
+
+/// P9: the same with SET on the shared vector, which is returned.
+pub const SET_ON_SHARED: &str = "
+    version 0.0(r0: vector) -> vector
+      registers r1: own vector, r2: int, r3: int
+      block 0 quiet -> r0
+        r1 = dup r0
+        r2 = lit 0
+        r3 = lit 42
+        set r0[r2] = r3
+";
+
+/// P10: a division.
+pub const DIVISION: &str = "
+    version 0.0(r0: int, r1: int) -> int
+      block 0 quiet -> r0
+        r0 = div r0, r1
+";
+
+/// P11: a body that calls itself.
+pub const CALLS_ITSELF: &str = "
+    version 0.0(r0: int) -> int
+      block 0 quiet -> r0
+        r0 = call 0.0(r0)
+";
+
+/// A mistake to rule out: one owned register, r0 or r1, given as borrowed and as
+/// owned in one call.
+pub fn calling_with(arguments: &str) -> String {
+    format!(
+        "version 0.0(r0: own vector, r1: own vector, r2: int) -> int
+           block 0 quiet -> r2
+             r2 = call 1.0({arguments})
+         version 1.0(r0: borrow vector, r1: own vector) -> int
+           registers r2: int
+           block 0 quiet -> r2
+             r2 = len r0"
+    )
+}
+
+/// A mistake to rule out: r0 emptied, by this instruction, after a promise
+/// captured it; the promise captures this register.
+pub fn emptying_after(captured: &str, emptying: &str) -> String {
+    format!(
+        "version 0.0(r0: own vector, r1: own vector) -> own vector
+           registers r2: own vector, r3: quiet promise, r4: int
+           block 0 quiet -> r2
+             r3 = prom 1
+             r2 = {emptying}
+           block 1 quiet -> r4
+             r4 = len {captured}"
+    )
+}
+
+/// A mistake to rule out: kind 0, `any`, returned.
+pub fn returning(kind: &str) -> String {
+    format!(
+        "version 0.0(r0: {kind}) -> {kind}
+           block 0 quiet -> r0"
+    )
+}
