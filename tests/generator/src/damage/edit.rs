@@ -46,6 +46,62 @@ pub fn site(
     random.choose(&draft.sites(passes))
 }
 
+/// Passes the instructions of a kind.
+pub fn of_kind(kind: u16) -> impl Fn(&Instruction) -> bool {
+    move |instruction| instruction.kind() == kind
+}
+
+/// Changes one of the instructions that pass.
+pub fn change(
+    random: &mut Random,
+    draft: &Draft,
+    passes: impl Fn(&Instruction) -> bool,
+    change: impl FnOnce(&mut Random, &mut Instruction),
+) -> Option<Vec<u8>> {
+    let mut draft = draft.clone();
+    let site = site(random, &draft, passes)?;
+    change(random, draft.at(site));
+    Some(draft.bytes())
+}
+
+/// Puts a new register into one of these fields of an instruction, its type
+/// made of the old register's.
+pub fn swap_register(
+    random: &mut Random,
+    draft: &Draft,
+    fields: impl Fn(&Instruction) -> Vec<usize>,
+    new_type: impl FnOnce(&mut Random, Type) -> Type,
+) -> Option<Vec<u8>> {
+    let mut draft = draft.clone();
+    let site = site(random, &draft, |i| !fields(i).is_empty())?;
+    let field = random.choose(&fields(draft.at(site)))?;
+    let old = draft.at(site).body()[field];
+    let version = &mut draft.versions[site.version];
+    let ty = new_type(random, version.types[usize::from(old)]);
+    let new = add_register(version, ty)?;
+    let instruction = draft.at(site);
+    *instruction = with_byte(instruction, field, new);
+    Some(draft.bytes())
+}
+
+/// Adds registers of these types, and instructions over them, to one of the
+/// blocks that pass.
+pub fn added(
+    random: &mut Random,
+    draft: &Draft,
+    passes: impl Fn(usize, &DraftBlock) -> bool,
+    types: &[Type],
+    instructions: impl Fn(&[Register]) -> Vec<Instruction>,
+) -> Option<Vec<u8>> {
+    let mut draft = draft.clone();
+    let (index, number) = block(random, &draft, passes)?;
+    let version = &mut draft.versions[index];
+    let registers = types.iter().map(|&ty| add_register(version, ty));
+    let registers: Vec<Register> = registers.collect::<Option<_>>()?;
+    append(&mut version.blocks[number], instructions(&registers))?;
+    Some(draft.bytes())
+}
+
 /// One of the blocks that pass, by version and number.
 pub fn block(
     random: &mut Random,

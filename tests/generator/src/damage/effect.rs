@@ -1,11 +1,11 @@
 //! Ways to fail question 9.
 
-use super::edit::{add_register, append, block, site};
+use super::edit::{added, of_kind, site};
 use super::Breaker;
 use crate::draft::{Draft, DraftBlock, DraftVersion};
 use crate::random::Random;
 use reference::bounds::NAMES;
-use reference::{Instruction, Kind, Mark, Name, Register, Type};
+use reference::{kinds, Instruction, Kind, Mark, Name, Register, Type};
 
 /// Ways to fail question 9.
 pub const BREAKERS: [Breaker; 6] = [
@@ -46,20 +46,16 @@ fn mark_lowered(random: &mut Random, draft: &Draft) -> Option<Vec<u8>> {
 }
 
 /// Adds an instruction over two new registers to a quiet block.
-fn added(
+fn added_to_quiet(
     random: &mut Random,
     draft: &Draft,
     types: [Type; 2],
     instruction: impl Fn(Register, Register) -> Instruction,
 ) -> Option<Vec<u8>> {
-    let mut draft = draft.clone();
-    let (index, number) = block(random, &draft, |_, b| b.mark == Mark::QUIET)?;
-    let version = &mut draft.versions[index];
-    let first = add_register(version, types[0])?;
-    let second = add_register(version, types[1])?;
-    let instruction = instruction(first, second);
-    append(&mut version.blocks[number], vec![instruction])?;
-    Some(draft.bytes())
+    let quiet = |_, block: &DraftBlock| block.mark == Mark::QUIET;
+    added(random, draft, quiet, &types, |r| {
+        vec![instruction(r[0], r[1])]
+    })
 }
 
 /// Any promise type.
@@ -69,26 +65,26 @@ fn promise(random: &mut Random) -> Type {
 
 fn peek_added(random: &mut Random, draft: &Draft) -> Option<Vec<u8>> {
     let (promise, x) = (promise(random), random.below(NAMES) as Name);
-    added(random, draft, [Type::VALUE, promise], |d, a| {
+    added_to_quiet(random, draft, [Type::VALUE, promise], |d, a| {
         Instruction::Peek { d, a, x }
     })
 }
 
 fn poke_added(random: &mut Random, draft: &Draft) -> Option<Vec<u8>> {
     let (promise, x) = (promise(random), random.below(NAMES) as Name);
-    added(random, draft, [promise, Type::VALUE], |a, e| {
+    added_to_quiet(random, draft, [promise, Type::VALUE], |a, e| {
         Instruction::Poke { a, x, e }
     })
 }
 
 fn force_added(random: &mut Random, draft: &Draft) -> Option<Vec<u8>> {
     let types = [Type::INTEGER, Type::shared(Kind::REFLECTIVE)];
-    added(random, draft, types, |d, a| Instruction::Force { d, a })
+    added_to_quiet(random, draft, types, |d, a| Instruction::Force { d, a })
 }
 
 fn dispatch_added(random: &mut Random, draft: &Draft) -> Option<Vec<u8>> {
     let types = [Type::INTEGER, Type::INTEGER];
-    added(random, draft, types, |d, r| Instruction::Dispatch {
+    added_to_quiet(random, draft, types, |d, r| Instruction::Dispatch {
         d,
         function: 0,
         mark: Mark::REFLECTIVE,
@@ -99,8 +95,7 @@ fn dispatch_added(random: &mut Random, draft: &Draft) -> Option<Vec<u8>> {
 
 fn called_mark_raised(random: &mut Random, draft: &Draft) -> Option<Vec<u8>> {
     let mut draft = draft.clone();
-    let calls = |i: &Instruction| matches!(i, Instruction::Call { .. });
-    let site = site(random, &draft, calls)?;
+    let site = site(random, &draft, of_kind(kinds::CALL))?;
     let Instruction::Call {
         function, version, ..
     } = *draft.at(site)

@@ -1,6 +1,6 @@
 //! Ways to fail question 7.
 
-use super::edit::{block, insert, register_fields, site, with_byte};
+use super::edit::{block, change, insert, of_kind, register_fields, site, with_byte};
 use super::Breaker;
 use crate::draft::{Draft, DraftBlock};
 use crate::random::Random;
@@ -47,30 +47,17 @@ fn result_register(random: &mut Random, draft: &Draft) -> Option<Vec<u8>> {
 }
 
 fn name(random: &mut Random, draft: &Draft) -> Option<Vec<u8>> {
-    let mut draft = draft.clone();
-    let site = site(random, &draft, |i| i.name().is_some())?;
-    let wrong = missing(random, NAMES);
-    match draft.at(site) {
-        Instruction::Named { x, .. }
-        | Instruction::Store { x, .. }
-        | Instruction::Peek { x, .. }
-        | Instruction::Poke { x, .. } => *x = wrong,
-        _ => return None,
-    }
-    Some(draft.bytes())
-}
-
-/// Changes one of the instructions of a kind.
-fn change(
-    random: &mut Random,
-    draft: &Draft,
-    kind: u16,
-    change: impl FnOnce(&mut Random, &mut Instruction),
-) -> Option<Vec<u8>> {
-    let mut draft = draft.clone();
-    let site = site(random, &draft, |i| i.kind() == kind)?;
-    change(random, draft.at(site));
-    Some(draft.bytes())
+    let has_name = |i: &Instruction| i.name().is_some();
+    change(random, draft, has_name, |random, user| {
+        let wrong = missing(random, NAMES);
+        match user {
+            Instruction::Named { x, .. }
+            | Instruction::Store { x, .. }
+            | Instruction::Peek { x, .. }
+            | Instruction::Poke { x, .. } => *x = wrong,
+            _ => unreachable!("it has no name"),
+        }
+    })
 }
 
 /// A function that the draft does not have.
@@ -81,7 +68,7 @@ fn missing_function(random: &mut Random, draft: &Draft) -> u8 {
 
 fn called_function(random: &mut Random, draft: &Draft) -> Option<Vec<u8>> {
     let wrong = missing_function(random, draft);
-    change(random, draft, kinds::CALL, |_, call| {
+    change(random, draft, of_kind(kinds::CALL), |_, call| {
         if let Instruction::Call { function, .. } = call {
             *function = wrong;
         }
@@ -95,7 +82,7 @@ fn called_version(random: &mut Random, draft: &Draft) -> Option<Vec<u8>> {
             .iter()
             .filter(move |v| v.function == function)
     };
-    change(random, draft, kinds::CALL, |random, call| {
+    change(random, draft, of_kind(kinds::CALL), |random, call| {
         if let Instruction::Call {
             function, version, ..
         } = call
@@ -107,7 +94,7 @@ fn called_version(random: &mut Random, draft: &Draft) -> Option<Vec<u8>> {
 
 fn dispatched_function(random: &mut Random, draft: &Draft) -> Option<Vec<u8>> {
     let wrong = missing_function(random, draft);
-    change(random, draft, kinds::DISPATCH, |_, dispatch| {
+    change(random, draft, of_kind(kinds::DISPATCH), |_, dispatch| {
         if let Instruction::Dispatch { function, .. } = dispatch {
             *function = wrong;
         }
@@ -115,7 +102,7 @@ fn dispatched_function(random: &mut Random, draft: &Draft) -> Option<Vec<u8>> {
 }
 
 fn argument_count(random: &mut Random, draft: &Draft) -> Option<Vec<u8>> {
-    change(random, draft, kinds::CALL, |random, call| {
+    change(random, draft, of_kind(kinds::CALL), |random, call| {
         if let Instruction::Call { arguments, .. } = call {
             let fewer = arguments.len() == LISTED || random.one_in(2);
             if fewer && !arguments.is_empty() {
@@ -129,7 +116,7 @@ fn argument_count(random: &mut Random, draft: &Draft) -> Option<Vec<u8>> {
 
 fn promise_block(random: &mut Random, draft: &Draft) -> Option<Vec<u8>> {
     let mut draft = draft.clone();
-    let site = site(random, &draft, |i| i.kind() == kinds::PROM)?;
+    let site = site(random, &draft, of_kind(kinds::PROM))?;
     let blocks = draft.versions[site.version].blocks.len();
     if let Instruction::Prom { block, .. } = draft.at(site) {
         let lower = random.below(site.block + 1) as u8;
@@ -140,7 +127,7 @@ fn promise_block(random: &mut Random, draft: &Draft) -> Option<Vec<u8>> {
 
 fn block_named_twice(random: &mut Random, draft: &Draft) -> Option<Vec<u8>> {
     let mut draft = draft.clone();
-    let site = site(random, &draft, |i| i.kind() == kinds::PROM)?;
+    let site = site(random, &draft, of_kind(kinds::PROM))?;
     let again = draft.at(site).clone();
     let into = random.below(site.block + 1);
     let block = &mut draft.versions[site.version].blocks[into];
@@ -151,7 +138,7 @@ fn block_named_twice(random: &mut Random, draft: &Draft) -> Option<Vec<u8>> {
 
 fn block_not_named(random: &mut Random, draft: &Draft) -> Option<Vec<u8>> {
     let mut draft = draft.clone();
-    let site = site(random, &draft, |i| i.kind() == kinds::PROM)?;
+    let site = site(random, &draft, of_kind(kinds::PROM))?;
     let d = draft.at(site).destination()?;
     *draft.at(site) = Instruction::Lit { d, value: 0 };
     Some(draft.bytes())

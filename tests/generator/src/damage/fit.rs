@@ -1,8 +1,10 @@
 //! Ways to fail question 8.
 
-use super::edit::{add_register, append, block, operand_fields, register_fields, site, with_byte};
+use super::edit::{
+    add_register, added, append, block, operand_fields, register_fields, site, swap_register,
+};
 use super::Breaker;
-use crate::draft::Draft;
+use crate::draft::{Draft, DraftBlock, DraftVersion};
 use crate::random::Random;
 use reference::{Instruction, Kind, Mark, Register, Type};
 
@@ -34,34 +36,17 @@ fn unlike(random: &mut Random, ty: Type) -> Type {
     }
 }
 
-/// Puts a new register of a type unlike the old one's into a field of an instruction.
-fn swap_register(
-    random: &mut Random,
-    draft: &Draft,
-    fields: impl Fn(&Instruction) -> Vec<usize>,
-) -> Option<Vec<u8>> {
-    let mut draft = draft.clone();
-    let site = site(random, &draft, |i| !fields(i).is_empty())?;
-    let field = random.choose(&fields(draft.at(site)))?;
-    let old = draft.at(site).body()[field];
-    let version = &mut draft.versions[site.version];
-    let ty = unlike(random, version.types[usize::from(old)]);
-    let new = add_register(version, ty)?;
-    let instruction = draft.at(site);
-    *instruction = with_byte(instruction, field, new);
-    Some(draft.bytes())
-}
-
 fn operand(random: &mut Random, draft: &Draft) -> Option<Vec<u8>> {
-    swap_register(random, draft, operand_fields)
+    swap_register(random, draft, operand_fields, unlike)
 }
 
 fn destination(random: &mut Random, draft: &Draft) -> Option<Vec<u8>> {
-    swap_register(random, draft, |instruction| {
+    let fields = |instruction: &Instruction| {
         let mut fields = register_fields(instruction);
         fields.truncate(usize::from(instruction.destination().is_some()));
         fields
-    })
+    };
+    swap_register(random, draft, fields, unlike)
 }
 
 fn declared_type(random: &mut Random, draft: &Draft) -> Option<Vec<u8>> {
@@ -96,65 +81,48 @@ fn result_register(random: &mut Random, draft: &Draft) -> Option<Vec<u8>> {
     Some(draft.bytes())
 }
 
-/// Adds registers of these types, and instructions over them, to a body or to
-/// a promise block.
-fn added(
-    random: &mut Random,
-    draft: &Draft,
-    in_promise: bool,
-    types: &[Type],
-    instructions: impl Fn(&[Register]) -> Vec<Instruction>,
-) -> Option<Vec<u8>> {
-    let mut draft = draft.clone();
-    let (index, number) = block(random, &draft, |n, _| (n > 0) == in_promise)?;
-    let version = &mut draft.versions[index];
-    let registers = types.iter().map(|&ty| add_register(version, ty));
-    let registers: Vec<Register> = registers.collect::<Option<_>>()?;
-    append(&mut version.blocks[number], instructions(&registers))?;
-    Some(draft.bytes())
+/// Is the block of this number a body?
+fn body(number: usize, _: &DraftBlock) -> bool {
+    number == 0
+}
+
+/// Is the block of this number a promise block?
+fn promised(number: usize, _: &DraftBlock) -> bool {
+    number > 0
+}
+
+/// SET on a new vector in the first register, its index and item in the second.
+fn set(registers: &[Register]) -> Vec<Instruction> {
+    let (a, i) = (registers[0], registers[1]);
+    let items = vec![i];
+    vec![
+        Instruction::Lit { d: i, value: 0 },
+        Instruction::Vec { d: a, items },
+        Instruction::Set { a, i, e: i },
+    ]
 }
 
 fn set_of_a_shared_vector(random: &mut Random, draft: &Draft) -> Option<Vec<u8>> {
-    let types = [Type::VECTOR, Type::INTEGER];
-    added(random, draft, false, &types, |r| {
-        let (a, i, e) = (r[0], r[1], r[1]);
-        let (d, value) = (i, 0);
-        let items = vec![i];
-        vec![
-            Instruction::Lit { d, value },
-            Instruction::Vec { d: a, items },
-            Instruction::Set { a, i, e },
-        ]
-    })
+    added(random, draft, body, &[Type::VECTOR, Type::INTEGER], set)
 }
 
 fn move_of_an_owned_vector(random: &mut Random, draft: &Draft) -> Option<Vec<u8>> {
     let wide = random.pick(&[Type::ANY, Type::VECTOR]);
-    added(random, draft, false, &[Type::OWNED, wide], |r| {
+    added(random, draft, body, &[Type::OWNED, wide], |r| {
         let (d, a, items) = (r[1], r[0], vec![]);
         vec![Instruction::Vec { d: a, items }, Instruction::Move { d, a }]
     })
 }
 
 fn use_in_a_promise_block(random: &mut Random, draft: &Draft) -> Option<Vec<u8>> {
-    added(random, draft, true, &[Type::OWNED, Type::OWNED], |r| {
+    added(random, draft, promised, &[Type::OWNED, Type::OWNED], |r| {
         let (d, a, items) = (r[1], r[0], vec![]);
         vec![Instruction::Vec { d: a, items }, Instruction::Use { d, a }]
     })
 }
 
 fn set_in_a_promise_block(random: &mut Random, draft: &Draft) -> Option<Vec<u8>> {
-    added(random, draft, true, &[Type::OWNED, Type::INTEGER], |r| {
-        let (a, i, e, d, value) = (r[0], r[1], r[1], r[1], 0);
-        vec![
-            Instruction::Lit { d, value },
-            Instruction::Vec {
-                d: a,
-                items: vec![i],
-            },
-            Instruction::Set { a, i, e },
-        ]
-    })
+    added(random, draft, promised, &[Type::OWNED, Type::INTEGER], set)
 }
 
 /// A DISPATCH on function 0 with these argument types.
@@ -169,7 +137,8 @@ fn dispatch(d: Register, arguments: Vec<(Type, Register)>) -> Instruction {
 }
 
 fn emptying_call_in_a_promise_block(random: &mut Random, draft: &Draft) -> Option<Vec<u8>> {
-    added(random, draft, true, &[Type::OWNED, Type::INTEGER], |r| {
+    let types = [Type::OWNED, Type::INTEGER];
+    added(random, draft, promised, &types, |r| {
         let (d, items) = (r[0], vec![]);
         let given = vec![(Type::OWNED, r[0])];
         vec![Instruction::Vec { d, items }, dispatch(r[1], given)]
@@ -179,7 +148,7 @@ fn emptying_call_in_a_promise_block(random: &mut Random, draft: &Draft) -> Optio
 fn owned_register_twice(random: &mut Random, draft: &Draft) -> Option<Vec<u8>> {
     let other = random.pick(&[Type::OWNED, Type::BORROWED]);
     let first = random.one_in(2);
-    added(random, draft, false, &[Type::OWNED, Type::INTEGER], |r| {
+    added(random, draft, body, &[Type::OWNED, Type::INTEGER], |r| {
         let (d, items) = (r[0], vec![]);
         let mut given = vec![(Type::OWNED, r[0]), (other, r[0])];
         if first {
@@ -191,7 +160,7 @@ fn owned_register_twice(random: &mut Random, draft: &Draft) -> Option<Vec<u8>> {
 
 fn borrowed_register_assigned(random: &mut Random, draft: &Draft) -> Option<Vec<u8>> {
     let mut draft = draft.clone();
-    let borrows = |v: &crate::draft::DraftVersion| v.types.contains(&Type::BORROWED);
+    let borrows = |v: &DraftVersion| v.types.contains(&Type::BORROWED);
     let versions = (0..draft.versions.len()).filter(|&v| borrows(&draft.versions[v]));
     let versions: Vec<usize> = versions.collect();
     let version = &mut draft.versions[random.choose(&versions)?];

@@ -1,6 +1,6 @@
 //! Ways to fail question 10.
 
-use super::edit::{add_register, append, block, insert, operand_fields, site, with_byte};
+use super::edit::{add_register, append, block, insert, operand_fields, swap_register};
 use super::Breaker;
 use crate::draft::{Draft, DraftVersion};
 use crate::random::Random;
@@ -30,16 +30,7 @@ fn unborrowed(ty: Type) -> Type {
 }
 
 fn operand_never_assigned(random: &mut Random, draft: &Draft) -> Option<Vec<u8>> {
-    let mut draft = draft.clone();
-    let site = site(random, &draft, |i| !operand_fields(i).is_empty())?;
-    let field = random.choose(&operand_fields(draft.at(site)))?;
-    let old = draft.at(site).body()[field];
-    let version = &mut draft.versions[site.version];
-    let ty = unborrowed(version.types[usize::from(old)]);
-    let new = add_register(version, ty)?;
-    let instruction = draft.at(site);
-    *instruction = with_byte(instruction, field, new);
-    Some(draft.bytes())
+    swap_register(random, draft, operand_fields, |_, ty| unborrowed(ty))
 }
 
 fn result_never_assigned(random: &mut Random, draft: &Draft) -> Option<Vec<u8>> {

@@ -1,6 +1,6 @@
 //! Ways to fail question 4.
 
-use super::edit::{record, site};
+use super::edit::{change, of_kind, record};
 use super::Breaker;
 use crate::draft::{bytes, Draft, DraftBlock, DraftVersion};
 use crate::random::Random;
@@ -153,37 +153,33 @@ fn block_mark(random: &mut Random, draft: &Draft) -> Option<Vec<u8>> {
 }
 
 fn dispatch_mark(random: &mut Random, draft: &Draft) -> Option<Vec<u8>> {
-    let mut draft = draft.clone();
-    let is_dispatch = |i: &Instruction| matches!(i, Instruction::Dispatch { .. });
-    let site = site(random, &draft, is_dispatch)?;
-    if let Instruction::Dispatch { mark, .. } = draft.at(site) {
-        *mark = Mark(beyond(random, 2));
-    }
-    Some(draft.bytes())
+    let dispatches = of_kind(kinds::DISPATCH);
+    change(random, draft, dispatches, |random, dispatch| {
+        if let Instruction::Dispatch { mark, .. } = dispatch {
+            *mark = Mark(beyond(random, 2));
+        }
+    })
 }
 
 fn operation(random: &mut Random, draft: &Draft) -> Option<Vec<u8>> {
-    let mut draft = draft.clone();
-    let is_arith = |i: &Instruction| matches!(i, Instruction::Arith { .. });
-    let site = site(random, &draft, is_arith)?;
-    if let Instruction::Arith { op, .. } = draft.at(site) {
-        *op = beyond(random, kinds::OPERATIONS.into());
-    }
-    Some(draft.bytes())
+    change(random, draft, of_kind(kinds::ARITH), |random, arith| {
+        if let Instruction::Arith { op, .. } = arith {
+            *op = beyond(random, kinds::OPERATIONS.into());
+        }
+    })
 }
 
 fn listed_too_many(random: &mut Random, draft: &Draft) -> Option<Vec<u8>> {
-    let mut draft = draft.clone();
     let lists = |i: &Instruction| [kinds::VEC, kinds::CALL, kinds::DISPATCH].contains(&i.kind());
-    let site = site(random, &draft, lists)?;
-    let count = beyond(random, LISTED + 1).into();
-    match draft.at(site) {
-        Instruction::Vec { items, .. } => items.resize(count, 0),
-        Instruction::Call { arguments, .. } => arguments.resize(count, 0),
-        Instruction::Dispatch { arguments, .. } => arguments.resize(count, (Type::INTEGER, 0)),
-        _ => return None,
-    }
-    Some(draft.bytes())
+    change(random, draft, lists, |random, lister| {
+        let count = beyond(random, LISTED + 1).into();
+        match lister {
+            Instruction::Vec { items, .. } => items.resize(count, 0),
+            Instruction::Call { arguments, .. } => arguments.resize(count, 0),
+            Instruction::Dispatch { arguments, .. } => arguments.resize(count, (Type::INTEGER, 0)),
+            _ => unreachable!("it lists no registers"),
+        }
+    })
 }
 
 fn record_lost(random: &mut Random, draft: &Draft) -> Option<Vec<u8>> {
