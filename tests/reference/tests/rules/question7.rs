@@ -144,7 +144,7 @@ fn question7_block_0_of_a_prom_is_not_above_its_own() {
 
 #[test]
 fn question7_own_block_of_a_prom_is_not_above_its_own() {
-    // Block 1 stands at 25, its PROM of itself counts as naming it too.
+    // Block 1 stands at 28, and its PROM of itself counts as naming it too.
     let text = "r0 = lit 0\nblock 1 quiet -> r0\nr0 = prom 1";
     refuses(&with_instruction(text), 7, 19 + 9 + 7);
 }
