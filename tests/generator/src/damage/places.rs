@@ -1,10 +1,10 @@
 //! Ways to fail question 6.
 
-use super::edit::site;
+use super::edit::{change, of_kind, site};
 use super::Breaker;
 use crate::draft::Draft;
 use crate::random::Random;
-use reference::{Instruction, Kind, Ownership, Type};
+use reference::{kinds, Instruction, Kind, Ownership, Type};
 
 /// Ways to fail question 6.
 pub const BREAKERS: [Breaker; 5] = [
@@ -59,23 +59,18 @@ fn borrowed_register(random: &mut Random, draft: &Draft) -> Option<Vec<u8>> {
     Some(draft.bytes())
 }
 
-/// Is the instruction a DISPATCH?
-fn is_dispatch(instruction: &Instruction) -> bool {
-    matches!(instruction, Instruction::Dispatch { .. })
-}
-
 fn dispatch_return(random: &mut Random, draft: &Draft) -> Option<Vec<u8>> {
-    let mut draft = draft.clone();
-    let site = site(random, &draft, is_dispatch)?;
-    if let Instruction::Dispatch { returns, .. } = draft.at(site) {
-        *returns = wrong(random, Type::allowed_on_return);
-    }
-    Some(draft.bytes())
+    let dispatches = of_kind(kinds::DISPATCH);
+    change(random, draft, dispatches, |random, dispatch| {
+        if let Instruction::Dispatch { returns, .. } = dispatch {
+            *returns = wrong(random, Type::allowed_on_return);
+        }
+    })
 }
 
 fn dispatch_argument(random: &mut Random, draft: &Draft) -> Option<Vec<u8>> {
     let mut draft = draft.clone();
-    let site = site(random, &draft, is_dispatch)?;
+    let site = site(random, &draft, of_kind(kinds::DISPATCH))?;
     let Instruction::Dispatch { arguments, .. } = draft.at(site) else {
         return None;
     };
