@@ -1,6 +1,7 @@
 //! Places of an image in words.
 
 use crate::source::Source;
+use reference::program::Version;
 
 /// An offset, with the line of the text if there is one: `37 (line 12)`.
 pub fn place(source: &Source, offset: usize) -> String {
@@ -8,4 +9,9 @@ pub fn place(source: &Source, offset: usize) -> String {
         Some(line) => format!("{offset} (line {line})"),
         None => format!("{offset}"),
     }
+}
+
+/// A version's numbers: `0.0`.
+pub fn version_name(version: &Version) -> String {
+    format!("{}.{}", version.head.function, version.head.version)
 }

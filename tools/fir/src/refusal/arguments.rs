@@ -1,8 +1,9 @@
 //! Questions 11 and 12: the version that a run enters, and its arguments.
 
-use super::vocabulary::{type_words, version_name};
+use super::vocabulary::type_words;
 use crate::arguments::Argument;
 use crate::number::many;
+use crate::place::version_name;
 use library::{Entry, FIR_ITEMS};
 use reference::program::Program;
 use reference::{Kind, Type};

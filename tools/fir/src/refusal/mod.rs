@@ -15,7 +15,7 @@ mod types;
 mod vocabulary;
 
 use crate::arguments::Argument;
-use crate::place::place;
+use crate::place::{place, version_name};
 use crate::source::Source;
 use library::{Entry, Refusal};
 use reference::program::{Block, Program, Version};
@@ -115,7 +115,7 @@ impl<'p> Found<'p> {
 
     /// The version's numbers: `0.0`.
     fn version_name(&self) -> String {
-        vocabulary::version_name(self.version)
+        version_name(self.version)
     }
 }
 

@@ -1,6 +1,5 @@
 //! Words for records, types and what instructions do.
 
-use reference::program::Version;
 use reference::{kinds, Instruction, Kind, Ownership, Type};
 
 /// The name of a record's kind.
@@ -43,11 +42,6 @@ pub fn instruction_name(instruction: &Instruction) -> String {
             .unwrap_or("instruction")
             .to_string(),
     }
-}
-
-/// A version's numbers: `0.0`.
-pub fn version_name(version: &Version) -> String {
-    format!("{}.{}", version.head.function, version.head.version)
 }
 
 /// What a register of a type is: `an integer`, `a shared vector`, `of kind value`.

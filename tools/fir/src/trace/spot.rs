@@ -1,5 +1,6 @@
 //! Where a run stands in its program.
 
+use crate::place::version_name;
 use library::{Activation, State};
 use reference::program::{Block, Program, Version};
 use reference::record::Placed;
@@ -56,7 +57,6 @@ impl<'p> Spot<'p> {
 
     /// The version's numbers: `0.0`.
     pub fn version_name(&self) -> String {
-        let head = &self.version.head;
-        format!("{}.{}", head.function, head.version)
+        version_name(self.version)
     }
 }
