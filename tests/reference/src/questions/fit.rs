@@ -46,7 +46,7 @@ impl Need {
     }
 
     /// Does a register of this type meet the need?
-    fn met_by(self, ty: Type) -> bool {
+    pub fn met_by(self, ty: Type) -> bool {
         ty.kind().within(self.kind) && self.ownership.is_none_or(|needed| ty.ownership() == needed)
     }
 }
@@ -82,15 +82,17 @@ pub fn needs(program: &Program, version: &Version, instruction: &Instruction) ->
 }
 
 /// What an instruction puts into its d.
-enum Gives {
+#[derive(Clone, Copy, PartialEq, Eq, Debug)]
+pub enum Gives {
     /// A result of this kind that is no fresh vector.
     Plain(Kind),
     /// A vector that nothing else holds.
     Fresh,
 }
 
-/// What the instruction gives; none for one without a d.
-fn gives(program: &Program, version: &Version, instruction: &Instruction) -> Option<Gives> {
+/// What the instruction gives; none for one without a d, and for one that names
+/// a block or a version that does not exist.
+pub fn gives(program: &Program, version: &Version, instruction: &Instruction) -> Option<Gives> {
     match *instruction {
         Instruction::Lit { .. } => Some(Gives::Plain(Kind::INTEGER)),
         Instruction::Move { a, .. } => Some(Gives::Plain(version.type_of(a).kind())),
@@ -106,8 +108,8 @@ fn gives(program: &Program, version: &Version, instruction: &Instruction) -> Opt
         Instruction::Named { .. } => Some(Gives::Plain(Kind::VALUE)),
         Instruction::Store { .. } => None,
         Instruction::Prom { block, .. } => {
-            let mark = version.blocks[usize::from(block)].head.mark;
-            Some(Gives::Plain(mark.promise()))
+            let block = version.blocks.get(usize::from(block))?;
+            Some(Gives::Plain(block.head.mark.promise()))
         }
         Instruction::Force { .. } => Some(Gives::Plain(Kind::INTEGER)),
         Instruction::Peek { .. } => Some(Gives::Plain(Kind::VALUE)),
@@ -125,8 +127,8 @@ fn gives(program: &Program, version: &Version, instruction: &Instruction) -> Opt
 
 impl Gives {
     /// May it enter a register of this type?
-    fn enters(&self, d: Type) -> bool {
-        match *self {
+    pub fn enters(self, d: Type) -> bool {
+        match self {
             Gives::Plain(kind) => d.is_shared() && kind.within(d.kind()),
             Gives::Fresh => d.is_owned() || (d.is_shared() && Kind::VECTOR.within(d.kind())),
         }
@@ -152,7 +154,7 @@ pub fn question8(program: &Program) -> Result<(), usize> {
 
 /// Block 0's result register lies within the return kind, owned if the return
 /// is owned, else shared or owned; that of a promise block is an integer.
-fn result_fits(version: &Version, number: usize, block: &Block) -> bool {
+pub fn result_fits(version: &Version, number: usize, block: &Block) -> bool {
     let result = version.type_of(block.head.result);
     let returns = version.head.returns;
     if number > 0 {

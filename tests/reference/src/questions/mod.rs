@@ -7,7 +7,7 @@ mod framing;
 mod order;
 mod places;
 
-pub use fit::{needs, Need};
+pub use fit::{gives, needs, result_fits, Gives, Need};
 pub use framing::records;
 
 use crate::flow;

@@ -3,8 +3,8 @@
 use super::vocabulary::{instruction_name, noun, type_words};
 use super::{Found, FoundRecord};
 use reference::program::Block;
-use reference::questions::{needs, Need};
-use reference::{Instruction, Kind, Register, Type};
+use reference::questions::{gives, needs, result_fits, Gives};
+use reference::{Instruction, Register, Type};
 
 /// Question 8: which types do not fit, and what is needed.
 pub fn fit(found: &Found) -> Option<String> {
@@ -21,16 +21,15 @@ pub fn fit(found: &Found) -> Option<String> {
 /// Why a block's result register does not fit.
 fn result(found: &Found, number: usize, block: &Block) -> Option<String> {
     let register = block.head.result;
-    let (ty, returns) = (found.version.type_of(register), found.version.head.returns);
-    let gives = format!("BLOCK {number} gives r{register}, {}", type_words(ty));
-    if number > 0 {
-        let fits = ty.kind() == Kind::INTEGER;
-        return (!fits).then(|| format!("{gives}, and a promise gives an integer"));
-    }
-    let owned_enough = ty.is_owned() || (ty.is_shared() && !returns.is_owned());
-    let fits = ty.kind().within(returns.kind()) && owned_enough;
-    let version = found.version_name();
-    (!fits).then(|| format!("{gives}, and {version} returns {}", noun(returns)))
+    let is = type_words(found.version.type_of(register));
+    let due = if number > 0 {
+        "a promise gives an integer".to_string()
+    } else {
+        let returns = noun(found.version.head.returns);
+        format!("{} returns {returns}", found.version_name())
+    };
+    let fits = result_fits(found.version, number, block);
+    (!fits).then(|| format!("BLOCK {number} gives r{register}, {is}, and {due}"))
 }
 
 /// Which operand is not what the instruction needs.
@@ -39,19 +38,13 @@ fn operands(found: &Found, instruction: &Instruction) -> Option<String> {
     let operands = instruction.reads().into_iter().zip(needs);
     operands.enumerate().find_map(|(place, (register, need))| {
         let ty = found.version.type_of(register);
-        if meets(ty, need) {
+        if need.met_by(ty) {
             return None;
         }
         let name = instruction_name(instruction);
         let needed = needed(found, instruction, place, ty);
         Some(format!("{name}{needed}, r{register} is {}", type_words(ty)))
     })
-}
-
-/// Does a register of a type meet a need?
-fn meets(ty: Type, need: Need) -> bool {
-    let owned_so = need.ownership.is_none_or(|needed| ty.ownership() == needed);
-    ty.kind().within(need.kind) && owned_so
 }
 
 /// What an instruction needs at a place of its operands, which is of another type.
@@ -102,53 +95,14 @@ fn plainly_needed(instruction: &Instruction, place: usize, ty: Type) -> &'static
     }
 }
 
-/// What an instruction puts into its d.
-enum Gives {
-    /// A result of this kind that is no fresh vector.
-    Plain(Kind),
-    /// A vector that nothing else holds.
-    Fresh,
-}
-
-/// What the instruction gives; none for one without a d.
-fn gives(found: &Found, instruction: &Instruction) -> Option<Gives> {
-    Some(match *instruction {
-        Instruction::Set { .. } | Instruction::Store { .. } | Instruction::Poke { .. } => {
-            return None
-        }
-        Instruction::Move { a, .. } => Gives::Plain(found.version.type_of(a).kind()),
-        Instruction::Use { .. } | Instruction::Dup { .. } | Instruction::Vec { .. } => Gives::Fresh,
-        Instruction::Cast { d, .. } => Gives::Plain(found.version.type_of(d).kind()),
-        Instruction::Named { .. } | Instruction::Peek { .. } => Gives::Plain(Kind::VALUE),
-        Instruction::Prom { block, .. } => {
-            let block = found.version.blocks.get(usize::from(block))?;
-            Gives::Plain(block.head.mark.promise())
-        }
-        Instruction::Call { .. } | Instruction::Dispatch { .. } => {
-            let returns = found.program.signature(instruction)?.returns;
-            if returns.is_owned() {
-                Gives::Fresh
-            } else {
-                Gives::Plain(returns.kind())
-            }
-        }
-        _ => Gives::Plain(Kind::INTEGER),
-    })
-}
-
 /// Why an instruction's result may not enter its d.
 fn destination(found: &Found, instruction: &Instruction) -> Option<String> {
     let d = instruction.destination()?;
     let ty = found.version.type_of(d);
-    let (enters, given) = match gives(found, instruction)? {
-        Gives::Plain(kind) => {
-            let enters = ty.is_shared() && kind.within(ty.kind());
-            (enters, noun(Type::shared(kind)))
-        }
-        Gives::Fresh => {
-            let holds = ty.is_shared() && Kind::VECTOR.within(ty.kind());
-            (ty.is_owned() || holds, "a fresh vector".to_string())
-        }
+    let gives = gives(found.program, found.version, instruction)?;
+    let given = match gives {
+        Gives::Plain(kind) => noun(Type::shared(kind)),
+        Gives::Fresh => "a fresh vector".to_string(),
     };
     let name = instruction_name(instruction);
     let borrowed = if ty.is_borrowed() {
@@ -157,7 +111,7 @@ fn destination(found: &Found, instruction: &Instruction) -> Option<String> {
         ""
     };
     let is = type_words(ty);
-    (!enters).then(|| format!("{name} gives {given}, r{d} is {is}{borrowed}"))
+    (!gives.enters(ty)).then(|| format!("{name} gives {given}, r{d} is {is}{borrowed}"))
 }
 
 /// Which register that a call empties stands in it more than once.
