@@ -3,8 +3,8 @@
 use crate::support::{end_of, gives, Run};
 use reference::{Answer, End, Said, Value};
 
-/// Functions `first`..31 that each give their promise to the next; the last
-/// one runs an instruction in the 32nd activation or earlier.
+/// Functions from `first` to `last` that each give their promise to the next;
+/// the last one runs an instruction.
 fn chain(first: usize, last: usize, instruction: &str) -> String {
     let link = |function: usize| {
         let instruction = if function == last {
@@ -101,7 +101,7 @@ fn deep_changes_nothing_and_does_not_count() {
     assert_eq!(run.register(31, 0), Some(Value::Vector(0)));
 }
 
-/// Functions 0..3 that each hold 15 vectors and call the next; function 4
+/// Functions 0 to 3 that each hold 15 vectors and call the next; function 4
 /// makes 4 more, which makes 64, and goes on with an instruction.
 fn hoard(instruction: &str) -> String {
     let declared: Vec<String> = (0..15).map(|r| format!("r{r}: own vector")).collect();
@@ -186,7 +186,7 @@ fn vectors_of_ended_calls_do_not_count() {
     assert_eq!(run.state.counted_vectors().len(), 0);
 }
 
-/// Functions 0..8 that each hold 7 promises and call the next; function 9
+/// Functions 0 to 8 that each hold 7 promises and call the next; function 9
 /// makes the 64th in r1 and goes on with an instruction.
 fn delay(instruction: &str) -> String {
     let function = |number: usize| {
