@@ -12,7 +12,7 @@ use Rattle.checker.specs.Verdicts.{verdictOf}
 use Rattle.checker.specs.declared.Verdict.{Verdict}
 use Rattle.machine.specs.Begin.{Given, arguments, beginAfter, beginOf, enteredOf, programOf, question11, question12, question13, refused, runOf}
 use Rattle.machine.specs.Calls.{closed}
-use Rattle.machine.specs.Runs.{budgetIn, budgetOf, continued, longEnough, runFrom, stepOf}
+use Rattle.machine.specs.Runs.{budgetIn, budgetOf, continued, longEnough, runFrom, stepOf, written}
 use Rattle.machine.specs.States.{itemsOf, over, withEnd, withStack}
 use Rattle.machine.specs.declared.Answer.{Answer}
 use Rattle.machine.specs.declared.Begun.{Begun}
@@ -28,7 +28,6 @@ use Rattle.memory.specs.Memory.{Memory, framesOf, memoryOf, stateOf, vectorIn}
 use Rattle.memory.specs.Parts.{endOf}
 use Rattle.memory.specs.declared.Halt.{Halt}
 use Rattle.memory.proofs.Heap.{items-count}
-use Rattle.delivery.specs.Delivered.{delivered}
 use Rattle.instructions.specs.declared.Turn.{Turn}
 use Rattle.runs.proofs.Lives.{refused-begun}
 use Rattle.snapshots.specs.Held.{held, snapshotOf, statusOf}
@@ -155,14 +154,14 @@ module _ (P : Program) (n : ℕ) (buffer last : List ℤ) (E X : Snapshot) {o : 
   abbrev b : Ran
   b = budgetIn P (held E) n (held E .status)
 
-  answers-in : {r : FirAnswer} → r ≡ answerNumbers (o .answer) (o .steps) → last ≡ over (delivered (o .answer) (held X .result)) buffer → Answers r b E X buffer last
+  answers-in : {r : FirAnswer} → r ≡ answerNumbers (o .answer) (o .steps) → last ≡ over (written (held X .result) (o .answer)) buffer → Answers r b E X buffer last
   answers-in e f = record {
     numbers = e ∙ (λ i. answerNumbers (h .answer i) (h .steps i));
     state = left-taken (b .answer) (b .state) E X (budget-taken P (held E) n (held E .status)) (h .state);
-    written = delivers b buffer (f ∙ (λ i. over (delivered (h .answer i) (h .state i .result)) buffer));
+    written = delivers b buffer (f ∙ (λ i. over (written (h .state i .result) (h .answer i)) buffer));
   }
 
-  pub answers-taken : {r : FirAnswer} → 16 ≤ length buffer → r ≡ answerNumbers (o .answer) (o .steps) → last ≡ over (delivered (o .answer) (held X .result)) buffer → Answers r (budgetOf P (held E) n buffer) E X buffer last
+  pub answers-taken : {r : FirAnswer} → 16 ≤ length buffer → r ≡ answerNumbers (o .answer) (o .steps) → last ≡ over (written (held X .result) (o .answer)) buffer → Answers r (budgetOf P (held E) n buffer) E X buffer last
   answers-taken g e f = rw (← takes P (held E) n buffer g refl) (answers-in e f)
 
 -- ---- from the start

@@ -1,6 +1,6 @@
 -- Answers as numbers, field by field as include/fir.h has them.
 use mathlib.Core.List.{List}
-use Prim.Native.Nat.{ℕ}
+use Prim.Native.Nat.{ℕ, _+_, _*_}
 use lib.IntN.{pos}
 use Rattle.checker.specs.Reports.{reportedOf}
 use Rattle.checker.specs.declared.Reported.{Reported}
@@ -24,6 +24,7 @@ unfoldable pub lengthIn : Reported → ℕ
 lengthIn (Reported.Written n) = n
 lengthIn Reported.Short = 0
 
+-- the length of the text t where it is written to so many places; 0 where it does not fit
 abbrev pub writtenOf : List ℕ → ℕ → ℕ
 writtenOf t places = lengthIn (reportedOf t places)
 
@@ -48,3 +49,13 @@ answerNumbers (Answer.Refused q p) n = record { steps = n; value = pos 0; offset
 answerNumbers Answer.Steps n = plainNumbers 0 n
 answerNumbers (Answer.Ended e) n = record { steps = n; value = endingOf e .value; offset = 0; code = endingOf e .status; length = endingOf e .length; question = 0 }
 answerNumbers Answer.Stuck n = plainNumbers 7 n
+
+-- ---- the memory of a state
+
+-- the bytes of a state, by the widths of its fields
+abbrev pub stateSize : ℕ
+stateSize = 4 * (768 + 1024 + 64 + 16) + 2 * 768 + (64 + 192 + 64 + 192) + 4 + 4
+
+-- that of its widest field
+abbrev pub stateAlignment : ℕ
+stateAlignment = 4

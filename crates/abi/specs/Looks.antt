@@ -13,12 +13,14 @@ use Rattle.machine.specs.declared.Value.{Value}
 use Rattle.memory.specs.Memory.{cellIn}
 use Rattle.abi.specs.declared.answers.FirValue.{FirValue}
 
+-- a value as numbers: vectors and promises by their places
 unfoldable pub valueNumbers : Value → FirValue
 valueNumbers Value.Empty = record { number = pos 0; kind = 0; place = 0 }
 valueNumbers (Value.Integer z) = record { number = z; kind = 1; place = 0 }
 valueNumbers (Value.Vector v) = record { number = pos 0; kind = 2; place = v }
 valueNumbers (Value.Promise p) = record { number = pos 0; kind = 3; place = p }
 
+-- no such place
 unfoldable pub noPlace : FirValue
 noPlace = record { number = pos 0; kind = 4; place = 0 }
 
@@ -26,6 +28,7 @@ noPlace = record { number = pos 0; kind = 4; place = 0 }
 unfoldable pub placeOf : Frame → ℕ → Try Value
 placeOf f i = cond (ltb i REGISTERS) (register f i) (named f (i - REGISTERS))
 
+-- what was looked up, as numbers
 unfoldable pub seen : Try Value → FirValue
 seen (got v) = valueNumbers v
 seen stuck = noPlace

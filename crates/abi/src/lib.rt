@@ -7,7 +7,7 @@ ghost use Rattle.writer.specs.Text.{placed};
 ghost use Rattle.machine.specs.Begin.{beginOf, programOf, runOf};
 ghost use Rattle.machine.specs.Runs.{budgetOf, stepOf};
 ghost use Rattle.snapshots.specs.Held.{held};
-ghost use Rattle.abi.specs.Answers.{entryNumbers, saidNumbers, verdictNumbers, writtenOf};
+ghost use Rattle.abi.specs.Answers.{entryNumbers, saidNumbers, stateAlignment, stateSize, verdictNumbers, writtenOf};
 ghost use Rattle.abi.specs.Exits.{Answers, Began};
 ghost use Rattle.abi.specs.Looks.{lookOf};
 use answers::FirAnswer;
@@ -21,12 +21,13 @@ use checker::report;
 use snapshots::Snapshot;
 
 pub mod answers;
+pub mod entry;
 pub mod parts;
 
 /// The size of a state in bytes.
 #[no_mangle]
 pub extern "C" fn fir_state_size() -> usize
-    ensures { λ r. ⌜ r ≡ 9544 ⌝ }
+    ensures { λ r. ⌜ r ≡ stateSize ⌝ }
 {
     9544
 }
@@ -34,7 +35,7 @@ pub extern "C" fn fir_state_size() -> usize
 /// The alignment of a state in bytes.
 #[no_mangle]
 pub extern "C" fn fir_state_alignment() -> usize
-    ensures { λ r. ⌜ r ≡ 4 ⌝ }
+    ensures { λ r. ⌜ r ≡ stateAlignment ⌝ }
 {
     4
 }
@@ -72,7 +73,7 @@ pub extern "C" fn fir_begin(
 ) -> FirEntry
     ensures { λ r. ⌜ (r ≡ entryNumbers (beginOf (now (image .entry)) function version (now (words .entry)) (now (buffer .entry)) .entry)) × Began (beginOf (now (image .entry)) function version (now (words .entry)) (now (buffer .entry)) .entry) (beginOf (now (image .entry)) function version (now (words .entry)) (now (buffer .entry)) .state) (now (state .entry)) (now (state .exit)) ⌝ }
 {
-    parts::begin(
+    entry::begin(
         image,
         function,
         version,
@@ -164,7 +165,7 @@ pub extern "C" fn fir_run(
 ) -> FirAnswer
     ensures { λ r. ⌜ Answers r (runOf (now (image .entry)) function version (now (words .entry)) budget (now (buffer .entry))) (now (state .entry)) (now (state .exit)) (now (buffer .entry)) (now (buffer .exit)) ⌝ }
 {
-    parts::run(
+    entry::run(
         image,
         function,
         version,

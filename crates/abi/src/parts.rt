@@ -1,42 +1,30 @@
-//! A run between two calls, in the parts of the caller's state: each is lent, and nothing is copied.
+//! Steps of a run, in the parts of the caller's state: each is lent, and nothing is copied.
 ghost use mathlib.Core.Path.{_≡_};
 ghost use Prim.Native.Nat.{ℕ, _<_};
-ghost use lib.ListN.{length};
 ghost use lib.IntN.{ℤ};
 ghost use mathlib.Core.List.{List};
-ghost use Rattle.machine.specs.Begin.{arguments, beginOf, programOf, question12, runOf};
+ghost use Rattle.machine.specs.Begin.{programOf};
 ghost use Rattle.machine.specs.Runs.{budgetIn, budgetOf, runFrom, stepOf};
 ghost use Rattle.machine.specs.declared.Answer.{Answer};
 ghost use Rattle.machine.specs.declared.Status.{Status};
 ghost use Rattle.memory.specs.Memory.{memoryOf};
-ghost use Rattle.program.specs.Places.{versionAt};
-ghost use Rattle.program.specs.Program.{parameterTypes};
-ghost use Rattle.begin.specs.Filled.{Limited, startedOf};
 ghost use Rattle.snapshots.specs.Held.{held, snapshotOf, statusOf};
-ghost use Rattle.stepping.specs.Going.{Placed, Sized, ranOf};
-ghost use Rattle.abi.specs.Answers.{entryNumbers, saidNumbers};
-ghost use Rattle.abi.specs.Exits.{Answers, Began, Comes};
+ghost use Rattle.stepping.specs.Going.{Placed, ranOf};
+ghost use Rattle.abi.specs.Answers.{saidNumbers};
+ghost use Rattle.abi.specs.Exits.{Answers, Comes};
 ghost use Rattle.abi.specs.Looks.{lookIn};
 use crate::answers;
 use crate::answers::FirAnswer;
-use crate::answers::FirEntry;
 use crate::answers::FirSaid;
 use crate::answers::FirValue;
-use checker::Verdict;
-use checker::questions;
+use flat::frames;
+use flat::heap;
 use instructions::Turn;
-use layout::Found;
 use machine::Answer;
 use machine::End;
-use machine::Entry;
-use machine::Frame;
 use machine::Status;
 use machine::Vector;
-use program::lookup;
 use stepping::Counted;
-
-/// The fewest places of a result buffer.
-const ITEMS: usize = 16;
 
 /// The most live calls.
 const ACTIVATIONS: usize = 32;
@@ -101,7 +89,7 @@ fn settle(
         Turn::Vector(v) => {
             *calls = 0;
             *depth = 0;
-            let vector = flat::vector(lengths, items, v);
+            let vector = heap::vector(lengths, items, v);
             let left = vector.items;
             *result = left;
             let n = engine::shown(vector.length);
@@ -113,50 +101,6 @@ fn settle(
         },
         Turn::Stop(h) => end(status, length, value, memory::end_of(h), steps),
     }
-}
-
-/// How many bytes there are.
-fn bytes(s: &[u8]) -> usize
-    ensures { λ r. ⌜ r ≡ length (now (s .entry)) ⌝ }
-{
-    s.len()
-}
-
-/// How many codes there are.
-fn halves(s: &[u16]) -> usize
-    ensures { λ r. ⌜ r ≡ length (now (s .entry)) ⌝ }
-{
-    s.len()
-}
-
-/// How many integers there are.
-fn words(s: &[i32]) -> usize
-    ensures { λ r. ⌜ r ≡ length (now (s .entry)) ⌝ }
-{
-    s.len()
-}
-
-/// The arrays have the lengths that their types say, which a proof learns from slices of them.
-fn measure(
-    numbers: &[i32; 768],
-    items: &[i32; 1024],
-    caches: &[i32; 64],
-    codes: &[u16; 768],
-    owners: &[u8; 64],
-    stack: &[u8; 192],
-    lengths: &[u8; 64],
-    promises: &[u8; 192],
-)
-    ensures { λ _. ⌜ Sized (memoryOf (now (owners .entry)) (now (codes .entry)) (now (numbers .entry)) (now (stack .entry)) (now (lengths .entry)) (now (items .entry)) (now (promises .entry)) (now (caches .entry))) ⌝ }
-{
-    words(numbers);
-    words(items);
-    words(caches);
-    halves(codes);
-    bytes(owners);
-    bytes(stack);
-    bytes(lengths);
-    bytes(promises);
 }
 
 /// Goes on with a run that has not ended, at most `budget` steps.
@@ -181,16 +125,6 @@ fn resumed<'s>(
     requires { ⌜ statusOf (now status) (now value) (now length) ≡ Status.Running ⌝ }
     ensures { λ r. ⌜ Comes r (snapshotOf (now (numbers .exit)) (now (items .exit)) (now (caches .exit)) (now (result .exit)) (now (codes .exit)) (now (owners .exit)) (now (stack .exit)) (now (lengths .exit)) (now (promises .exit)) (now (calls .exit)) (now (depth .exit)) (now (status .exit)) (now (length .exit)) (now (value .exit))) (runFrom (programOf (now (image .entry))) budget (held (snapshotOf (now (numbers .entry)) (now (items .entry)) (now (caches .entry)) (now (result .entry)) (now (codes .entry)) (now (owners .entry)) (now (stack .entry)) (now (lengths .entry)) (now (promises .entry)) (now (calls .entry)) (now (depth .entry)) (now (status .entry)) (now (length .entry)) (now (value .entry)))) 0) ⌝ }
 {
-    measure(
-        numbers,
-        items,
-        caches,
-        codes,
-        owners,
-        stack,
-        lengths,
-        promises,
-    );
     let counted = stepping::resume(
         image,
         owners,
@@ -329,7 +263,7 @@ pub fn budget<'s>(
 ) -> FirAnswer
     ensures { λ r. ⌜ Answers r (budgetOf (programOf (now (image .entry))) (held (snapshotOf (now (numbers .entry)) (now (items .entry)) (now (caches .entry)) (now (result .entry)) (now (codes .entry)) (now (owners .entry)) (now (stack .entry)) (now (lengths .entry)) (now (promises .entry)) (now (calls .entry)) (now (depth .entry)) (now (status .entry)) (now (length .entry)) (now (value .entry)))) budget (now (buffer .entry))) (snapshotOf (now (numbers .entry)) (now (items .entry)) (now (caches .entry)) (now (result .entry)) (now (codes .entry)) (now (owners .entry)) (now (stack .entry)) (now (lengths .entry)) (now (promises .entry)) (now (calls .entry)) (now (depth .entry)) (now (status .entry)) (now (length .entry)) (now (value .entry))) (snapshotOf (now (numbers .exit)) (now (items .exit)) (now (caches .exit)) (now (result .exit)) (now (codes .exit)) (now (owners .exit)) (now (stack .exit)) (now (lengths .exit)) (now (promises .exit)) (now (calls .exit)) (now (depth .exit)) (now (status .exit)) (now (length .exit)) (now (value .exit))) (now (buffer .entry)) (now (buffer .exit)) ⌝ }
 {
-    if buffer.len() < ITEMS {
+    if buffer.len() < Vector::ITEMS {
         return answers::answer(Answer::Refused(13, 0), 0);
     }
     let outcome = under(
@@ -356,272 +290,6 @@ pub fn budget<'s>(
     answers::answer(answer, outcome.steps)
 }
 
-/// Writes the first state of a run whose one call has the frame, with these vectors.
-fn start<'s>(
-    frame: Frame,
-    vectors: [Vector; 64],
-    numbers: &'s mut [i32; 768],
-    items: &'s mut [i32; 1024],
-    caches: &'s mut [i32; 64],
-    result: &'s mut [i32; 16],
-    codes: &'s mut [u16; 768],
-    owners: &'s mut [u8; 64],
-    stack: &'s mut [u8; 192],
-    lengths: &'s mut [u8; 64],
-    promises: &'s mut [u8; 192],
-    calls: &'s mut u8,
-    depth: &'s mut u8,
-    status: &'s mut u8,
-    length: &'s mut u8,
-    value: &'s mut i32,
-)
-    ensures { λ _. ⌜ held (snapshotOf (now (numbers .exit)) (now (items .exit)) (now (caches .exit)) (now (result .exit)) (now (codes .exit)) (now (owners .exit)) (now (stack .exit)) (now (lengths .exit)) (now (promises .exit)) (now (calls .exit)) (now (depth .exit)) (now (status .exit)) (now (length .exit)) (now (value .exit))) ≡ startedOf frame vectors ⌝ }
-{
-    let blank = Frame::new(0, 0);
-    let mut frames = [blank; 32];
-    frames[0] = frame;
-    flat::load_frames(frames, owners, codes, numbers);
-    flat::load_vectors(vectors, lengths, items);
-    *stack = [0; 192];
-    *promises = [0; 192];
-    *caches = [0; 64];
-    *result = [0; 16];
-    *calls = 1;
-    *depth = 1;
-    *status = 0;
-    *length = 0;
-    *value = 0;
-}
-
-/// Begins a run of the version at `v`: questions 12 and 13.
-fn entered<'s>(
-    image: &[u8],
-    v: usize,
-    words: &[i32],
-    buffer: &[i32],
-    numbers: &'s mut [i32; 768],
-    items: &'s mut [i32; 1024],
-    caches: &'s mut [i32; 64],
-    result: &'s mut [i32; 16],
-    codes: &'s mut [u16; 768],
-    owners: &'s mut [u8; 64],
-    stack: &'s mut [u8; 192],
-    lengths: &'s mut [u8; 64],
-    promises: &'s mut [u8; 192],
-    calls: &'s mut u8,
-    depth: &'s mut u8,
-    status: &'s mut u8,
-    length: &'s mut u8,
-    value: &'s mut i32,
-) -> Entry
-    requires { ⌜ Limited (versionAt (now image) v) ⌝ }
-    ensures { λ r. ⌜ (r ≡ question12 (versionAt (now (image .entry)) v) (arguments (parameterTypes (versionAt (now (image .entry)) v)) (now (words .entry))) (now (buffer .entry)) .entry) × Began r (question12 (versionAt (now (image .entry)) v) (arguments (parameterTypes (versionAt (now (image .entry)) v)) (now (words .entry))) (now (buffer .entry)) .state) (snapshotOf (now (numbers .entry)) (now (items .entry)) (now (caches .entry)) (now (result .entry)) (now (codes .entry)) (now (owners .entry)) (now (stack .entry)) (now (lengths .entry)) (now (promises .entry)) (now (calls .entry)) (now (depth .entry)) (now (status .entry)) (now (length .entry)) (now (value .entry))) (snapshotOf (now (numbers .exit)) (now (items .exit)) (now (caches .exit)) (now (result .exit)) (now (codes .exit)) (now (owners .exit)) (now (stack .exit)) (now (lengths .exit)) (now (promises .exit)) (now (calls .exit)) (now (depth .exit)) (now (status .exit)) (now (length .exit)) (now (value .exit))) ⌝ }
-{
-    let filled = begin::fill(image, v, words);
-    let whole = filled.whole;
-    if !whole {
-        return Entry::Refused(12, 0);
-    }
-    if buffer.len() < ITEMS {
-        return Entry::Refused(13, 0);
-    }
-    let function = layout::field(image, v, 0) as u8;
-    let version = layout::field(image, v, 1) as u8;
-    let mut frame = Frame::new(function, version);
-    let registers = filled.registers;
-    frame.registers = registers;
-    let vectors = filled.vectors;
-    start(
-        frame,
-        vectors,
-        numbers,
-        items,
-        caches,
-        result,
-        codes,
-        owners,
-        stack,
-        lengths,
-        promises,
-        calls,
-        depth,
-        status,
-        length,
-        value,
-    );
-    Entry::Begun
-}
-
-/// Begins a run: its first state is written. A refusal writes nothing.
-fn enter<'s>(
-    image: &[u8],
-    function: usize,
-    version: usize,
-    words: &[i32],
-    buffer: &[i32],
-    numbers: &'s mut [i32; 768],
-    items: &'s mut [i32; 1024],
-    caches: &'s mut [i32; 64],
-    result: &'s mut [i32; 16],
-    codes: &'s mut [u16; 768],
-    owners: &'s mut [u8; 64],
-    stack: &'s mut [u8; 192],
-    lengths: &'s mut [u8; 64],
-    promises: &'s mut [u8; 192],
-    calls: &'s mut u8,
-    depth: &'s mut u8,
-    status: &'s mut u8,
-    length: &'s mut u8,
-    value: &'s mut i32,
-) -> Entry
-    ensures { λ r. ⌜ (r ≡ beginOf (now (image .entry)) function version (now (words .entry)) (now (buffer .entry)) .entry) × Began r (beginOf (now (image .entry)) function version (now (words .entry)) (now (buffer .entry)) .state) (snapshotOf (now (numbers .entry)) (now (items .entry)) (now (caches .entry)) (now (result .entry)) (now (codes .entry)) (now (owners .entry)) (now (stack .entry)) (now (lengths .entry)) (now (promises .entry)) (now (calls .entry)) (now (depth .entry)) (now (status .entry)) (now (length .entry)) (now (value .entry))) (snapshotOf (now (numbers .exit)) (now (items .exit)) (now (caches .exit)) (now (result .exit)) (now (codes .exit)) (now (owners .exit)) (now (stack .exit)) (now (lengths .exit)) (now (promises .exit)) (now (calls .exit)) (now (depth .exit)) (now (status .exit)) (now (length .exit)) (now (value .exit))) ⌝ }
-{
-    match questions::verdict(image) {
-        Verdict::Refused(q, p) => Entry::Refused(q, p as u16),
-        Verdict::Accepted(_) => match lookup::version(image, function, version) {
-            Found::Nothing => Entry::Refused(11, 0),
-            Found::At(v) => entered(
-                image,
-                v,
-                words,
-                buffer,
-                numbers,
-                items,
-                caches,
-                result,
-                codes,
-                owners,
-                stack,
-                lengths,
-                promises,
-                calls,
-                depth,
-                status,
-                length,
-                value,
-            ),
-        },
-    }
-}
-
-/// Begins a run.
-pub fn begin<'s>(
-    image: &[u8],
-    function: usize,
-    version: usize,
-    words: &[i32],
-    buffer: &[i32],
-    numbers: &'s mut [i32; 768],
-    items: &'s mut [i32; 1024],
-    caches: &'s mut [i32; 64],
-    result: &'s mut [i32; 16],
-    codes: &'s mut [u16; 768],
-    owners: &'s mut [u8; 64],
-    stack: &'s mut [u8; 192],
-    lengths: &'s mut [u8; 64],
-    promises: &'s mut [u8; 192],
-    calls: &'s mut u8,
-    depth: &'s mut u8,
-    status: &'s mut u8,
-    length: &'s mut u8,
-    value: &'s mut i32,
-) -> FirEntry
-    ensures { λ r. ⌜ (r ≡ entryNumbers (beginOf (now (image .entry)) function version (now (words .entry)) (now (buffer .entry)) .entry)) × Began (beginOf (now (image .entry)) function version (now (words .entry)) (now (buffer .entry)) .entry) (beginOf (now (image .entry)) function version (now (words .entry)) (now (buffer .entry)) .state) (snapshotOf (now (numbers .entry)) (now (items .entry)) (now (caches .entry)) (now (result .entry)) (now (codes .entry)) (now (owners .entry)) (now (stack .entry)) (now (lengths .entry)) (now (promises .entry)) (now (calls .entry)) (now (depth .entry)) (now (status .entry)) (now (length .entry)) (now (value .entry))) (snapshotOf (now (numbers .exit)) (now (items .exit)) (now (caches .exit)) (now (result .exit)) (now (codes .exit)) (now (owners .exit)) (now (stack .exit)) (now (lengths .exit)) (now (promises .exit)) (now (calls .exit)) (now (depth .exit)) (now (status .exit)) (now (length .exit)) (now (value .exit))) ⌝ }
-{
-    let entry = enter(
-        image,
-        function,
-        version,
-        words,
-        buffer,
-        numbers,
-        items,
-        caches,
-        result,
-        codes,
-        owners,
-        stack,
-        lengths,
-        promises,
-        calls,
-        depth,
-        status,
-        length,
-        value,
-    );
-    answers::entry(entry)
-}
-
-/// Begins a run and goes on with it under its first budget.
-pub fn run<'s>(
-    image: &[u8],
-    function: usize,
-    version: usize,
-    words: &[i32],
-    steps: u32,
-    buffer: &mut [i32],
-    numbers: &'s mut [i32; 768],
-    items: &'s mut [i32; 1024],
-    caches: &'s mut [i32; 64],
-    result: &'s mut [i32; 16],
-    codes: &'s mut [u16; 768],
-    owners: &'s mut [u8; 64],
-    stack: &'s mut [u8; 192],
-    lengths: &'s mut [u8; 64],
-    promises: &'s mut [u8; 192],
-    calls: &'s mut u8,
-    depth: &'s mut u8,
-    status: &'s mut u8,
-    length: &'s mut u8,
-    value: &'s mut i32,
-) -> FirAnswer
-    ensures { λ r. ⌜ Answers r (runOf (now (image .entry)) function version (now (words .entry)) steps (now (buffer .entry))) (snapshotOf (now (numbers .entry)) (now (items .entry)) (now (caches .entry)) (now (result .entry)) (now (codes .entry)) (now (owners .entry)) (now (stack .entry)) (now (lengths .entry)) (now (promises .entry)) (now (calls .entry)) (now (depth .entry)) (now (status .entry)) (now (length .entry)) (now (value .entry))) (snapshotOf (now (numbers .exit)) (now (items .exit)) (now (caches .exit)) (now (result .exit)) (now (codes .exit)) (now (owners .exit)) (now (stack .exit)) (now (lengths .exit)) (now (promises .exit)) (now (calls .exit)) (now (depth .exit)) (now (status .exit)) (now (length .exit)) (now (value .exit))) (now (buffer .entry)) (now (buffer .exit)) ⌝ }
-{
-    let entry = enter(
-        image,
-        function,
-        version,
-        words,
-        buffer,
-        numbers,
-        items,
-        caches,
-        result,
-        codes,
-        owners,
-        stack,
-        lengths,
-        promises,
-        calls,
-        depth,
-        status,
-        length,
-        value,
-    );
-    match entry {
-        Entry::Refused(q, p) => answers::answer(Answer::Refused(q, p), 0),
-        Entry::Begun => budget(
-            image,
-            steps,
-            buffer,
-            numbers,
-            items,
-            caches,
-            result,
-            codes,
-            owners,
-            stack,
-            lengths,
-            promises,
-            calls,
-            depth,
-            status,
-            length,
-            value,
-        ),
-    }
-}
-
 /// What the place `place` of the live call `call` holds.
 pub fn look<'s>(
     codes: &'s [u16; 768],
@@ -642,6 +310,6 @@ pub fn look<'s>(
     if CELLS <= place {
         return answers::outside();
     }
-    let value = flat::cell(codes, numbers, CELLS * call + place);
+    let value = frames::cell(codes, numbers, CELLS * call + place);
     answers::value(value)
 }

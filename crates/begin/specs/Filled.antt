@@ -27,10 +27,11 @@ argumentOf none = Argument.Nothing
 argumentOf (some (integer z, ws)) = Argument.Integer z
 argumentOf (some (vector xs, ws)) = Argument.Vector (length xs)
 
--- empty registers and empty vectors
+-- empty registers
 abbrev pub noRegisters : List Place
 noRegisters = replicate REGISTERS (place Value.Empty)
 
+-- empty vectors
 abbrev pub noVectors : List Vector
 noVectors = replicate VECTORS (newVector [])
 

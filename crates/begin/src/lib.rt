@@ -28,9 +28,6 @@ use machine::Vector;
 use program::lookup;
 use typing::types;
 
-/// The most items of a vector, and the fewest places of a result buffer.
-const ITEMS: usize = 16;
-
 /// An argument: none that is allowed, an integer, or a vector with its number of items.
 enum Argument {
     Nothing,
@@ -64,7 +61,7 @@ fn given(words: &[i32], p: usize) -> Argument
         return Argument::Nothing;
     }
     let n = w as usize;
-    if ITEMS < n {
+    if Vector::ITEMS < n {
         return Argument::Nothing;
     }
     if left < n {
@@ -113,7 +110,7 @@ fn vector_at(words: &[i32], p: usize, n: usize) -> Vector
     }
 }
 
-/// What no arguments make.
+/// The answer where the words do not make the arguments: registers and vectors are empty.
 fn unfilled() -> Filled
     ensures { λ r. ⌜ r ≡ filledOf none ⌝ }
 {
@@ -235,7 +232,7 @@ fn entered(image: &[u8], v: usize, words: &[i32], buffer: &[i32]) -> Begun
     if !whole {
         return refused(12, 0);
     }
-    if buffer.len() < ITEMS {
+    if buffer.len() < Vector::ITEMS {
         return refused(13, 0);
     }
     let function = layout::field(image, v, 0) as u8;

@@ -13,9 +13,10 @@ use Rattle.program.specs.Program.{Program, Version}
 use Rattle.rules.specs.Types.{isOwned, kindOf, ownershipOf, within}
 use Rattle.kinds.specs.Kinds.{argumentKind, kindOr}
 use Rattle.layout.specs.Records.{bodyAt}
+use Rattle.memory.specs.Parts.{pushed}
 use Rattle.program.specs.Places.{versionAt}
 use lib.IntN.{ℤ, pos}
-use Rattle.calls.specs.Frames.{clearedTo, emptiedTo, enteredCodes, few, ownedBy, passedTo, pushed}
+use Rattle.calls.specs.Frames.{clearedTo, emptiedTo, enteredCodes, few, ownedBy, passedTo}
 use Rattle.calls.specs.Entering.{allTo, fitsKind, matchesIn, parametersOf, Arrays, enteredArrays}
 use Rattle.kinds.proofs.Kinded.{Over}
 
@@ -125,7 +126,7 @@ module _ (codes : List ℕ) (k : ℕ) (ts rs : List ℕ) (i : ℕ) where
 module _ (owners codes : List ℕ) (numbers : List ℤ) (stack : List ℕ) (calls depth k d : ℕ) (s : List ℕ) (v : ℕ) (rs : List ℕ) (n : ℕ) where
   pub entered-on : {f g : ℕ} {c₁ c₂ codes′ : List ℕ} {numbers′ : List ℤ} {stack′ : List ℕ}
       → c₁ ≡ clearedTo codes (24 * calls) 24 → c₂ ≡ passedTo 0 c₁ k calls rs (few n) → numbers′ ≡ passedTo (pos 0) numbers k calls rs (few n)
-      → codes′ ≡ emptiedTo c₂ k (versionAt s v .types) rs 0 n → f ≡ bodyAt s v ! 0 → g ≡ bodyAt s v ! 1 → stack′ ≡ pushed stack depth d calls
+      → codes′ ≡ emptiedTo c₂ k (versionAt s v .types) rs 0 n → f ≡ bodyAt s v ! 0 → g ≡ bodyAt s v ! 1 → stack′ ≡ pushed stack depth 0 0 d calls 0
       → _≡_ {A = Arrays} (record { owners = set (set owners (2 * calls) f) (2 * calls + 1) g; codes = codes′; numbers = numbers′; stack = stack′ })
       (enteredArrays (record { owners = owners; codes = codes; numbers = numbers; stack = stack }) calls depth k d (versionAt s v) rs n)
   unfolding enteredArrays enteredCodes ownedBy versionAt

@@ -8,7 +8,6 @@ use native.Mathlib.Omega.{arith}
 use lib.IntN.{ℤ, pos}
 use lib.ListN.{getD, length, length-set, replicate, set}
 use lib.Seq.{getD-set-same, getD-set-other}
-use lib.Dec.{eqb}
 use borrow.Author.Tests.{lt-ltb, le-ltb}
 use Rattle.layout.specs.Records.{_!_}
 use Rattle.program.specs.Program.{Version, parameterTypes}
@@ -19,56 +18,13 @@ use Rattle.machine.specs.Try.{got, stuck, stop, _>>=_, _>>_, put, stuckUnless}
 use Rattle.machine.specs.declared.End.{End}
 use Rattle.machine.specs.declared.Opener.{Opener}
 use Rattle.machine.specs.declared.Value.{Value}
-use Rattle.memory.specs.Memory.{Long, Memory, activationIn, cellIn, frameIn, framesOf, namesIn, openerOf, registersIn, stateOf, valueOf}
-use Rattle.memory.specs.Parts.{withCells, withOpen}
+use Rattle.memory.specs.Memory.{Long, Memory, cellIn, frameIn, framesOf, namesIn, registersIn, stateOf, valueOf, openerOf}
+use Rattle.memory.specs.Parts.{withCells, withOpen, pushed}
 use Rattle.memory.proofs.Frames.{assign-empty, frame-same}
 use Rattle.memory.proofs.Lists.{length-upTo, set-upTo-by}
-use Rattle.memory.proofs.Stack.{activation-same, opened-in, opened-deep}
-use Rattle.calls.specs.Frames.{clearedTo, emptiedTo, enteredCodes, few, ownedBy, passedTo, pushed}
+use Rattle.memory.proofs.Stack.{opened-in, opened-deep, length-pushed, pushed-below, pushed-top}
+use Rattle.calls.specs.Frames.{clearedTo, emptiedTo, enteredCodes, few, ownedBy, passedTo}
 use Rattle.calls.proofs.NewFrame.{emptied-length, emptied-out, emptied-at, cleared-length, cleared-out, cleared-in, passed-length, passed-out, passed-in, few-below, few-in, over-from, same-from}
-
--- ---- the activation on top
-
-module _ (s : List ℕ) (i d f : ℕ) (sized : length s ≡ 192) (near : i < 32) where
-  pub pushed-top : activationIn (pushed s i d f) i ≡ record { opener = Opener.Call; d = d; frame = f; block = 0; next = 0 }
-  unfolding activationIn pushed openerOf
-  pushed-top =
-      let s₁ = set s (6 * i) 0 in
-      let s₂ = set s₁ (6 * i + 1) 0 in
-      let s₃ = set s₂ (6 * i + 2) d in
-      let s₄ = set s₃ (6 * i + 3) f in
-      let s₅ = set s₄ (6 * i + 4) 0 in
-      let l₁ : length s₁ ≡ 192 = length-set s (6 * i) 0 ∙ sized in
-      let l₂ : length s₂ ≡ 192 = length-set s₁ (6 * i + 1) 0 ∙ l₁ in
-      let l₃ : length s₃ ≡ 192 = length-set s₂ (6 * i + 2) d ∙ l₂ in
-      let l₄ : length s₄ ≡ 192 = length-set s₃ (6 * i + 3) f ∙ l₃ in
-      let l₅ : length s₅ ≡ 192 = length-set s₄ (6 * i + 4) 0 ∙ l₄ in
-      let a : set s₅ (6 * i + 5) 0 ! (6 * i) ≡ 0 =
-      getD-set-other s₅ (6 * i + 5) (6 * i) 0 0 (λ z. omega arith) ∙ getD-set-other s₄ (6 * i + 4) (6 * i) 0 0 (λ z. omega arith) ∙ getD-set-other s₃ (6 * i + 3) (6 * i) f 0 (λ z. omega arith)
-      ∙ getD-set-other s₂ (6 * i + 2) (6 * i) d 0 (λ z. omega arith) ∙ getD-set-other s₁ (6 * i + 1) (6 * i) 0 0 (λ z. omega arith) ∙ getD-set-same s (6 * i) 0 0 (omega (arith, sized)) in
-      let b : set s₅ (6 * i + 5) 0 ! (6 * i + 2) ≡ d =
-      getD-set-other s₅ (6 * i + 5) (6 * i + 2) 0 0 (λ z. omega arith) ∙ getD-set-other s₄ (6 * i + 4) (6 * i + 2) 0 0 (λ z. omega arith) ∙ getD-set-other s₃ (6 * i + 3) (6 * i + 2) f 0 (λ z. omega arith) ∙ getD-set-same s₂ (6 * i + 2) d 0 (omega (arith, l₂)) in
-      let c : set s₅ (6 * i + 5) 0 ! (6 * i + 3) ≡ f =
-      getD-set-other s₅ (6 * i + 5) (6 * i + 3) 0 0 (λ z. omega arith) ∙ getD-set-other s₄ (6 * i + 4) (6 * i + 3) 0 0 (λ z. omega arith) ∙ getD-set-same s₃ (6 * i + 3) f 0 (omega (arith, l₃)) in
-      let e : set s₅ (6 * i + 5) 0 ! (6 * i + 4) ≡ 0 = getD-set-other s₅ (6 * i + 5) (6 * i + 4) 0 0 (λ z. omega arith) ∙ getD-set-same s₄ (6 * i + 4) 0 0 (omega (arith, l₄)) in
-      let g : set s₅ (6 * i + 5) 0 ! (6 * i + 5) ≡ 0 = getD-set-same s₅ (6 * i + 5) 0 0 (omega (arith, l₅)) in
-      λ t. record { opener = cond (eqb (a t) 0) Opener.Call (Opener.Force (set s₅ (6 * i + 5) 0 ! (6 * i + 1))); d = b t; frame = c t; block = e t; next = g t }
-
-pub pushed-other : (s : List ℕ) (i d f j : ℕ) → (j ≡ i → ⊥) → activationIn (pushed s i d f) j ≡ activationIn s j
-unfolding pushed
-pushed-other s i d f j q =
-    let s₁ = set s (6 * i) 0 in
-    let s₂ = set s₁ (6 * i + 1) 0 in
-    let s₃ = set s₂ (6 * i + 2) d in
-    let s₄ = set s₃ (6 * i + 3) f in
-    let s₅ = set s₄ (6 * i + 4) 0 in
-    activation-same s (set s₅ (6 * i + 5) 0) j (λ r h.
-    getD-set-other s₅ (6 * i + 5) (6 * j + r) 0 0 (λ z. q (omega arith)) ∙ getD-set-other s₄ (6 * i + 4) (6 * j + r) 0 0 (λ z. q (omega arith)) ∙ getD-set-other s₃ (6 * i + 3) (6 * j + r) f 0 (λ z. q (omega arith))
-    ∙ getD-set-other s₂ (6 * i + 2) (6 * j + r) d 0 (λ z. q (omega arith)) ∙ getD-set-other s₁ (6 * i + 1) (6 * j + r) 0 0 (λ z. q (omega arith)) ∙ getD-set-other s (6 * i) (6 * j + r) 0 0 (λ z. q (omega arith)))
-
-pub pushed-length : (s : List ℕ) (i d f : ℕ) → length (pushed s i d f) ≡ length s
-unfolding pushed
-pushed-length s i d f = simp length-set
 
 -- ---- the registers that are emptied
 
@@ -232,7 +188,7 @@ module _ (M : Memory) (long : Long M) (k d : ℕ) (X : Version) (rs : List ℕ) 
 
   -- with one more activation, and the registers emptied
   abbrev opens : Memory
-  opens = withOpen M (M .owners) (M .calls) (pushed (M .stack) (M .depth) d (M .calls)) (M .depth + 1)
+  opens = withOpen M (M .owners) (M .calls) (pushed (M .stack) (M .depth) 0 0 d (M .calls) 0) (M .depth + 1)
 
   abbrev empties : Memory
   empties = withCells opens (emptiedTo (M .codes) k (X .types) rs 0 n) (M .numbers)
@@ -243,8 +199,8 @@ module _ (M : Memory) (long : Long M) (k d : ℕ) (X : Version) (rs : List ℕ) 
 
   module _ (shallow : M .depth < 32) where
     open-in : opened (stateOf M) (record { opener = Opener.Call; d = d; frame = stateOf M .calls; block = 0; next = 0 }) ≡ got (stateOf opens)
-    unfolding stateOf
-    open-in = opened-in M _ (pushed (M .stack) (M .depth) d (M .calls)) shallow (pushed-top (M .stack) (M .depth) d (M .calls) (long .stack) shallow) (λ i a q. pushed-other (M .stack) (M .depth) d (M .calls) i q)
+    unfolding stateOf openerOf
+    open-in = opened-in M _ (pushed (M .stack) (M .depth) 0 0 d (M .calls) 0) shallow (pushed-top (M .stack) (M .depth) 0 0 d (M .calls) 0 (omega (arith, long .stack, shallow))) (λ i a q. pushed-below (M .stack) (M .depth) 0 0 d (M .calls) 0 i q)
 
     empty-in : emptied (stateOf opens) k (parameterTypes X) rs ≡ got (stateOf empties)
     unfolding withOpen
@@ -269,7 +225,7 @@ module _ (M : Memory) (long : Long M) (k d : ℕ) (X : Version) (rs : List ℕ) 
 
     module _ (near : M .calls < 32) where
       abbrev after : Memory
-      after = withCells (withOpen M (ownedBy (M .owners) (M .calls) X) (M .calls + 1) (pushed (M .stack) (M .depth) d (M .calls)) (M .depth + 1)) (enteredCodes (M .codes) k (M .calls) (X .types) rs n) (passedTo (pos 0) (M .numbers) k (M .calls) rs (few n))
+      after = withCells (withOpen M (ownedBy (M .owners) (M .calls) X) (M .calls + 1) (pushed (M .stack) (M .depth) 0 0 d (M .calls) 0) (M .depth + 1)) (enteredCodes (M .codes) k (M .calls) (X .types) rs n) (passedTo (pos 0) (M .numbers) k (M .calls) rs (few n))
 
       frames-put : set (stateOf empties .frames) (M .calls) (frameFor X given) ≡ stateOf after .frames
       unfolding stateOf framesOf withCells withOpen
@@ -289,7 +245,7 @@ module _ (M : Memory) (long : Long M) (k d : ℕ) (X : Version) (rs : List ℕ) 
         owners = length-set (set (M .owners) (2 * M .calls) (X .function)) (2 * M .calls + 1) (X .version) ∙ length-set (M .owners) (2 * M .calls) (X .function) ∙ long .owners;
         codes = entered-length (M .codes) (M .numbers) k (M .calls) (X .types) rs n (long .codes) (long .numbers) low near (λ z. omega (arith, live, z));
         numbers = passed-length (pos 0) (M .numbers) k (M .calls) rs (few n) ∙ long .numbers;
-        stack = pushed-length (M .stack) (M .depth) d (M .calls) ∙ long .stack;
+        stack = length-pushed (M .stack) (M .depth) 0 0 d (M .calls) 0 ∙ long .stack;
         lengths = long .lengths;
         items = long .items;
         promises = long .promises;

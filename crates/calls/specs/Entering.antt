@@ -16,11 +16,11 @@ use Rattle.program.specs.Program.{Argument, Program, Version, CALL, DISPATCH, f
 use Rattle.rules.specs.Types.{kindOf, ownershipOf, within}
 use Rattle.machine.specs.Begin.{programOf}
 use Rattle.memory.specs.Memory.{Memory}
-use Rattle.memory.specs.Parts.{withCells, withOpen, withPromises}
+use Rattle.memory.specs.Parts.{withCells, withOpen, withPromises, pushed}
 use Rattle.memory.specs.Works.{Works}
 use Rattle.memory.specs.declared.Did.{Did}
 use Rattle.memory.specs.declared.Halt.{Halt}
-use Rattle.calls.specs.Frames.{enteredCodes, few, ownedBy, passedTo, pushed}
+use Rattle.calls.specs.Frames.{enteredCodes, few, ownedBy, passedTo}
 use Rattle.kinds.specs.Kinds.{argumentKind}
 
 -- ---- tests
@@ -30,11 +30,12 @@ unfoldable pub allTo : (ℕ → Bool) → ℕ → ℕ → Bool
 allTo p i zero = true
 allTo p i (suc n) = p i and allTo p (suc i) n
 
--- a kind is there, and within that of the type t
+-- a kind is there
 unfoldable pub isThere : Option ℕ → Bool
 isThere none = false
 isThere (some m) = true
 
+-- a kind is there, and within that of the type t
 unfoldable pub fitsKind : Option ℕ → ℕ → Bool
 fitsKind none t = false
 fitsKind (some m) t = within m (kindOf t)
@@ -48,7 +49,7 @@ unfoldable pub matchesIn : Program → List ℕ → List ℕ → ℕ → List �
 matchesIn P owners promises calls codes k rs X n =
     eqb n (parametersOf X) and allTo (λ i. fitsKind (argumentKind P owners promises calls codes k (rs ! i)) (X .types ! i)) 0 n
 
--- the registers are all there
+-- n registers rs of the frame k all hold a value that has a kind
 unfoldable pub knownIn : Program → List ℕ → List ℕ → ℕ → List ℕ → ℕ → List ℕ → ℕ → Bool
 knownIn P owners promises calls codes k rs n = allTo (λ i. isThere (argumentKind P owners promises calls codes k (rs ! i))) 0 n
 
@@ -104,7 +105,7 @@ enteredArrays a calls depth k d X rs n = record {
   owners = ownedBy (a .owners) calls X;
   codes = enteredCodes (a .codes) k calls (X .types) rs n;
   numbers = passedTo (pos 0) (a .numbers) k calls rs (few n);
-  stack = pushed (a .stack) depth d calls;
+  stack = pushed (a .stack) depth 0 0 d calls 0;
 }
 
 -- DEEP before stuck by frames; nothing is written then

@@ -23,17 +23,14 @@ unfoldable pub emptiedTo : List ℕ → ℕ → List ℕ → List ℕ → ℕ �
 emptiedTo codes k ts rs i zero = codes
 emptiedTo codes k ts rs i (suc n) = emptiedTo (cond (isOwned (ts ! i)) (set codes (24 * k + (rs ! i) % 16) 0) codes) k ts rs (suc i) n
 
--- the codes and the numbers with a new frame of n arguments
+-- n, or 16, as many registers as a frame has, where n is more
 unfoldable pub few : ℕ → ℕ
 few n = cond (ltb n 16) n 16
 
+-- the codes with a new frame `to` of n arguments out of the frame k
 unfoldable pub enteredCodes : List ℕ → ℕ → ℕ → List ℕ → List ℕ → ℕ → List ℕ
 enteredCodes codes k to ts rs n = emptiedTo (passedTo 0 (clearedTo codes (24 * to) 24) k to rs (few n)) k ts rs 0 n
 
 -- the frame is of the version X
 unfoldable pub ownedBy : List ℕ → ℕ → Version → List ℕ
 ownedBy owners to X = set (set owners (2 * to) (X .function)) (2 * to + 1) (X .version)
-
--- the activation i is a call in the frame f, for the register d
-unfoldable pub pushed : List ℕ → ℕ → ℕ → ℕ → List ℕ
-pushed stack i d f = set (set (set (set (set (set stack (6 * i) 0) (6 * i + 1) 0) (6 * i + 2) d) (6 * i + 3) f) (6 * i + 4) 0) (6 * i + 5) 0

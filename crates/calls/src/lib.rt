@@ -1,32 +1,23 @@
-//! Values that pass on: MOVE and CAST by their kinds, and the calls that open.
+//! CALL and DISPATCH: which version they call, and the frame that opens for it.
 //! Its functions serve the loop of the engine; what they require, the loop keeps.
+//! `table` is the image's index.
 ghost use mathlib.Core.Path.{_≡_};
 ghost use Prim.Native.Nat.{_*_, _<_, _≤_};
 ghost use lib.IntN.{pos};
 ghost use Rattle.layout.specs.Records.{_!_};
 ghost use Rattle.program.specs.Places.{instrAt, versionAt};
 ghost use Rattle.index.specs.Indexed.{Indexed};
-ghost use Rattle.program.specs.Program.{MOVE, CAST};
 ghost use Rattle.program.specs.Shapes.{listedRegisters, listedTypes};
 ghost use Rattle.machine.specs.Begin.{programOf};
-ghost use Rattle.memory.specs.Parts.{givesOf};
-ghost use Rattle.kinds.specs.Kinds.{heldKind, kindOr, Kinded, argumentKind, typedIn, Fed};
-ghost use Rattle.calls.specs.Frames.{clearedTo, passedTo, emptiedTo, few, pushed};
-ghost use Rattle.calls.specs.Entering.{Within, fitsKind, parametersOf, isThere, matchesIn, knownIn, sameIn, passesIn, passedAt, lowestAt, Entered, Called, Dispatched};
+ghost use Rattle.kinds.specs.Kinds.{argumentKind};
+ghost use Rattle.calls.specs.Frames.{clearedTo, passedTo, emptiedTo, few};
+ghost use Rattle.calls.specs.Entering.{Within, fitsKind, parametersOf, matchesIn, knownIn, sameIn, passesIn, passedAt, lowestAt, Entered, Called, Dispatched};
 use layout::Found;
 use memory::Did;
-use memory::Gives;
 use memory::Halt;
 use program::decode;
 use program::lookup;
 use typing::types;
-
-/// A byte as a number.
-fn wide(x: u8) -> usize
-    ensures { λ r. ⌜ (r ≡ x) × (r < 256) ⌝ }
-{
-    x as usize
-}
 
 /// How many parameters the version at `v` has registers for.
 fn parameters_of(image: &[u8], v: usize) -> usize
@@ -107,7 +98,7 @@ fn clear(codes: &mut [u16; 768], k: usize)
     }
 }
 
-/// As many as a frame has registers for.
+/// `n`, or 16, as many registers as a frame has, where `n` is more.
 fn at_most(n: usize) -> usize
     ensures { λ r. ⌜ (r ≡ few n) × (r ≤ 16) ⌝ }
 {
@@ -144,26 +135,13 @@ fn empty(image: &[u8], at: usize, codes: &mut [u16; 768], k: usize, v: usize, n:
 {
     let mut i: usize = 0;
     while i < n {
-        if lookup::type_of(image, v, i) / 16 == 1 {
+        if lookup::type_of(image, v, i) / 16 == types::OWNED {
             codes[24 * k + decode::listed_register(image, at, i) % 16] = 0;
             i += 1;
         } else {
             i += 1;
         }
     }
-}
-
-/// Puts a call in the frame `f`, for the register `d`, on top of `depth` activations.
-fn push(stack: &mut [u8; 192], depth: usize, d: u8, f: u8)
-    requires { ⌜ depth < 32 ⌝ }
-    ensures { λ r. ⌜ now (stack .exit) ≡ pushed (now (stack .entry)) depth d f ⌝ }
-{
-    stack[6 * depth] = 0;
-    stack[6 * depth + 1] = 0;
-    stack[6 * depth + 2] = d;
-    stack[6 * depth + 3] = f;
-    stack[6 * depth + 4] = 0;
-    stack[6 * depth + 5] = 0;
 }
 
 /// Opens a call of the version at `v` with the `n` registers that the instruction at `at` lists.
@@ -195,11 +173,11 @@ fn enter(
     empty(image, at, codes, k, v, n);
     owners[2 * calls] = layout::field(image, v, 0) as u8;
     owners[2 * calls + 1] = layout::field(image, v, 1) as u8;
-    push(stack, depth, d, calls as u8);
+    memory::push(stack, depth, 0, 0, d, calls as u8, 0);
     Did::On
 }
 
-/// CALL: opens a call of the version that is named. The table is the image's index.
+/// CALL: opens a call of the version that is named.
 pub fn call(
     image: &[u8],
     table: &[u16; 1152],
@@ -254,7 +232,7 @@ pub fn call(
     }
 }
 
-/// Are all `n` registers there that the instruction at `at` lists, in the frame `k`?
+/// Do all `n` registers that the instruction at `at` lists hold a value that has a kind, in the frame `k`?
 fn known(
     image: &[u8],
     table: &[u16; 1152],
@@ -417,7 +395,7 @@ fn pick(
     Found::Nothing
 }
 
-/// DISPATCH: opens a call of the lowest version that passes. The table is the image's index.
+/// DISPATCH: opens a call of the lowest version that passes.
 pub fn dispatch(
     image: &[u8],
     table: &[u16; 1152],

@@ -200,6 +200,7 @@ captured =
 
 -- ---- the table
 
+-- rows for 11 to 13 of "Questions put to an image" and for "Steps"; the last four for "Mistakes to rule out"
 unfoldable pub further : List Row
 further =
     -- 11 comes before 12 and 13

@@ -25,10 +25,11 @@ pub record Row : Type 0 where
   pub steps : ℕ
   pub after : List ℤ
 
--- its run, and what it says of that
+-- the run of a row
 abbrev pub ran : Row → Ran
 ran r = runOf (r .image) (r .function) (r .version) (r .words) (r .budget) (r .buffer)
 
+-- the run gives what its row says
 abbrev pub Gives : Row → Type 0
 Gives r = (ran r .answer ≡ r .answer) × (ran r .steps ≡ r .steps) × (bufferOf (ran r) (r .buffer) ≡ r .after)
 
@@ -52,28 +53,33 @@ row image f v words n buffer answer steps after = record {
 abbrev pub neg : ℕ → ℤ
 neg n = negℤ (pos n)
 
--- n places from the place i on, and a lent buffer of n places: the place i holds −1000 − i
+-- n places of a lent buffer from the place i on: the place i holds −1000 − i
 abbrev pub lentFrom : ℕ → ℕ → List ℤ
 lentFrom i zero = []
 lentFrom i (suc n) = neg (1000 + i) ∷ lentFrom (i + 1) n
 
+-- a lent buffer of n places
 abbrev pub lent : ℕ → List ℤ
 lent n = lentFrom 0 n
 
--- the answers: refused by the question q at the offset p; DONE with an integer, with a vector of n items; UNDEF; DEEP
+-- an answer: refused by the question q at the offset p
 infix 20 refused_at_
 abbrev pub refused_at_ : ℕ → ℕ → Answer
 refused q at p = Answer.Refused q p
 
+-- DONE with an integer
 abbrev pub integer : ℤ → Answer
 integer z = Answer.Ended (End.Integer z)
 
+-- DONE with a vector of n items
 abbrev pub vector : ℕ → Answer
 vector n = Answer.Ended (End.Vector n)
 
+-- UNDEF
 abbrev pub undef : Answer
 undef = Answer.Ended End.Undef
 
+-- DEEP
 abbrev pub deep : Answer
 deep = Answer.Ended End.Deep
 
@@ -121,6 +127,7 @@ endless =
 
 -- ---- the table
 
+-- Proved cases: a row for each of P1 to P11
 unfoldable pub cases : List Row
 cases =
     -- P1 empty image: 1 at 0

@@ -1,19 +1,18 @@
 -- Cells by their codes: what an operand is where the test of its code holds, and where it fails.
-use mathlib.Core.Path.{_≡_, refl, sym, ap, _∙_}
+use mathlib.Core.Path.{_≡_, refl}
 use mathlib.Core.List.{List}
 use mathlib.Core.Bool.{Bool, true, false, cond, _||_}
 use Prim.Native.Nat.{ℕ, _+_, _-_, _*_, _<_, _≤_}
 use native.Mathlib.Omega.{arith}
-use lib.IntN.{ℤ, pos}
-use lib.ListN.{getD, set}
-use lib.Dec.{eqb, leb, ltb}
-use borrow.Author.Tests.{lt-ltb, le-ltb, le-leb, lt-leb, eq-eqb, ne-eqb, ltb-true, leb-true}
+use lib.ListN.{set}
+use lib.Dec.{leb, ltb}
+use borrow.Author.Tests.{lt-ltb, le-ltb, ltb-true, leb-true}
 use Rattle.layout.proofs.Bools.{and-both, and-on, and-off}
 use Rattle.layout.specs.Records.{_!_}
 use Rattle.layout.specs.Tests.{_and_}
 use Rattle.machine.specs.Try.{Try, got, stuck, stop, _>>=_}
 use Rattle.machine.specs.declared.End.{End}
-use Rattle.cells.specs.Operands.{cellWhere, isInteger, isVector, isPromise, isFull, isPlain, integerIn, vectorIn, promiseIn, written}
+use Rattle.cells.specs.Operands.{cellWhere, isInteger, isVector, isPromise, isFull, isPlain, vectorIn, written}
 
 pub vector-range : (c : ℕ) → isVector c ≡ true → (256 ≤ c) × (c < 512)
 unfolding isVector
@@ -35,6 +34,16 @@ module _ (is : ℕ → Bool) (codes : List ℕ) (k r : ℕ) where
   pub cell-unmet : r < 16 → is (codes ! (24 * k + r)) ≡ false → cellWhere is codes k r ≡ stuck
   unfolding cellWhere
   cell-unmet h p = rw (and-on (is (codes ! (24 * k + r))) (lt-ltb r 16 h), p)
+
+-- the cell of a vector that is there
+pub vector-held : (codes : List ℕ) (k r v : ℕ) → vectorIn codes k r ≡ got v → (r < 16) × (codes ! (24 * k + r) ≡ 256 + v) × (v < 256)
+unfolding vectorIn cellWhere _>>=_ _and_
+vector-held codes k r v = go (ltb r 16) refl (isVector (codes ! (24 * k + r))) refl
+  where
+    go : (b : Bool) → ltb r 16 ≡ b → (t : Bool) → isVector (codes ! (24 * k + r)) ≡ t → (cond (b and t) (got (24 * k + r)) stuck >>= λ i. got (codes ! i - 256)) ≡ got v → (r < 16) × (codes ! (24 * k + r) ≡ 256 + v) × (v < 256)
+    go true p true q e = let g = vector-range (codes ! (24 * k + r)) q in let f : codes ! (24 * k + r) - 256 ≡ v = cc in (ltb-true r 16 p, omega (arith, g .0, g .1), omega (arith, g .0, g .1))
+    go true p false q e = let z : _≡_ {A = ℕ} 0 1 = cc in absurd (omega arith)
+    go false p t q e = let z : _≡_ {A = ℕ} 0 1 = cc in absurd (omega arith)
 
 -- ---- a bind after a cell
 

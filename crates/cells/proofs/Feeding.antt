@@ -1,17 +1,15 @@
 -- Instructions that give a register a value of their own frame, as the machine executes them.
-use mathlib.Core.Path.{_≡_, refl, sym, ap, _∙_}
-use mathlib.Core.List.{List}
+use mathlib.Core.Path.{_≡_, refl, sym, _∙_}
 use mathlib.Core.Bool.{cond}
 use Prim.Native.Nat.{ℕ}
 use lib.IntN.{ℤ}
-use Rattle.program.specs.Program.{Instr, LIT, ARITH, SELECT, NAMED, Program, Version}
+use Rattle.program.specs.Program.{LIT, ARITH, SELECT, NAMED, Program, Version}
 use Rattle.machine.specs.Try.{Try, got, stuck, stop, _>>=_, _>>_}
-use Rattle.machine.specs.States.{assign, integer, name}
+use Rattle.machine.specs.States.{assign}
 use Rattle.machine.specs.Steps.{execute}
 use Rattle.machine.specs.Values as values
-use Rattle.machine.specs.declared.State.{State}
 use Rattle.machine.specs.declared.Value.{Value}
-use Rattle.memory.specs.Memory.{Memory, stateOf, frameIn, valueOf}
+use Rattle.memory.specs.Memory.{Memory, stateOf, valueOf}
 use Rattle.memory.specs.Parts.{endOf, givesOf}
 use Rattle.memory.specs.Works.{executed, Feeds}
 use Rattle.memory.specs.declared.Gives.{Gives}

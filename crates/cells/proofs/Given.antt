@@ -1,21 +1,18 @@
 -- What ARITH and SELECT give, by the answers that their code has in hand.
-use mathlib.Core.Path.{_≡_, refl, sym, ap, _∙_}
+use mathlib.Core.Path.{_≡_, sym, ap, _∙_}
 use mathlib.Core.List.{List}
 use mathlib.Core.Bool.{cond}
 use Prim.Native.Nat.{ℕ}
 use lib.IntN.{ℤ}
-use Rattle.machine.specs.Try.{Try, got, stuck, stop, _>>=_}
+use Rattle.machine.specs.Try.{Try, got, stuck, _>>=_}
 use Rattle.machine.specs.Values.{arith, isZero}
-use Rattle.machine.specs.declared.End.{End}
 use Rattle.machine.specs.declared.Value.{Value}
-use Rattle.integers.specs.Computed.{computedOf}
 use Rattle.integers.specs.declared.Computed.{Computed}
 use Rattle.memory.specs.Parts.{wholeOf, foundOf}
 use Rattle.memory.specs.declared.Whole.{Whole}
 use Rattle.layout.specs.declared.Found.{Found}
 use Rattle.layout.specs.declared.Found.the-variants.{Nothing, At}
 use Rattle.cells.specs.Operands.{integerIn, arithIn, selectIn}
-use Rattle.cells.proofs.Undef.{arith-undef, computed-got, computed-stuck}
 
 -- an answer in hand
 pub whole-is : {r : Whole} {t : Try ℤ} {x : ℤ} → wholeOf r ≡ t → r ≡ Whole.Is x → t ≡ got x

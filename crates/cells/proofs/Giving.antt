@@ -2,13 +2,13 @@
 use mathlib.Core.Path.{_≡_, refl, sym, ap, _∙_}
 use mathlib.Core.List.{List}
 use mathlib.Core.Bool.{true, false}
-use Prim.Native.Nat.{ℕ, _+_, _*_, _<_, _≤_}
+use Prim.Native.Nat.{ℕ, _*_, _<_}
 use lib.IntN.{ℤ}
-use lib.ListN.{length, length-set, set}
+use lib.ListN.{length, length-set}
 use lib.Dec.{ltb}
 use borrow.Author.Tests.{ltb-true, ltb-false}
-use Rattle.machine.specs.Try.{got, stuck, stop, _>>=_}
-use Rattle.memory.specs.Memory.{Long, Memory, stateOf, valueOf}
+use Rattle.machine.specs.Try.{_>>=_}
+use Rattle.memory.specs.Memory.{Long, Memory, valueOf}
 use Rattle.memory.specs.Parts.{Does, endOf, givesOf, withCells}
 use Rattle.memory.specs.declared.Did.{Did}
 use Rattle.memory.specs.declared.Gives.{Gives}

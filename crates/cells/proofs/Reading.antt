@@ -1,18 +1,17 @@
 -- Operands: what the machine reads of a frame is what the codes of its cells say.
-use mathlib.Core.Path.{_≡_, refl, sym, ap, _∙_}
+use mathlib.Core.Path.{_≡_, refl}
 use mathlib.Core.List.{List}
-use mathlib.Core.Bool.{Bool, true, false, cond, not, _||_}
+use mathlib.Core.Bool.{Bool, true, false, cond}
 use Prim.Native.Nat.{ℕ, _+_, _-_, _*_, _<_, _≤_}
 use native.Mathlib.Omega.{arith}
 use lib.IntN.{ℤ, pos}
 use lib.ListN.{getD}
-use lib.Dec.{eqb, leb, ltb}
+use lib.Dec.{eqb, ltb}
 use borrow.Author.Tests.{eqb-true, ltb-true, ltb-false, lt-leb, le-leb, lt-ltb, le-ltb}
 use Rattle.layout.specs.Records.{_!_}
 use Rattle.layout.specs.Tests.{_and_}
-use Rattle.machine.specs.Try.{Try, got, stuck, stop, _>>=_}
-use Rattle.machine.specs.States.{aVector, aPromise, anInteger, full, integer, isSet, name, named, noPromise, plain, promise, register, value, vector}
-use Rattle.machine.specs.declared.End.{End}
+use Rattle.machine.specs.Try.{Try, got, stuck, _>>=_}
+use Rattle.machine.specs.States.{aVector, aPromise, anInteger, full, integer, isSet, name, noPromise, plain, promise, register, value, vector}
 use Rattle.machine.specs.declared.Value.{Value}
 use Rattle.memory.specs.Memory.{cellIn, frameIn, valueOf}
 use Rattle.memory.specs.Parts.{nameIn, registerIn}

@@ -4,7 +4,7 @@ ghost use mathlib.Core.Path.{_≡_};
 ghost use Prim.Native.Nat.{_+_, _*_, _<_};
 ghost use lib.Dec.{ltb};
 ghost use Rattle.memory.specs.Parts.{wholeOf, foundOf, givesOf};
-ghost use Rattle.cells.specs.Operands.{isInteger, isVector, isPromise, isFull, isPlain, cellWhere, integerIn, vectorIn, promiseIn, namedIn, arithIn, selectIn, written};
+ghost use Rattle.cells.specs.Operands.{isVector, isPromise, isFull, isPlain, cellWhere, integerIn, vectorIn, promiseIn, namedIn, arithIn, selectIn, written};
 ghost use Rattle.cells.specs.Changes.{Gave};
 use integers::Computed;
 use layout::Found;

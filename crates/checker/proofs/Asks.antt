@@ -1,6 +1,6 @@
 -- The verdict, question by question, and the versions that it counts.
 use mathlib.Core.Path.{_≡_, refl}
-use mathlib.Core.List.{List, [], _∷_}
+use mathlib.Core.List.{List}
 use mathlib.Core.Bool.{Bool, true, false, cond}
 use Prim.Native.Nat.{ℕ, _+_, _≤_}
 use native.Mathlib.Omega.{arith}
@@ -15,7 +15,7 @@ use Rattle.layout.specs.Kinds as kind
 use Rattle.layout.specs.declared.Found.{Found}
 use Rattle.layout.specs.declared.Found.the-variants.{Nothing, At}
 use Rattle.program.specs.Program.{nowhere}
-use Rattle.program.specs.Places.{viewAt, versionAt}
+use Rattle.program.specs.Places.{viewAt}
 use Rattle.program.proofs.Views.{Whole, at-version, at-block, at-line}
 use Rattle.checker.specs.Verdicts.{ask, verdictOf}
 use Rattle.checker.specs.declared.Verdict.{Verdict}

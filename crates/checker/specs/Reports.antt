@@ -24,10 +24,11 @@ use Rattle.checker.specs.declared.Reported.the-variants.{Written, Short}
 unfoldable pub counts : Program → Version → List ℕ
 counts P v = Option·elim (bodyAction P v) [] (λ a. size (a .R) ∷ size (a .W) ∷ size (a .U) ∷ size (a .C) ∷ [])
 
--- f.v and counts, as a line
+-- counts, each behind a space
 unfoldable pub spaced : List ℕ → List ℕ
 spaced ns = flatMap (λ n. text " " ++ decimal n) ns
 
+-- `f.v` and counts, as a line
 unfoldable pub lineText : ℕ → ℕ → List ℕ → List ℕ
 lineText f w ns = decimal f ++ text "." ++ decimal w ++ spaced ns ++ text "\n"
 
@@ -35,6 +36,7 @@ lineText f w ns = decimal f ++ text "." ++ decimal w ++ spaced ns ++ text "\n"
 unfoldable pub versionLine : Program → Version → List ℕ
 versionLine P v = lineText (v .function) (v .version) (counts P v)
 
+-- the lines of the versions vs of P, in order
 abbrev pub versionLines : Program → Program → List ℕ
 versionLines P vs = flatMap (versionLine P) vs
 
@@ -47,6 +49,7 @@ unfoldable pub answer : Program → Verdict → List ℕ
 answer P (Accepted n) = versionLines P P ++ text "accepted " ++ decimal n ++ text "\n"
 answer P (Refused n p) = refusal n p
 
+-- Program: what `check` prints of an image
 unfoldable pub reportText : List ℕ → List ℕ
 reportText s = answer (program (records s)) (verdictOf s)
 
@@ -59,10 +62,11 @@ pub record Told (r : Reported) (before after t : List ℕ) : Type 0 where
   pub says : r ≡ reportedOf t (length before)
   pub writes : after ≡ placed before 0 t
 
--- a line as the code has it
+-- the counts of a line as the code has it; none where they are not known
 unfoldable pub countsOf : Counts → List ℕ
 countsOf (Of r w u c) = r ∷ w ∷ u ∷ c ∷ []
 countsOf Unknown = []
 
+-- a line as the code has it, as text
 unfoldable pub lineOf : Line → List ℕ
 lineOf l = lineText (l .function) (l .version) (countsOf (l .counts))

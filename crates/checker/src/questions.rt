@@ -1,6 +1,5 @@
 //! The ten questions in order.
 ghost use mathlib.Core.Path.{_≡_};
-ghost use Prim.Native.Nat.{_≤_};
 ghost use lib.ListN.{length};
 ghost use Rattle.layout.specs.Records.{records};
 ghost use Rattle.program.specs.Program.{program};

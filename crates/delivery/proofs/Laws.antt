@@ -15,7 +15,6 @@ use Rattle.machine.specs.Runs.{written}
 use Rattle.machine.specs.declared.Answer.{Answer}
 use Rattle.machine.specs.declared.End.{End}
 use Rattle.machine.specs.declared.State.{State}
-use Rattle.delivery.specs.Delivered.{delivered}
 
 -- no items
 pub over-none : {A : Type 0} (ys : List A) → ys ≡ over [] ys
@@ -48,18 +47,10 @@ module _ (xs ys buffer : List ℤ) (j : ℕ) (there : buffer ≡ over (take j xs
 -- ---- by the answer
 
 -- an answer without items leaves the buffer
-pub silent : (xs ys : List ℤ) {a b : Answer} → a ≡ b → delivered b xs ≡ [] → ys ≡ over (delivered a xs) ys
+pub silent : (xs ys : List ℤ) {a b : Answer} → a ≡ b → written xs b ≡ [] → ys ≡ over (written xs a) ys
 silent xs ys e n = rw (e, n) (over-none ys)
 
 -- an end with a vector writes its items
-pub vector-delivered : (xs ys : List ℤ) {zs : List ℤ} {a : Answer} {e : End} {n : ℕ} → a ≡ Answer.Ended e → e ≡ End.Vector n → zs ≡ over (take n xs) ys → zs ≡ over (delivered a xs) ys
-unfolding delivered
+pub vector-delivered : (xs ys : List ℤ) {zs : List ℤ} {a : Answer} {e : End} {n : ℕ} → a ≡ Answer.Ended e → e ≡ End.Vector n → zs ≡ over (take n xs) ys → zs ≡ over (written xs a) ys
+unfolding written
 vector-delivered xs ys p q h = rw (p, q) h
-
--- THE LAW: what is delivered is what a budget writes
-pub written-delivered : (s : State) (a : Answer) → written s a ≡ delivered a (s .result)
-unfolding written delivered
-written-delivered s (Answer.Refused q p) = refl
-written-delivered s Answer.Steps = refl
-written-delivered s (Answer.Ended e) = refl
-written-delivered s Answer.Stuck = refl

@@ -1,15 +1,13 @@
 //! What a budget's answer leaves in the lent buffer.
-//! Its functions serve the loop of the engine; what they require, the loop keeps.
+//! `engine` and `abi` call `deliver` behind question 13, which asks for the places that it requires.
 ghost use mathlib.Core.Path.{_≡_};
 ghost use Prim.Native.Nat.{_≤_};
 ghost use lib.ListN.{length, take};
 ghost use Rattle.machine.specs.States.{over};
-ghost use Rattle.delivery.specs.Delivered.{delivered};
+ghost use Rattle.machine.specs.Runs.{written};
 use machine::Answer;
 use machine::End;
-
-/// The most items of a vector.
-const ITEMS: usize = 16;
+use machine::Vector;
 
 /// Writes the first `n` items, all where there are fewer, from the place 0 on; all else stays.
 fn put_items(buffer: &mut [i32], result: [i32; 16], n: usize)
@@ -17,7 +15,7 @@ fn put_items(buffer: &mut [i32], result: [i32; 16], n: usize)
     ensures { λ _. ⌜ now (buffer .exit) ≡ over (take n result) (now (buffer .entry)) ⌝ }
 {
     let mut j: usize = 0;
-    while j < ITEMS {
+    while j < Vector::ITEMS {
         if n <= j {
             return;
         }
@@ -29,7 +27,7 @@ fn put_items(buffer: &mut [i32], result: [i32; 16], n: usize)
 /// Writes what an answer gives into the lent buffer from the place 0 on: the items of a vector result; all else stays.
 pub fn deliver(buffer: &mut [i32], result: [i32; 16], answer: Answer)
     requires { ⌜ 16 ≤ length (now buffer) ⌝ }
-    ensures { λ _. ⌜ now (buffer .exit) ≡ over (delivered answer result) (now (buffer .entry)) ⌝ }
+    ensures { λ _. ⌜ now (buffer .exit) ≡ over (written result answer) (now (buffer .entry)) ⌝ }
 {
     match answer {
         Answer::Refused(_, _) => {}

@@ -11,9 +11,8 @@ use borrow.Author.Tests.{lt-ltb, le-ltb, ltb-true, ltb-false}
 use Rattle.layout.specs.Records.{_!_}
 use Rattle.machine.specs.Calls.{back}
 use Rattle.machine.specs.States.{assign, withStack}
-use Rattle.machine.specs.Try.{got, stuck, _>>=_, _>>_, at, stuckUnless}
-use Rattle.machine.specs.declared.Activation.{Activation}
-use Rattle.memory.specs.Memory.{Long, Memory, activationIn, framesOf, stateOf, valueOf}
+use Rattle.machine.specs.Try.{_>>=_, _>>_, stuckUnless}
+use Rattle.memory.specs.Memory.{Memory, activationIn, framesOf, stateOf, valueOf}
 use Rattle.memory.specs.Parts.{withCells, withOpen}
 use Rattle.memory.proofs.Frames.{assign-dead, assign-in, assign-outside, assign-past}
 use Rattle.memory.proofs.Stack.{activation-stored}

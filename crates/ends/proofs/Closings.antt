@@ -1,29 +1,27 @@
 -- The end of a block, by its result and its opener.
-use mathlib.Core.Path.{_≡_, refl, sym, ap, _∙_}
+use mathlib.Core.Path.{_≡_, refl, _∙_}
 use mathlib.Core.List.{List}
 use mathlib.Core.Bool.{Bool, true, false, cond}
-use Prim.Native.Nat.{ℕ, _+_, _-_, _*_, _<_, _≤_}
+use Prim.Native.Nat.{ℕ, _+_, _-_, _*_, _<_}
 use native.Mathlib.Omega.{arith}
 use lib.IntN.{ℤ}
-use lib.Dec.{eqb, ltb}
-use borrow.Author.Tests.{eq-eqb, ne-eqb, ltb-true}
+use lib.Dec.{ltb}
+use borrow.Author.Tests.{ne-eqb, ltb-true}
 use Rattle.layout.proofs.Bools.{and-both}
 use Rattle.layout.specs.Records.{_!_, bodyAt}
 use Rattle.layout.specs.Tests.{_and_}
 use Rattle.program.specs.Places.{blockAt, versionAt}
 use Rattle.machine.specs.Begin.{programOf}
 use Rattle.machine.specs.Calls.{finish}
-use Rattle.machine.specs.States.{value}
 use Rattle.machine.specs.Try.{Try, got, stuck, _>>=_}
-use Rattle.machine.specs.declared.Opener.{Opener}
-use Rattle.memory.specs.Memory.{Long, Memory, activationIn, cellIn, frameIn, memoryOf, openerOf, stateOf}
+use Rattle.memory.specs.Memory.{Memory, activationIn, cellIn, memoryOf, openerOf, stateOf}
 use Rattle.memory.specs.Parts.{withCells, withOpen, withPromises}
 use Rattle.cells.specs.Operands.{cellWhere, isFull, valueIn}
 use Rattle.cells.proofs.Codes.{bound-got, bound-stuck}
 use Rattle.cells.proofs.Feeding.{bind-bind, bind-got, bind-same}
 use Rattle.cells.proofs.Reading.{value-in}
 use Rattle.places.specs.declared.Spot.{Spot}
-use Rattle.ends.specs.Closing.{CallEnds, Closes, Ends, ForceEnds, Forced, endOf, laid, spread}
+use Rattle.ends.specs.Closing.{CallEnds, Closes, Ends, ForceEnds, ForceEnded, blockEnded, laid, spread}
 use Rattle.ends.specs.declared.Closed.{Closed}
 
 -- a cell that was found is one of its frame
@@ -45,8 +43,8 @@ module _ (s owners codes : List ℕ) (numbers : List ℤ) (stack lengths : List 
   the : List ℤ → Memory
   the R = memoryOf owners codes numbers stack lengths items promises caches R (p .calls) (p .depth)
 
-  read : (R : List ℤ) → endOf s (the R) p ≡ (cellWhere isFull codes (p .frame) r >>= λ i. finish (programOf s) (stateOf (the R)) (activationIn stack (p .depth - 1)) (versionAt s (p .version)) (cellIn codes numbers i) (openerOf (stack ! (6 * (p .depth - 1))) (stack ! (6 * (p .depth - 1) + 1))))
-  unfolding endOf the memoryOf blockAt activationIn valueIn
+  read : (R : List ℤ) → blockEnded s (the R) p ≡ (cellWhere isFull codes (p .frame) r >>= λ i. finish (programOf s) (stateOf (the R)) (activationIn stack (p .depth - 1)) (versionAt s (p .version)) (cellIn codes numbers i) (openerOf (stack ! (6 * (p .depth - 1))) (stack ! (6 * (p .depth - 1) + 1))))
+  unfolding blockEnded the memoryOf blockAt activationIn valueIn
   read R = rw (← result, value-in owners codes numbers (p .frame) r) (bind-bind (cellWhere isFull codes (p .frame) r) (λ i. got (cellIn codes numbers i)) _ ∙ bind-same (cellWhere isFull codes (p .frame) r) _ _ (λ i. bind-got (cellIn codes numbers i) _))
 
   pub close-empty : cellWhere isFull codes (p .frame) r ≡ stuck → Closes s Closed.Stuck (memoryOf owners codes numbers stack lengths items promises caches) (memoryOf owners codes numbers stack lengths items promises caches) p
@@ -61,14 +59,14 @@ module _ (s owners codes : List ℕ) (numbers : List ℤ) (stack lengths : List 
 
     pub close-force : (codes′ : List ℕ) (numbers′ : List ℤ) (promises′ : List ℕ) (caches′ : List ℤ) → (stack ! (6 * (p .depth - 1)) ≡ 0 → ⊥) → ForceEnds true codes codes′ numbers numbers′ promises promises′ caches caches′ stack (p .calls) (p .depth) i
         → Closes s (Closed.Back (p .calls)) (memoryOf owners codes numbers stack lengths items promises caches) (memoryOf owners codes′ numbers′ stack lengths items promises′ caches′) p
-    unfolding Closes Ends ForceEnds Forced laid withPromises withOpen withCells the memoryOf openerOf
+    unfolding Closes Ends ForceEnds ForceEnded laid withPromises withOpen withCells the memoryOf openerOf
     close-force codes′ numbers′ promises′ caches′ n ends = λ R long framed.
         let w = ends (the R) (programOf s) (versionAt s (p .version)) long in
         (read R ∙ bound-got _ found ∙ rw (ne-eqb (stack ! (6 * (p .depth - 1))) 0 n) (w .0), w .1)
 
     pub close-unforced : (codes′ : List ℕ) (numbers′ : List ℤ) (promises′ : List ℕ) (caches′ : List ℤ) → (stack ! (6 * (p .depth - 1)) ≡ 0 → ⊥) → ForceEnds false codes codes′ numbers numbers′ promises promises′ caches caches′ stack (p .calls) (p .depth) i
         → Closes s Closed.Stuck (memoryOf owners codes numbers stack lengths items promises caches) (memoryOf owners codes′ numbers′ stack lengths items promises′ caches′) p
-    unfolding Closes Ends ForceEnds Forced laid withPromises withOpen withCells the memoryOf openerOf
+    unfolding Closes Ends ForceEnds ForceEnded laid withPromises withOpen withCells the memoryOf openerOf
     close-unforced codes′ numbers′ promises′ caches′ n ends = λ R long framed.
         let w = ends (the R) (programOf s) (versionAt s (p .version)) long in
         (read R ∙ bound-got _ found ∙ rw (ne-eqb (stack ! (6 * (p .depth - 1))) 0 n) (w .0), rw (w .1, w .2, w .3, w .4))

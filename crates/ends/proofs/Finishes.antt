@@ -17,12 +17,11 @@ use Rattle.rules.specs.Types.{kindOf, within}
 use Rattle.machine.specs.Begin.{programOf}
 use Rattle.machine.specs.Calls.{back, done, finish}
 use Rattle.machine.specs.States.{kindIn}
-use Rattle.machine.specs.Try.{Try, got, stuck, _>>=_, _>>_, stuckUnless}
+use Rattle.machine.specs.Try.{got, stuck, _>>=_, _>>_, stuckUnless}
 use Rattle.machine.specs.declared.Activation.{Activation}
 use Rattle.machine.specs.declared.Opener.{Opener}
-use Rattle.machine.specs.declared.State.{State}
 use Rattle.machine.specs.declared.Value.{Value}
-use Rattle.memory.specs.Memory.{Long, Memory, activationIn, cellIn, stateOf, valueOf}
+use Rattle.memory.specs.Memory.{Memory, activationIn, cellIn, stateOf, valueOf}
 use Rattle.memory.specs.Parts.{kindTry, withCells, withOpen, withPromises}
 use Rattle.memory.proofs.Heap.{vector-outside}
 use Rattle.kinds.specs.Kinds.{Kinded, withHeap}

@@ -1,19 +1,18 @@
 -- The end of a force.
-use mathlib.Core.Path.{_≡_, refl, sym, ap, _∙_}
+use mathlib.Core.Path.{_≡_, refl, ap, _∙_}
 use mathlib.Core.List.{List}
-use mathlib.Core.Bool.{Bool, true, false, cond}
+use mathlib.Core.Bool.{true, false}
 use Prim.Native.Nat.{ℕ, _+_, _-_, _*_, _<_, _≤_}
 use native.Mathlib.Omega.{arith}
 use lib.IntN.{ℤ, pos}
 use lib.ListN.{getD, length, length-set, set}
 use lib.Seq.{getD-set-same, getD-set-other}
-use lib.Dec.{eqb}
-use borrow.Author.Tests.{eq-eqb, ne-eqb}
+use borrow.Author.Tests.{ne-eqb}
 use Rattle.layout.specs.Records.{_!_}
 use Rattle.program.specs.Program.{Program, Version}
 use Rattle.machine.specs.Calls.{back, finish}
 use Rattle.machine.specs.States.{anInteger, withPromise}
-use Rattle.machine.specs.Try.{Try, got, stuck, _>>=_, _>>_, at}
+use Rattle.machine.specs.Try.{_>>=_, _>>_, at}
 use Rattle.machine.specs.declared.Cache.{Cache}
 use Rattle.machine.specs.declared.Opener.{Opener}
 use Rattle.machine.specs.declared.Promise.{Promise}
@@ -24,7 +23,7 @@ use Rattle.memory.proofs.Heap.{new-promise, promise-at, promise-outside}
 use Rattle.cells.specs.Operands.{isInteger}
 use Rattle.cells.proofs.Codes.{bound-got, bound-stuck}
 use Rattle.cells.proofs.Reading.{integer-code}
-use Rattle.ends.specs.Closing.{Backs, ForceEnds, Forced, Went, laid}
+use Rattle.ends.specs.Closing.{Backs, ForceEnds, ForceEnded, Went, laid}
 
 -- the promise p with its integer cached
 module _ (promises : List ℕ) (caches : List ℤ) (p : ℕ) (z : ℤ) (long : length promises ≡ 192) (longer : length caches ≡ 64) (h : p < 64) where
@@ -50,7 +49,7 @@ module _ (promises : List ℕ) (caches : List ℤ) (p : ℕ) (z : ℤ) (long : l
 module _ (codes : List ℕ) (numbers : List ℤ) (promises : List ℕ) (caches : List ℤ) (stack : List ℕ) (calls depth i : ℕ) where
   -- its result is no integer
   pub force-no : (codes ! i ≡ 1 → ⊥) → ForceEnds false codes codes numbers numbers promises promises caches caches stack calls depth i
-  unfolding ForceEnds Forced finish cellIn isInteger _>>=_
+  unfolding ForceEnds ForceEnded finish cellIn isInteger _>>=_
   force-no n = λ M P W long. (rw (integer-code (codes ! i) (getD numbers i (pos 0)), ne-eqb (codes ! i) 1 n), refl, refl, refl, refl)
 
   module _ (one : codes ! i ≡ 1) where
@@ -62,7 +61,7 @@ module _ (codes : List ℕ) (numbers : List ℤ) (promises : List ℕ) (caches :
     goes M P W = rw one
 
     pub force-far : 64 ≤ stack ! (6 * (depth - 1) + 1) → ForceEnds false codes codes numbers numbers promises promises caches caches stack calls depth i
-    unfolding ForceEnds Forced
+    unfolding ForceEnds ForceEnded
     force-far far = λ M P W long.
         let M₁ = withPromises (laid M codes numbers calls stack depth) promises caches in
         (goes M₁ P W ∙ bound-stuck _ (promise-outside M₁ _ far), refl, refl, refl, refl)
@@ -97,7 +96,7 @@ module _ (codes : List ℕ) (numbers : List ℤ) (promises : List ℕ) (caches :
 
       pub force-stuck : (codes′ : List ℕ) (numbers′ : List ℤ) → Backs false codes codes′ numbers numbers′ stack calls depth (stack ! (6 * (depth - 1) + 2)) 1 z
           → ForceEnds false codes codes′ numbers numbers′ promises promises caches caches stack calls depth i
-      unfolding ForceEnds Forced Backs Went kept laid withPromises withOpen withCells
+      unfolding ForceEnds ForceEnded Backs Went kept laid withPromises withOpen withCells
       force-stuck codes′ numbers′ b = λ M P W long.
           let w = b (withOpen (kept M) (M .owners) calls stack depth) (longer M long) shallow in
           (goes-back M P W long ∙ w .0, w .1, w .2, refl, refl)
@@ -105,7 +104,7 @@ module _ (codes : List ℕ) (numbers : List ℤ) (promises : List ℕ) (caches :
       pub force-back : (codes′ : List ℕ) (numbers′ : List ℤ) {promises′ : List ℕ} {caches′ : List ℤ} → Backs true codes codes′ numbers numbers′ stack calls depth (stack ! (6 * (depth - 1) + 2)) 1 z
           → promises′ ≡ set promises (3 * p + 2) 1 → caches′ ≡ set caches p z
           → ForceEnds true codes codes′ numbers numbers′ promises promises′ caches caches′ stack calls depth i
-      unfolding ForceEnds Forced Backs Went kept laid withPromises withOpen withCells
+      unfolding ForceEnds ForceEnded Backs Went kept laid withPromises withOpen withCells
       force-back codes′ numbers′ b e f = λ M P W long.
           let w = b (withOpen (kept M) (M .owners) calls stack depth) (longer M long) shallow in
           (goes-back M P W long ∙ rw (e, f) (w .0), rw (e, f) (w .1))

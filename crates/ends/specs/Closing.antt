@@ -23,11 +23,12 @@ use Rattle.ends.specs.declared.Closed.{Closed}
 unfoldable pub laid : Memory → List ℕ → List ℤ → ℕ → List ℕ → ℕ → Memory
 laid M codes numbers calls stack depth = withOpen (withCells M codes numbers) (M .owners) calls stack depth
 
--- a value has gone back to the frame of the activation below, n calls are left; or nothing is done, and the step is stuck
+-- a value has gone back, N is the memory after it; or nothing is done, and the step is stuck
 unfoldable pub Went : Bool → List ℕ → List ℕ → List ℤ → List ℤ → Memory → Try State → Type 0
 Went true codes codes′ numbers numbers′ N t = (t ≡ got (stateOf N)) × Long N
 Went false codes codes′ numbers numbers′ N t = (t ≡ stuck) × (codes′ ≡ codes) × (numbers′ ≡ numbers)
 
+-- the cell of the code c and the integer z goes back to the register d of the frame of the activation below; n calls are left
 unfoldable pub Backs : Bool → List ℕ → List ℕ → List ℤ → List ℤ → List ℕ → ℕ → ℕ → ℕ → ℕ → ℤ → Type 0
 Backs r codes codes′ numbers numbers′ stack n depth d c z =
     (M : Memory) → Long (laid M codes numbers (M .calls) stack depth) → depth ≤ 32
@@ -40,17 +41,18 @@ Ends (Closed.Integer z) M N t = (t ≡ done (stateOf M) (Value.Integer z)) × (N
 Ends (Closed.Vector v) M N t = (t ≡ done (stateOf M) (Value.Vector v)) × (v < 64) × (N (M .calls) (M .depth) ≡ M)
 Ends Closed.Stuck M N t = (t ≡ stuck) × (N (M .calls) (M .depth) ≡ M)
 
--- a force's end, whose result is the cell i
-unfoldable pub Forced : Bool → Memory → Memory → List ℕ → List ℕ → List ℤ → List ℤ → List ℕ → List ℕ → List ℤ → List ℤ → Try State → Type 0
-Forced true M N codes codes′ numbers numbers′ promises promises′ caches caches′ t = (t ≡ got (stateOf N)) × Long N
-Forced false M N codes codes′ numbers numbers′ promises promises′ caches caches′ t = (t ≡ stuck) × (codes′ ≡ codes) × (numbers′ ≡ numbers) × (promises′ ≡ promises) × (caches′ ≡ caches)
+-- a force's end, N is the memory after it; or nothing is done, and the step is stuck
+unfoldable pub ForceEnded : Bool → Memory → List ℕ → List ℕ → List ℤ → List ℤ → List ℕ → List ℕ → List ℤ → List ℤ → Try State → Type 0
+ForceEnded true N codes codes′ numbers numbers′ promises promises′ caches caches′ t = (t ≡ got (stateOf N)) × Long N
+ForceEnded false N codes codes′ numbers numbers′ promises promises′ caches caches′ t = (t ≡ stuck) × (codes′ ≡ codes) × (numbers′ ≡ numbers) × (promises′ ≡ promises) × (caches′ ≡ caches)
 
+-- a force's end, whose result is the cell i
 unfoldable pub ForceEnds : Bool → List ℕ → List ℕ → List ℤ → List ℤ → List ℕ → List ℕ → List ℤ → List ℤ → List ℕ → ℕ → ℕ → ℕ → Type 0
 ForceEnds r codes codes′ numbers numbers′ promises promises′ caches caches′ stack calls depth i =
     (M : Memory) (P : Program) (W : Version) →
     let M₁ = withPromises (laid M codes numbers calls stack depth) promises caches in
     let M₂ = withPromises (laid M codes′ numbers′ calls stack (depth - 1)) promises′ caches′ in
-    Long M₁ → Forced r M₁ M₂ codes codes′ numbers numbers′ promises promises′ caches caches′
+    Long M₁ → ForceEnded r M₂ codes codes′ numbers numbers′ promises promises′ caches caches′
     (finish P (stateOf M₁) (activationIn stack (depth - 1)) W (cellIn codes numbers i) (Opener.Force (stack ! (6 * (depth - 1) + 1))))
 
 -- the end of the lowest activation with a cell's value
@@ -81,10 +83,12 @@ Fewer Closed.Stuck = Unit {0}
 
 -- ---- the end of the block that a run stands at
 
-unfoldable pub endOf : List ℕ → Memory → Spot → Try State
-endOf s M p = do
+-- what the end of the block that a run stands at comes to
+unfoldable pub blockEnded : List ℕ → Memory → Spot → Try State
+blockEnded s M p = do
   v ← value (frameIn (M .owners) (M .codes) (M .numbers) (p .frame)) (blockAt s (p .block) .result)
   finish (programOf s) (stateOf M) (activationIn (M .stack) (M .depth - 1)) (versionAt s (p .version)) v (activationIn (M .stack) (M .depth - 1) .opener)
 
+-- the block at the spot p ends as r says; M is the memory before its end, N after, whatever their result
 unfoldable pub Closes : List ℕ → Closed → (List ℤ → ℕ → ℕ → Memory) → (List ℤ → ℕ → ℕ → Memory) → Spot → Type 0
-Closes s r M N p = (R : List ℤ) → Long (M R (p .calls) (p .depth)) → p .frame ≡ M R (p .calls) (p .depth) .stack ! (6 * (p .depth - 1) + 3) → Ends r (M R (p .calls) (p .depth)) (N R) (endOf s (M R (p .calls) (p .depth)) p)
+Closes s r M N p = (R : List ℤ) → Long (M R (p .calls) (p .depth)) → p .frame ≡ M R (p .calls) (p .depth) .stack ! (6 * (p .depth - 1) + 3) → Ends r (M R (p .calls) (p .depth)) (N R) (blockEnded s (M R (p .calls) (p .depth)) p)

@@ -1,6 +1,6 @@
 //! Block ends: how activations of calls and forces end.
 //! Its functions serve the loop of the engine; what they require, the loop keeps.
-ghost use mathlib.Core.Path.{_≡_};
+//! `table` is the image's index.
 ghost use Prim.Native.Nat.{_<_, _≤_};
 ghost use Rattle.index.specs.Indexed.{Indexed};
 ghost use Rattle.memory.specs.Memory.{memoryOf};
@@ -15,13 +15,6 @@ pub enum Closed {
     Integer(i32),
     Vector(usize),
     Stuck,
-}
-
-/// A byte as a number.
-fn wide(x: u8) -> usize
-    ensures { λ r. ⌜ (r ≡ x) × (r < 256) ⌝ }
-{
-    x as usize
 }
 
 /// Gives a cell to the register `d` of the frame of the activation below; `calls` are left. Says whether it could.
@@ -41,7 +34,7 @@ fn back(
     if depth < 2 {
         return false;
     }
-    let k = wide(stack[6 * (depth - 2) + 3]);
+    let k = layout::wide(stack[6 * (depth - 2) + 3]);
     if calls <= k {
         return false;
     }
@@ -69,7 +62,7 @@ fn end_force(
         return false;
     }
     let z = numbers[i];
-    let p = wide(stack[6 * (depth - 1) + 1]);
+    let p = layout::wide(stack[6 * (depth - 1) + 1]);
     if 64 <= p {
         return false;
     }

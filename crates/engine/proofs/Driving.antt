@@ -1,7 +1,7 @@
 -- The single step, the budget and the run from the start, by their parts.
-use mathlib.Core.Path.{_≡_, refl, sym, ap, _∙_}
+use mathlib.Core.Path.{_≡_, refl, sym}
 use mathlib.Core.List.{List}
-use Prim.Native.Nat.{ℕ, zero, suc, _<_, _≤_}
+use Prim.Native.Nat.{ℕ, _<_, _≤_}
 use lib.IntN.{ℤ}
 use lib.ListN.{length}
 use borrow.Author.Tests.{le-leb, lt-leb}
@@ -18,8 +18,6 @@ use Rattle.machine.specs.declared.Said.{Said}
 use Rattle.machine.specs.declared.State.{State}
 use Rattle.machine.specs.declared.Status.{Status}
 use Rattle.machine.specs.declared.Stepped.{Stepped}
-use Rattle.delivery.specs.Delivered.{delivered}
-use Rattle.delivery.proofs.Laws.{written-delivered}
 use Rattle.engine.specs.Parts.{saidOf}
 
 -- ---- a budget, by the run's status
@@ -64,9 +62,9 @@ pub leaves : (s : State) (q p n : ℕ) (buffer : List ℤ) → buffer ≡ buffer
 unfolding bufferOf written over
 leaves s q p n buffer = refl
 
-pub delivers : (r : Ran) (buffer : List ℤ) {last : List ℤ} → last ≡ over (delivered (r .answer) (r .state .result)) buffer → last ≡ bufferOf r buffer
+pub delivers : (r : Ran) (buffer : List ℤ) {last : List ℤ} → last ≡ over (written (r .state .result) (r .answer)) buffer → last ≡ bufferOf r buffer
 unfolding bufferOf
-delivers r buffer e = rw (written-delivered (r .state) (r .answer)) e
+delivers r buffer e = e
 
 -- ---- from the start
 

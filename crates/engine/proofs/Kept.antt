@@ -1,6 +1,6 @@
--- Demand 3 holds of the engine: its single step is `stepOf`, its budget `budgetOf` and `bufferOf`, its beginning `beginOf`.
+-- Demand 3 speaks of `beginOf`, `stepOf`, `budgetOf` and `bufferOf`, which the functions of this crate equal. It stands here so that no engine is proved without it.
+use Rattle.soundness.specs.Claim.{Demand3}
 use Rattle.soundness.proofs.Safety.{demand3}
-use Rattle.engine.specs.Promise.{Promised}
 
-pub kept : Promised
+pub kept : Demand3
 kept = demand3

@@ -1,20 +1,20 @@
 -- A run that goes on: the arrays that its state is loaded into, and the state that they are read back to.
-use mathlib.Core.Path.{_≡_, refl, sym, ap, _∙_}
-use mathlib.Core.List.{List, []}
+use mathlib.Core.Path.{_≡_, sym, ap, _∙_}
+use mathlib.Core.List.{List}
 use mathlib.Core.Bool.{cond}
 use Prim.Native.Nat.{ℕ, _<_}
 use lib.IntN.{ℤ}
 use lib.ListN.{length}
 use lib.Dec.{ltb}
 use Rattle.machine.specs.Calls.{closed}
-use Rattle.machine.specs.States.{itemsOf, withEnd, withStack}
+use Rattle.machine.specs.States.{withEnd, withStack}
 use Rattle.machine.specs.declared.Answer.{Answer}
 use Rattle.machine.specs.declared.End.{End}
 use Rattle.machine.specs.declared.Ran.{Ran}
 use Rattle.machine.specs.declared.State.{State}
 use Rattle.machine.specs.declared.Vector.{Vector}
 use Rattle.memory.specs.Lists.{upTo}
-use Rattle.memory.specs.Memory.{Long, Memory, activationIn, frameIn, framesOf, memoryOf, promiseIn, stateOf, vectorIn}
+use Rattle.memory.specs.Memory.{Memory, activationIn, frameIn, framesOf, memoryOf, promiseIn, stateOf, vectorIn}
 use Rattle.memory.specs.Parts.{endOf}
 use Rattle.memory.specs.declared.Halt.{Halt}
 use Rattle.memory.proofs.Heap.{items-count}

@@ -27,10 +27,11 @@ stateWith M x = record {
   status = x;
 }
 
--- a run that goes on or is stuck, and one that has ended
+-- a run that goes on or is stuck
 unfoldable pub goingWith : ℕ → ℕ → List ℤ → Answer → Outcome
 goingWith calls depth xs a = record { calls = calls; depth = depth; result = xs; status = Status.Running; answer = a }
 
+-- a run that has ended
 unfoldable pub endedWith : ℕ → ℕ → List ℤ → End → Outcome
 endedWith calls depth xs e = record { calls = calls; depth = depth; result = xs; status = Status.Ended e; answer = Answer.Ended e }
 

@@ -1,7 +1,6 @@
 //! The engine: begins a run, takes a single step, goes on under a budget, or runs from the start.
 ghost use mathlib.Core.Path.{_≡_};
-ghost use Prim.Native.Nat.{_<_, _≤_};
-ghost use lib.ListN.{length};
+ghost use Prim.Native.Nat.{_<_};
 ghost use Rattle.machine.specs.Begin.{beginOf, programOf, runOf};
 ghost use Rattle.machine.specs.Runs.{budgetIn, budgetOf, bufferOf, runFrom, stepOf};
 ghost use Rattle.machine.specs.declared.Status.{Status};
@@ -10,6 +9,10 @@ ghost use Rattle.stepping.specs.Going.{Placed};
 ghost use Rattle.engine.specs.Parts.{endedWith, goingWith, outcomeOf, saidOf, stateWith};
 ghost use mathlib.Core.Bool.{cond};
 ghost use lib.Dec.{ltb};
+use flat::delays;
+use flat::frames;
+use flat::heap;
+use flat::stack;
 use instructions::Turn;
 use machine::Answer;
 use machine::Begun;
@@ -19,10 +22,8 @@ use machine::Ran;
 use machine::Said;
 use machine::Status;
 use machine::Stepped;
+use machine::Vector;
 use stepping::Counted;
-
-/// The items of a vector, and the fewest places of a result buffer.
-const ITEMS: usize = 16;
 
 /// A run between two calls of whoever drives it. What lies above a count of its state means nothing.
 pub struct State {
@@ -55,12 +56,12 @@ fn standing(
     let result = outcome.result;
     let status = outcome.status;
     machine::State {
-        frames: flat::frames(owners, codes, numbers),
+        frames: frames::frames(owners, codes, numbers),
         calls: outcome.calls,
-        activations: flat::activations(stack),
+        activations: stack::activations(stack),
         depth: outcome.depth,
-        vectors: flat::vectors(lengths, items),
-        promises: flat::promises(promises, caches),
+        vectors: heap::vectors(lengths, items),
+        promises: delays::promises(promises, caches),
         result: result,
         status: status,
     }
@@ -74,15 +75,15 @@ pub fn shown(n: u8) -> u8
 }
 
 /// A run with its calls and activations, which goes on or is stuck.
-fn going(calls: u8, depth: u8, result: [i32; 16], said: Answer) -> Outcome
-    ensures { λ r. ⌜ r ≡ goingWith calls depth result said ⌝ }
+fn going(calls: u8, depth: u8, result: [i32; 16], reply: Answer) -> Outcome
+    ensures { λ r. ⌜ r ≡ goingWith calls depth result reply ⌝ }
 {
     Outcome {
         calls: calls,
         depth: depth,
         result: result,
         status: Status::Running,
-        answer: said,
+        answer: reply,
     }
 }
 
@@ -112,7 +113,7 @@ fn come_to(lengths: &[u8; 64], items: &[i32; 1024], result: [i32; 16], counted: 
         Turn::Stack(_, _) => going(calls, depth, result, Answer::Steps),
         Turn::Integer(z) => ended(0, 0, result, End::Integer(z)),
         Turn::Vector(v) => {
-            let w = flat::vector(lengths, items, v);
+            let w = heap::vector(lengths, items, v);
             let last = w.items;
             let n = shown(w.length);
             ended(0, 0, last, End::Vector(n))
@@ -136,13 +137,13 @@ fn resumed(state: machine::State, image: &[u8], budget: u32) -> Ran
     let mut promises = [0u8; 192];
     let mut caches = [0i32; 64];
     let frames = state.frames;
-    flat::load_frames(frames, &mut owners, &mut codes, &mut numbers);
+    frames::load_frames(frames, &mut owners, &mut codes, &mut numbers);
     let activations = state.activations;
-    flat::load_activations(activations, &mut stack);
+    stack::load_activations(activations, &mut stack);
     let vectors = state.vectors;
-    flat::load_vectors(vectors, &mut lengths, &mut items);
+    heap::load_vectors(vectors, &mut lengths, &mut items);
     let delayed = state.promises;
-    flat::load_promises(delayed, &mut promises, &mut caches);
+    delays::load_promises(delayed, &mut promises, &mut caches);
     let counted = stepping::resume(
         image,
         &mut owners,
@@ -225,7 +226,7 @@ impl State {
         ensures { λ r. ⌜ (r ≡ budgetOf (programOf (now (image .entry))) (self .inner) budget (now (buffer .entry))) × (now (buffer .exit) ≡ bufferOf r (now (buffer .entry))) ⌝ }
     {
         let state = self.inner;
-        if buffer.len() < ITEMS {
+        if buffer.len() < Vector::ITEMS {
             return Ran {
                 state: state,
                 answer: Answer::Refused(13, 0),

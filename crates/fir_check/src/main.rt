@@ -5,7 +5,7 @@ use checker::report;
 /// One byte more than an image may have, so that a longer input is refused by question 1.
 const ROOM: usize = 32769;
 
-/// Places for the text: it has at most 64 lines of 17 bytes and one of 12.
+/// Places for the text: it has at most 64 lines of 17 bytes and one of 12, or one of 20.
 const TEXT: usize = 4096;
 
 /// How often more input is read at most.

@@ -11,6 +11,7 @@ use mir.Syntax.{w32}
 use mir.Val.{SFits, toZ, ofZ}
 use borrow.Author.Tests.{lt-ltb, le-ltb, ne-eqb}
 use Rattle.layout.specs.Records.{_!_}
+use Rattle.memory.proofs.Lists.{upTo-same}
 use Rattle.machine.specs.States.{place}
 use Rattle.machine.specs.declared.Frame.{Frame}
 use Rattle.machine.specs.declared.Place.{Place}
@@ -18,7 +19,7 @@ use Rattle.machine.specs.declared.Value.{Value}
 use Rattle.memory.specs.Lists.{upTo}
 use Rattle.memory.specs.Memory.{valueOf, cellIn, registersIn, namesIn, frameIn}
 use Rattle.flat.specs.Arrays.{Kept, CellLoaded, RegistersLoaded, NamesLoaded, FrameLoaded}
-use Rattle.flat.proofs.Parts.{up-same, load-one, at-kept, kept-less, kept-same, kept-set, kept-then, below}
+use Rattle.flat.proofs.Parts.{load-one, at-kept, kept-less, kept-same, kept-set, kept-then, below}
 
 -- ---- values
 
@@ -92,11 +93,11 @@ nameAt s x k r = place (cellIn s x (24 * k + (16 + r)))
 
 registers-kept : {s t : List ℕ} {x y : List ℤ} {n : ℕ} (k : ℕ) → 24 * k + 16 ≤ n → Kept n s t → Kept n x y → registersIn t y k ≡ registersIn s x k
 unfolding registersIn
-registers-kept {s} {t} {x} {y} k h a b = up-same (registerAt t y k) (registerAt s x k) 0 16 (λ j c. ap place (cell-kept (24 * k + j) (omega arith) a b))
+registers-kept {s} {t} {x} {y} k h a b = upTo-same (registerAt t y k) (registerAt s x k) 0 16 (λ j l c. ap place (cell-kept (24 * k + j) (omega arith) a b))
 
 names-kept : {s t : List ℕ} {x y : List ℤ} {n : ℕ} (k : ℕ) → 24 * k + 24 ≤ n → Kept n s t → Kept n x y → namesIn t y k ≡ namesIn s x k
 unfolding namesIn
-names-kept {s} {t} {x} {y} k h a b = up-same (nameAt t y k) (nameAt s x k) 0 8 (λ j c. ap place (cell-kept (24 * k + (16 + j)) (omega arith) a b))
+names-kept {s} {t} {x} {y} k h a b = upTo-same (nameAt t y k) (nameAt s x k) 0 8 (λ j l c. ap place (cell-kept (24 * k + (16 + j)) (omega arith) a b))
 
 -- one place more
 module _ (s t : List ℕ) (x y : List ℤ) (k r : ℕ) (xs : List Place) (d : Place) (room : r < length xs) where

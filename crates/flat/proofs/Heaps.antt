@@ -8,13 +8,14 @@ use lib.ListN.{length, getD, set, take}
 use lib.Seq.{getD-set-same}
 use Rattle.machine.specs.declared.Vector.{Vector}
 use Rattle.memory.specs.Lists.{upTo}
-use Rattle.memory.specs.Memory.{vectorIn}
-use Rattle.flat.specs.Arrays.{Kept, VectorLoaded, ItemsLoaded, itemIn, itemsIn}
-use Rattle.flat.proofs.Parts.{up-same, load-one, at-kept, kept-set, below}
+use Rattle.memory.specs.Memory.{vectorIn, itemIn}
+use Rattle.memory.proofs.Lists.{upTo-same}
+use Rattle.flat.specs.Arrays.{Kept, VectorLoaded, ItemsLoaded, itemsIn}
+use Rattle.flat.proofs.Parts.{load-one, at-kept, kept-set, below}
 
 items-kept : (x y : List ℤ) (i j : ℕ) → j < i → Kept (16 * i) x y → itemsIn y j ≡ itemsIn x j
 unfolding itemsIn
-items-kept x y i j h k = up-same (itemIn y j) (itemIn x j) 0 16 (λ n b. at-kept (16 * j + n) (pos 0) (omega arith) k)
+items-kept x y i j h k = upTo-same (itemIn y j) (itemIn x j) 0 16 (λ n a b. at-kept (16 * j + n) (pos 0) (omega arith) k)
 
 pub vector-kept : (s t : List ℕ) (x y : List ℤ) (i j : ℕ) → j < i → Kept i s t → Kept (16 * i) x y → vectorIn t y j ≡ vectorIn s x j
 unfolding vectorIn itemsIn

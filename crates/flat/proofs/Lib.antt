@@ -1,5 +1,5 @@
 pub mod Parts
 pub mod Stacks
-pub mod Delays
+pub mod Delayed
 pub mod Heaps
 pub mod Cells

@@ -8,6 +8,7 @@ use native.Mathlib.Omega.{arith}
 use lib.ListN.{length, getD, set, take, length-set}
 use lib.Seq.{take-suc, take-suc-set, take-all, take-set-le, take-take, getD-take, getD-set-same, getD-set-other}
 use Rattle.memory.specs.Lists.{upTo}
+use Rattle.memory.proofs.Lists.{upTo-same}
 use Rattle.flat.specs.Arrays.{Kept}
 
 module _ {A : Type 0} where
@@ -17,12 +18,6 @@ module _ {A : Type 0} where
   up-one f i (suc n) =
       let e : suc i + n ≡ i + suc n = omega arith in
       ap (λ (r : List A). f i ∷ r) (up-one f (suc i) n ∙ ap (λ (k : ℕ). upTo f (suc i) n ++ (f k ∷ [])) e)
-
-  pub up-same : (f g : ℕ → A) (i n : ℕ) → ((j : ℕ) → j < i + n → f j ≡ g j) → upTo f i n ≡ upTo g i n
-  unfolding upTo
-  up-same f g i zero h = refl
-  up-same f g i (suc n) h =
-      ap (λ (x : A). x ∷ upTo f (suc i) n) (h i (omega arith)) ∙ ap (λ (r : List A). g i ∷ r) (up-same f g (suc i) n (λ j l. h j (omega arith)))
 
   -- what was read last goes behind
   pub read-one : (f : ℕ → A) (k : ℕ) (l : List A) (x : A) → k < length l → x ≡ f k → upTo f 0 k ≡ take k l → upTo f 0 (k + 1) ≡ take (k + 1) (set l k x)
@@ -34,7 +29,7 @@ module _ {A : Type 0} where
   pub load-one : (f g : ℕ → A) (k : ℕ) (l : List A) (d : A) → k < length l → g k ≡ getD l k d → ((j : ℕ) → j < k → g j ≡ f j) → upTo f 0 k ≡ take k l → upTo g 0 (k + 1) ≡ take (k + 1) l
   load-one f g k l d h e s t =
       let z : 0 + k ≡ k = omega arith in
-      rw (add-one, up-one g 0 k, z, take-suc l k d h, e, up-same g f 0 k (λ j b. s j (omega arith)), t) refl
+      rw (add-one, up-one g 0 k, z, take-suc l k d h, e, upTo-same g f 0 k (λ j a b. s j (omega arith)), t) refl
 
   pub all-done : (f : ℕ → A) (k n : ℕ) (l : List A) → length l ≡ n → k ≤ n → n ≤ k → upTo f 0 k ≡ take k l → upTo f 0 n ≡ l
   all-done f k n l e a b t =

@@ -15,7 +15,7 @@ use Rattle.machine.specs.declared.Promise.{Promise}
 use Rattle.machine.specs.declared.Value.{Value}
 use Rattle.machine.specs.declared.Vector.{Vector}
 use Rattle.memory.specs.Lists.{upTo}
-use Rattle.memory.specs.Memory.{activationIn, cacheOf, cellIn, frameIn, namesIn, openerOf, promiseIn, registersIn, vectorIn}
+use Rattle.memory.specs.Memory.{activationIn, cacheOf, cellIn, frameIn, namesIn, openerOf, promiseIn, registersIn, vectorIn, itemIn}
 
 -- the first n of a list stay, and its length does
 pub record Kept {A : Type 0} (n : ℕ) (before after : List A) : Type 0 where
@@ -50,10 +50,7 @@ pub record PromiseLoaded (before after : List ℕ) (old new : List ℤ) (p : ℕ
 
 -- ---- vectors
 
--- the item j of the vector v
-abbrev pub itemIn : List ℤ → ℕ → ℕ → ℤ
-itemIn items v j = getD items (16 * v + j) (pos 0)
-
+-- the 16 items of the vector v
 unfoldable pub itemsIn : List ℤ → ℕ → List ℤ
 itemsIn items v = upTo (itemIn items v) 0 ITEMS
 

@@ -1,14 +1,13 @@
 -- What a block does, as a walk that enters higher blocks meets it.
-use mathlib.Core.Path.{_≡_, refl, sym, ap, _∙_, fun-ext}
+use mathlib.Core.Path.{_≡_, refl, sym, ap, _∙_}
 use mathlib.Core.List.{List, [], _∷_}
 use mathlib.Core.Option.{Option, none, some}
-use mathlib.Core.Bool.{Bool, true, false, cond, not, true≢false, false≢true}
-use Prim.Native.Nat.{ℕ, zero, suc, _+_, _-_, _≤_, _<_}
-use native.Mathlib.Nat.{add-zero, zero-add, sub-zero}
+use mathlib.Core.Bool.{Bool, true, false}
+use Prim.Native.Nat.{ℕ, _+_, _-_, _≤_, _<_}
 use native.Mathlib.Omega.{arith}
-use lib.ListN.{length, getD, getElem?}
-use lib.Dec.{ltb, eqb}
-use borrow.Author.Tests.{ltb-true, ltb-false, lt-ltb, le-ltb, eqb-true, eqb-false}
+use lib.ListN.{length}
+use lib.Dec.{eqb}
+use borrow.Author.Tests.{lt-ltb, le-ltb, eqb-true, eqb-false}
 use Rattle.layout.specs.Kinds as kind
 use Rattle.layout.specs.Records.{_!_, sizeAt, kindAt, bodyAt, recAt, records}
 use Rattle.layout.specs.declared.Found.the-variants.{Nothing, At}
@@ -16,13 +15,13 @@ use Rattle.layout.proofs.Walk.{size-in}
 use Rattle.layout.proofs.Rows.{Rows, choose-each}
 use Rattle.sets.specs.Sets.{only, those, setOf}
 use Rattle.sets.proofs.Masks.{set-empty}
-use Rattle.program.specs.Program.{Instr, Line, Block, Version, Program, View, instrOf, lineOf, program}
-use Rattle.program.specs.Places.{viewAt, past, versionAt, blockAt, instrAt, blockPlace}
-use Rattle.program.proofs.Views.{view-end, view-past, Whole, at-version, at-block, at-line}
+use Rattle.program.specs.Program.{Instr, Program, instrOf, lineOf, program}
+use Rattle.program.specs.Places.{viewAt, past, versionAt, blockAt, instrAt, blockPlace, isLine}
+use Rattle.program.proofs.Views.{line-view, line-none, is-lined}
 use Rattle.program.proofs.Lookups.{block-found, block-missing}
-use Rattle.rules.specs.Actions.{Action, _then_, reading, assigning, promised, touch, actionOf, along, enter, actions}
+use Rattle.rules.specs.Actions.{Action, _then_, reading, assigning, promised, touch, actionOf, along}
 use Rattle.flow.specs.Masks.{masked}
-use Rattle.rules.specs.Walks.{blockAction, entered, acts, more}
+use Rattle.rules.specs.Walks.{blockAction, entered, acts}
 use Rattle.flow.proofs.Listed.{only-alone}
 use Rattle.rules.proofs.Walked.{walked-at, walked-missing}
 
@@ -34,55 +33,14 @@ enters-same P f g k b h = choose-each (λ (i : Instr). actionOf f (touch P i) �
 
 -- ---- an instruction at an offset
 
-module _ (s : List ℕ) (p : ℕ) where
-  pub none-past : length s ≤ p → more (viewAt s p .code) ≡ false
-  unfolding more
-  none-past h = rw (view-end s p h)
-
-  pub none-broken : sizeAt s p ≡ 0 → more (viewAt s p .code) ≡ false
-  unfolding more
-  none-broken h = rw (view-past s p h)
-
-  module _ {n k : ℕ} (m : Whole s p n k) where
-    pub none-version : k ≡ kind.VERSION → more (viewAt s p .code) ≡ false
-    unfolding more
-    none-version e = rw (at-version m e)
-
-    pub none-block : (k ≡ kind.VERSION → ⊥) → more (viewAt s p .code) ≡ not (eqb k kind.BLOCK)
-    unfolding more
-    none-block x = go (eqb k kind.BLOCK) refl
-      where
-        go : (b : Bool) → eqb k kind.BLOCK ≡ b → more (viewAt s p .code) ≡ not b
-        go true e = rw (at-block m (eqb-true k kind.BLOCK e))
-        go false e = rw (at-line m x (eqb-false k kind.BLOCK e))
-
 -- a whole record of an instruction stands at p
 pub record Stands (s : List ℕ) (p : ℕ) : Type 0 where
   pub inside : p < length s
   pub whole : sizeAt s p ≡ 0 → ⊥
   pub code : viewAt s p .code ≡ lineOf (recAt s p) ∷ viewAt s (past s p) .code
 
-pub stands : (s : List ℕ) (p : ℕ) → more (viewAt s p .code) ≡ true → Stands s p
-stands s p h = go (ltb p (length s)) (eqb (sizeAt s p) 0) (eqb (kindAt s p) kind.VERSION) (eqb (kindAt s p) kind.BLOCK) refl refl refl refl
-  where
-    never : more (viewAt s p .code) ≡ false → Stands s p
-    never e = absurd (false≢true (sym e ∙ h))
-
-    go : (a b c d : Bool) → ltb p (length s) ≡ a → eqb (sizeAt s p) 0 ≡ b → eqb (kindAt s p) kind.VERSION ≡ c → eqb (kindAt s p) kind.BLOCK ≡ d → Stands s p
-    go false b c d ea eb ec ed = never (none-past s p (ltb-false _ _ ea))
-    go true true c d ea eb ec ed = never (none-broken s p (eqb-true _ _ eb))
-    go true false true d ea eb ec ed = never (none-version s p (record { inside = ltb-true _ _ ea; size = refl; whole = eqb-false _ _ eb; kind = refl }) (eqb-true _ _ ec))
-    go true false false true ea eb ec ed = never (none-block s p (record { inside = ltb-true _ _ ea; size = refl; whole = eqb-false _ _ eb; kind = refl }) (eqb-false _ _ ec) ∙ ap not ed)
-    go true false false false ea eb ec ed = record {
-      inside = ltb-true _ _ ea;
-      whole = eqb-false _ _ eb;
-      code = ap (λ (w : View). w .code) (at-line (record { inside = ltb-true _ _ ea; size = refl; whole = eqb-false _ _ eb; kind = refl }) (eqb-false _ _ ec) (eqb-false _ _ ed));
-    }
-
-none-left : (ls : List Line) → more ls ≡ false → ls ≡ []
-unfolding more
-none-left [] h = refl
-none-left (l ∷ ls) h = absurd (true≢false h)
+pub stands : (s : List ℕ) (p : ℕ) → isLine s p ≡ true → Stands s p
+stands s p h = let l = is-lined s p h in record { inside = l .inside; whole = l .whole; code = line-view s p h }
 
 -- ---- the walk of a block of the version at v
 
@@ -111,9 +69,9 @@ module _ (s : List ℕ) (v b : ℕ) where
     unfolding along instrAt
     meets h e m = rw (h .code, m, e)
 
-    pub ends : {now : Option Action} → more (viewAt s p .code) ≡ false → now ≡ (done then reading (bodyAt s q ! 1 ∷ [])) → now ≡ onward s v b q p done
+    pub ends : {now : Option Action} → isLine s p ≡ false → now ≡ (done then reading (bodyAt s q ! 1 ∷ [])) → now ≡ onward s v b q p done
     unfolding along
-    ends h e = rw (none-left (viewAt s p .code) h) e
+    ends h e = rw (line-none s p h) e
 
 -- ---- the walk of an instruction
 

@@ -13,6 +13,7 @@ use Rattle.flow.specs.declared.Flowed.the-variants.{Allowed, Refused}
 abbrev pub masked : ℕ → ℕ → ℕ → ℕ → Action
 masked r w u c = record { R = setOf REGISTERS r; W = setOf REGISTERS w; U = setOf REGISTERS u; C = setOf REGISTERS c }
 
+-- the action that the masks of the code are
 abbrev pub act : Masks → Action
 act a = masked (a .reads) (a .assigns) (a .empties) (a .captures)
 

@@ -2,10 +2,10 @@
 ghost use mathlib.Core.Path.{_≡_};
 ghost use Rattle.layout.specs.Records.{records};
 ghost use Rattle.program.specs.Program.{program};
-ghost use Rattle.program.specs.Places.{viewAt, versionAt, instrAt, tableOf};
+ghost use Rattle.program.specs.Places.{versionAt, instrAt, tableOf};
 ghost use Rattle.rules.specs.Actions.{bodyAction};
 ghost use Rattle.flow.specs.Masks.{flowed};
-ghost use Rattle.rules.specs.Walks.{blockAction, acts, more};
+ghost use Rattle.rules.specs.Walks.{blockAction, acts};
 use crate::Action;
 use crate::Flowed;
 use crate::actions;
@@ -13,23 +13,6 @@ use crate::instructions;
 use layout::Found;
 use layout::kinds;
 use program::lookup;
-
-/// Is an instruction of a block left at `p`?
-fn is_instruction(image: &[u8], p: usize) -> bool
-    ensures { λ r. ⌜ r ≡ more (viewAt (now (image .entry)) p .code) ⌝ }
-{
-    if image.len() <= p {
-        return false;
-    }
-    if layout::size_at(image, p) == 0 {
-        return false;
-    }
-    let kind = layout::kind_at(image, p);
-    if kind == kinds::VERSION {
-        return false;
-    }
-    kind != kinds::BLOCK
-}
 
 /// What the block `b` of the version at `v` does: its instructions one after the other, then it reads its result register.
 fn walk_block(image: &[u8], table: &[usize; 128], v: usize, b: usize) -> Flowed
@@ -46,7 +29,7 @@ fn walk_block(image: &[u8], table: &[usize; 128], v: usize, b: usize) -> Flowed
         captures: 0,
     });
     let mut p = q + layout::size_at(image, q);
-    while is_instruction(image, p) {
+    while lookup::is_line(image, p) {
         done = actions::chain(done, walk_instruction(image, table, v, b, p));
         p += layout::size_at(image, p);
     }

@@ -1,11 +1,11 @@
 -- A pass along the records of a version: the blocks from an offset on are those that are left.
 use mathlib.Core.List.{List}
 use mathlib.Core.Path.{_≡_, refl, sym, ap, _∙_}
-use Prim.Native.Nat.{ℕ, _+_, _-_, _<_, _≤_}
+use Prim.Native.Nat.{ℕ, _+_, _-_}
 use native.Mathlib.Omega.{arith}
 use Rattle.layout.specs.Kinds as kind
 use Rattle.layout.specs.declared.Found.{Found}
-use Rattle.layout.specs.declared.Found.the-variants.{Nothing, At}
+use Rattle.layout.specs.declared.Found.the-variants.{At}
 use Rattle.program.specs.Places.{blockPlace, versionAt, past}
 use Rattle.program.proofs.Lookups.{blockFrom, block-here, block-later, block-behind}
 use Rattle.program.proofs.Views.{Whole}

@@ -1,19 +1,18 @@
 -- An index with one entry more, and what an entry says.
 use mathlib.Core.List.{List}
 use mathlib.Core.Path.{_≡_, refl, sym, ap, _∙_, subst}
-use mathlib.Core.Bool.{Bool, true, false, cond}
+use mathlib.Core.Bool.{Bool, true, false}
 use Prim.Native.Nat.{ℕ, _+_, _*_, _<_, _≤_}
 use native.Mathlib.Omega.{arith}
-use lib.ListN.{getD, getD-replicate, length, replicate, set}
+use lib.ListN.{getD-replicate, length, replicate, set}
 use lib.Seq.{getD-set-other, getD-set-same}
-use lib.Dec.{eqb, ltb}
+use lib.Dec.{eqb}
 use borrow.Author.Tests.{eqb-true, eqb-false, le-ltb, lt-ltb}
 use Rattle.layout.specs.Records.{_!_}
 use Rattle.layout.specs.Tests.{_and_}
 use Rattle.layout.specs.declared.Found.{Found}
 use Rattle.layout.specs.declared.Found.the-variants.{Nothing, At}
-use Rattle.program.specs.Places.{blockPlace, listedIn, placeIn, tableOf, versionPlace}
-use Rattle.program.proofs.Tables.{listed-right}
+use Rattle.program.specs.Places.{blockPlace, placeIn, versionPlace}
 use Rattle.index.specs.Indexed.{Indexed, Says, Stands}
 
 -- an index that says nothing

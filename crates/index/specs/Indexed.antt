@@ -5,7 +5,7 @@ use mathlib.Core.Bool.{Bool, true, false}
 use Prim.Native.Nat.{ℕ, _+_, _*_, _<_}
 use Rattle.layout.specs.Records.{_!_}
 use Rattle.layout.specs.declared.Found.{Found}
-use Rattle.layout.specs.declared.Found.the-variants.{Nothing, At}
+use Rattle.layout.specs.declared.Found.the-variants.{At}
 use Rattle.program.specs.Places.{blockPlace, placeIn, versionPlace}
 
 -- what the entries of an index say, those below 65,535: 4 f + w of the version w of the function f, 128 + 32 f + 8 w + b of its block b

@@ -7,6 +7,7 @@ ghost use Rattle.layout.specs.declared.Found.{Found};
 ghost use Rattle.program.specs.Places.{blockPlace, tableOf, versionPlace};
 ghost use Rattle.index.specs.Indexed.{Indexed, Says, Stands};
 use layout::Found;
+use layout::bounds;
 use program::lookup;
 
 /// The entry that says nothing.
@@ -43,7 +44,7 @@ fn enter_blocks(image: &[u8], f: usize, w: usize, v: usize, index: &mut [u16; 11
             return;
         }
         if k == layout::kinds::BLOCK {
-            if 8 <= b {
+            if bounds::BLOCKS <= b {
                 return;
             }
             index[128 + 32 * f + 8 * w + b] = entry(p);
@@ -62,10 +63,10 @@ fn enter_version(image: &[u8], table: &[usize; 128], f: usize, w: usize, index: 
 {
     match lookup::listed(image, table, f, w) {
         Found::Nothing => {
-            index[4 * f + w] = entry(image.len());
+            index[bounds::VERSIONS * f + w] = entry(image.len());
         }
         Found::At(v) => {
-            index[4 * f + w] = entry(v);
+            index[bounds::VERSIONS * f + w] = entry(v);
             enter_blocks(image, f, w, v, index);
         }
     }
@@ -77,7 +78,7 @@ fn enter_function(image: &[u8], table: &[usize; 128], f: usize, index: &mut [u16
     ensures { λ _. ⌜ Indexed (now (image .entry)) (now (index .exit)) × (length (now (index .exit)) ≡ 1152) ⌝ }
 {
     let mut w: usize = 0;
-    while w < 4 {
+    while w < bounds::VERSIONS {
         enter_version(image, table, f, w, index);
         w += 1;
     }
@@ -90,7 +91,7 @@ pub fn of(image: &[u8]) -> [u16; 1152]
     let table = lookup::versions(image);
     let mut index = [UNKNOWN; 1152];
     let mut f: usize = 0;
-    while f < 32 {
+    while f < bounds::FUNCTIONS {
         enter_function(image, &table, f, &mut index);
         f += 1;
     }
@@ -102,13 +103,13 @@ pub fn version(image: &[u8], index: &[u16; 1152], f: usize, w: usize) -> Found
     requires { ⌜ Indexed (now image) (now index) ⌝ }
     ensures { λ r. ⌜ r ≡ versionPlace (now (image .entry)) f w ⌝ }
 {
-    if 32 <= f {
+    if bounds::FUNCTIONS <= f {
         return lookup::version(image, f, w);
     }
-    if 4 <= w {
+    if bounds::VERSIONS <= w {
         return lookup::version(image, f, w);
     }
-    let p = wide(index[4 * f + w]);
+    let p = wide(index[bounds::VERSIONS * f + w]);
     if p == 65535 {
         return lookup::version(image, f, w);
     }
@@ -124,13 +125,13 @@ fn is_at(image: &[u8], index: &[u16; 1152], f: usize, w: usize, v: usize) -> boo
     requires { ⌜ Indexed (now image) (now index) ⌝ }
     ensures { λ r. ⌜ Stands (now (image .entry)) r f w v ⌝ }
 {
-    if 32 <= f {
+    if bounds::FUNCTIONS <= f {
         return false;
     }
-    if 4 <= w {
+    if bounds::VERSIONS <= w {
         return false;
     }
-    let p = wide(index[4 * f + w]);
+    let p = wide(index[bounds::VERSIONS * f + w]);
     if p == 65535 {
         return false;
     }
@@ -157,7 +158,7 @@ pub fn block(image: &[u8], index: &[u16; 1152], v: usize, b: usize) -> Found
     requires { ⌜ Indexed (now image) (now index) ⌝ }
     ensures { λ r. ⌜ r ≡ blockPlace (now (image .entry)) v b ⌝ }
 {
-    if 8 <= b {
+    if bounds::BLOCKS <= b {
         return lookup::block(image, v, b);
     }
     let f = layout::field(image, v, 0);

@@ -1,5 +1,5 @@
 -- What the parts of an instruction say of its turn.
-use mathlib.Core.Path.{_≡_, refl, sym, ap, _∙_}
+use mathlib.Core.Path.{_≡_, refl, _∙_}
 use mathlib.Core.List.{List}
 use Prim.Native.Nat.{ℕ, _+_, _<_}
 use native.Mathlib.Omega.{arith}
@@ -8,11 +8,10 @@ use lib.ListN.{length}
 use Rattle.program.specs.Places.{instrAt, versionAt}
 use Rattle.program.specs.Program.{ARITH, Argument, CALL, CAST, DISPATCH, DUP, FORCE, GET, Instr, LEN, LIT, MOVE, NAMED, PEEK, POKE, PROM, SELECT, SET, STORE, USE, VEC}
 use Rattle.machine.specs.Begin.{programOf}
-use Rattle.machine.specs.States.{assign}
-use Rattle.machine.specs.Try.{got, stuck, stop, _>>=_}
-use Rattle.memory.specs.Memory.{Long, Memory, memoryOf, stateOf}
+use Rattle.machine.specs.Try.{stuck}
+use Rattle.memory.specs.Memory.{Memory, memoryOf}
 use Rattle.memory.specs.Parts.{Does, endOf, givesOf, withCells, withLive, withOpen, withPromises, withVectors}
-use Rattle.memory.specs.Works.{Feeds, Works, executed}
+use Rattle.memory.specs.Works.{Feeds, Works}
 use Rattle.memory.specs.declared.Did.{Did}
 use Rattle.memory.specs.declared.Gives.{Gives}
 use Rattle.memory.specs.declared.Halt.{Halt}
@@ -21,7 +20,7 @@ use Rattle.cells.specs.Operands.{arithIn, namedIn, selectIn}
 use Rattle.cells.proofs.Feeding.{arith-feeds, lit-feeds, named-feeds, select-feeds}
 use Rattle.kinds.specs.Kinds.{Fed, withHeap}
 use Rattle.vectors.specs.Vectors.{Copied, Made, Measured, Picked, Replaced, withAll, withCalls}
-use Rattle.calls.specs.Entering.{Arrays, Called, Dispatched, Within, onward, withArrays}
+use Rattle.calls.specs.Entering.{Called, Dispatched, Within, onward, withArrays}
 use Rattle.promises.specs.Changes.{Changed, ForcedTo, Forces, Peeks, Pokes, Proms, withDelayed, withForced, withProm}
 use Rattle.promises.specs.declared.Forced.{Forced}
 use Rattle.instructions.specs.Turns.{Instructs, Turns, openedOf, turnOf}

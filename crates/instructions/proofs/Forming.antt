@@ -1,7 +1,5 @@
 -- An instruction is known by its decoded form and what it lists.
 use mathlib.Core.Path.{_≡_, refl, sym, ap, _∙_}
-use mathlib.Core.List.{List, [], map}
-use Prim.Native.Nat.{ℕ}
 use lib.ListN.{length, length-map}
 use Rattle.program.specs.Program.{Argument, Instr, LIT, MOVE, USE, DUP, VEC, LEN, GET, SET, ARITH, SELECT, CAST, NAMED, STORE, PROM, FORCE, PEEK, POKE, CALL, DISPATCH}
 use Rattle.program.specs.Shapes.{listedRegisters, shapeOf}

@@ -48,7 +48,7 @@ pairsOf (POKE a x e) = []
 pairsOf (CALL d f w rs) = []
 pairsOf (DISPATCH d f mark ret pairs) = pairs
 
--- how many registers, how many pairs a form lists
+-- how many registers a form lists
 unfoldable pub listsOf : Instruction → ℕ
 listsOf (Instruction.Lit d i) = 0
 listsOf (Instruction.Move d a) = 0
@@ -70,6 +70,7 @@ listsOf (Instruction.Poke a x e) = 0
 listsOf (Instruction.Call d f w n) = n
 listsOf (Instruction.Dispatch d f mark ret n) = n
 
+-- how many pairs a form lists
 unfoldable pub pairs : Instruction → ℕ
 pairs (Instruction.Lit d i) = 0
 pairs (Instruction.Move d a) = 0

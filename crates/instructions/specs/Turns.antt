@@ -15,6 +15,7 @@ use Rattle.instructions.specs.declared.Turn.{Turn}
 
 -- ---- an instruction's turn, which ends no run: M is the memory before it, N after it, by its calls and depth; t is what the machine's definitions come to
 
+-- the turn says what t comes to and what becomes of the memory
 unfoldable pub Turns : Turn → Memory → (ℕ → ℕ → Memory) → Try State → Type 0
 Turns Turn.On M N t = (t ≡ got (stateOf (N (M .calls) (M .depth)))) × Long (N (M .calls) (M .depth)) × (N (M .calls) (M .depth) .owners ≡ M .owners) × (N (M .calls) (M .depth) .stack ≡ M .stack)
 Turns (Turn.Stack c d) M N t = (t ≡ got (stateOf (N c d))) × Long (N c d) × (c < 256) × (d < 256)

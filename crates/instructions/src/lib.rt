@@ -1,4 +1,5 @@
 //! One instruction of a run over flat arrays.
+//! `table` is the image's index.
 ghost use mathlib.Core.Path.{_≡_};
 ghost use Prim.Native.Nat.{_<_, _≤_};
 ghost use Rattle.index.specs.Indexed.{Indexed};

@@ -1,15 +1,15 @@
 -- MOVE and CAST: what their code gives, and what the machine does.
 use mathlib.Core.Path.{_≡_, refl, sym, ap, _∙_}
-use mathlib.Core.List.{List, [], _∷_}
+use mathlib.Core.List.{List}
 use mathlib.Core.Option.{Option, none, some}
 use mathlib.Core.Bool.{Bool, true, false, cond}
-use Prim.Native.Nat.{ℕ, zero, suc, _+_, _*_, _%_, _≤_, _<_}
-use native.Mathlib.Nat.{not-suc-le-zero, le-of-suc-le-suc}
+use Prim.Native.Nat.{ℕ, _+_, _*_, _%_, _≤_, _<_}
 use native.Mathlib.Omega.{arith}
 use lib.IntN.{ℤ, pos}
 use lib.ListN.{getD, getElem?, length}
 use lib.Dec.{ltb}
 use Rattle.layout.specs.Records.{_!_}
+use Rattle.layout.proofs.Lists.{get-none, get-some}
 use Rattle.program.specs.Program.{Program, Version, MOVE, CAST}
 use Rattle.rules.specs.Types.{kindOf, within}
 use Rattle.machine.specs.States.{assign, full, kindIn, value}
@@ -26,18 +26,6 @@ use Rattle.memory.proofs.Frames.{register-in}
 use Rattle.kinds.specs.Kinds.{withHeap, codeKind, kindOr, argumentKind, fitted, typedAs, otherwise, typedIn, Fed}
 use Rattle.kinds.proofs.Kinded.{kind-in, over-code, Over}
 use Rattle.kinds.proofs.Looking.{argument-inside, argument-outside}
-
--- ---- lists
-
-get-some : {A : Type 0} (xs : List A) (i : ℕ) (d : A) → i < length xs → getElem? xs i ≡ some (getD xs i d)
-get-some [] i d h = absurd (not-suc-le-zero h)
-get-some (x ∷ xs) zero d h = refl
-get-some (x ∷ xs) (suc i) d h = get-some xs i d (le-of-suc-le-suc h)
-
-get-none : {A : Type 0} (xs : List A) (i : ℕ) → length xs ≤ i → getElem? xs i ≡ none
-get-none [] i h = refl
-get-none (x ∷ xs) zero h = absurd (not-suc-le-zero h)
-get-none (x ∷ xs) (suc i) h = get-none xs i (le-of-suc-le-suc h)
 
 -- ---- by the answers in hand
 

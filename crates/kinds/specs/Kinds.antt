@@ -9,6 +9,7 @@ use lib.ListN.{getElem?}
 use lib.Dec.{eqb, ltb}
 use Rattle.layout.specs.Records.{_!_}
 use Rattle.layout.specs.Tests.{_and_}
+use Rattle.rules.specs.Fits.{promiseKind}
 use Rattle.program.specs.Program.{Program, Version, Instr, findVersion}
 use Rattle.rules.specs.Types.{kindOf, within}
 use Rattle.machine.specs.States.{kindIn}
@@ -29,8 +30,9 @@ unfoldable pub blockKind : Program → List ℕ → ℕ → ℕ → ℕ → Opti
 blockKind P owners calls f b = cond (ltb f calls and ltb f 32) (do
   W ← findVersion P (owners ! (2 * f)) (owners ! (2 * f + 1))
   B ← getElem? (W .blocks) b
-  some (4 + B .mark)) none
+  some (promiseKind (B .mark))) none
 
+-- the kind of the promise p
 unfoldable pub heldKind : Program → List ℕ → List ℕ → ℕ → ℕ → Option ℕ
 heldKind P owners promises calls p = cond (ltb p 64) (blockKind P owners calls (promises ! (3 * p)) (promises ! (3 * p + 1))) none
 
@@ -57,18 +59,21 @@ argumentKind P owners promises calls codes k r = cond (ltb r 16) (codeKind P own
 
 -- ---- MOVE and CAST
 
--- the register a goes to a register of the type t; e where it does not fit
+-- a value v of the kind m goes to a register of the type t; e where it does not fit, stuck where there is no such register
 unfoldable pub fitted : Try Value → Option ℕ → ℕ → Value → Try Value
 fitted e none m v = stuck
 fitted e (some t) m v = cond (within m (kindOf t)) (got v) e
 
+-- the same, stuck where the value has no kind
 unfoldable pub typedAs : Try Value → Option ℕ → Option ℕ → Value → Try Value
 typedAs e none t v = stuck
 typedAs e (some m) t v = fitted e t m v
 
+-- where a value does not fit: UNDEF for CAST, stuck for MOVE
 unfoldable pub otherwise : Bool → Try Value
 otherwise undef = cond undef (stop End.Undef) stuck
 
+-- what the register a of the frame k gives its register d
 unfoldable pub typedIn : Program → Version → List ℕ → List ℕ → ℕ → List ℕ → List ℤ → ℕ → ℕ → ℕ → Bool → Try Value
 typedIn P W owners promises calls codes numbers k d a undef =
     typedAs (otherwise undef) (argumentKind P owners promises calls codes k a) (getElem? (W .types) d) (cellIn codes numbers (24 * k + a))

@@ -1,9 +1,8 @@
 //! The kinds of values by the codes of their cells, MOVE and CAST.
 //! Its functions serve the loop of the engine; what they require, the loop keeps.
+//! `table` is the image's index.
 ghost use mathlib.Core.Path.{_≡_};
-ghost use Prim.Native.Nat.{_*_, _<_, _≤_};
-ghost use lib.IntN.{pos};
-ghost use Rattle.layout.specs.Records.{_!_};
+ghost use Prim.Native.Nat.{_<_};
 ghost use Rattle.program.specs.Places.{versionAt};
 ghost use Rattle.index.specs.Indexed.{Indexed};
 ghost use Rattle.program.specs.Program.{MOVE, CAST};
@@ -15,13 +14,6 @@ use memory::Gives;
 use memory::Halt;
 use program::lookup;
 use typing::types;
-
-/// A byte as a number.
-fn wide(x: u8) -> usize
-    ensures { λ r. ⌜ (r ≡ x) × (r < 256) ⌝ }
-{
-    x as usize
-}
 
 /// The kind of the promise `p`, 0 where its block is not there.
 fn promise_kind(
@@ -35,24 +27,28 @@ fn promise_kind(
     requires { ⌜ Indexed (now image) (now table) × (p < 64) ⌝ }
     ensures { λ r. ⌜ r ≡ kindOr (heldKind (programOf (now (image .entry))) (now (owners .entry)) (now (promises .entry)) calls p) ⌝ }
 {
-    let f = wide(promises[3 * p]);
+    let f = layout::wide(promises[3 * p]);
     if calls <= f {
         return 0;
     }
     if 32 <= f {
         return 0;
     }
-    let Found::At(v) = index::version(image, table, wide(owners[2 * f]), wide(owners[2 * f + 1]))
-    else {
+    let Found::At(v) = index::version(
+        image,
+        table,
+        layout::wide(owners[2 * f]),
+        layout::wide(owners[2 * f + 1]),
+    ) else {
         return 0;
     };
-    let Found::At(b) = index::block(image, table, v, wide(promises[3 * p + 1])) else {
+    let Found::At(b) = index::block(image, table, v, layout::wide(promises[3 * p + 1])) else {
         return 0;
     };
-    4 + layout::field(image, b, 0)
+    types::PROMISE + layout::field(image, b, 0)
 }
 
-/// The kind of the value of a cell with the code `c`, 0 where it has none. The table is the image's index.
+/// The kind of the value of a cell with the code `c`, 0 where it has none.
 pub fn kind_of(
     image: &[u8],
     table: &[u16; 1152],
@@ -143,7 +139,7 @@ fn typed(
     }
 }
 
-/// MOVE: what the register `d` gets, in the frame `k` of the version at `v`. The table is the image's index.
+/// MOVE: what the register `d` gets, in the frame `k` of the version at `v`.
 pub fn moved(
     image: &[u8],
     table: &[u16; 1152],
@@ -176,7 +172,7 @@ pub fn moved(
     )
 }
 
-/// CAST: what the register `d` gets, in the frame `k` of the version at `v`. The table is the image's index.
+/// CAST: what the register `d` gets, in the frame `k` of the version at `v`.
 pub fn cast(
     image: &[u8],
     table: &[u16; 1152],

@@ -1,5 +1,6 @@
 pub mod Bools
 pub mod Fields
+pub mod Lists
 pub mod Rows
 pub mod Turns
 pub mod Walk

@@ -5,27 +5,31 @@ use Prim.Native.Nat.{ℕ}
 abbrev pub IMAGE : ℕ
 IMAGE = 32768
 
--- functions, versions of each, versions in all
+-- functions: 0..31
 abbrev pub FUNCTIONS : ℕ
 FUNCTIONS = 32
 
+-- versions of a function: 0..3
 abbrev pub VERSIONS : ℕ
 VERSIONS = 4
 
+-- versions in all
 abbrev pub ALL-VERSIONS : ℕ
 ALL-VERSIONS = 64
 
--- registers and parameters of a version
+-- registers of a version: 1..16
 abbrev pub REGISTERS : ℕ
 REGISTERS = 16
 
+-- parameters of a version, which are at most its registers too
 abbrev pub PARAMETERS : ℕ
 PARAMETERS = 8
 
--- blocks of a version, instructions of a block
+-- blocks of a version: 1..8
 abbrev pub BLOCKS : ℕ
 BLOCKS = 8
 
+-- instructions of a block: 0..48
 abbrev pub INSTRUCTIONS : ℕ
 INSTRUCTIONS = 48
 

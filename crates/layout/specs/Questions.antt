@@ -1,7 +1,7 @@
 -- Questions 1 to 5: the bytes and the records.
 use mathlib.Core.List.{List, [], _∷_}
 use mathlib.Core.Option.{Option, none, some}
-use mathlib.Core.Bool.{Bool, true, false, cond, not, _||_}
+use mathlib.Core.Bool.{Bool, true, cond, not, _||_}
 use Prim.Native.Nat.{ℕ, _+_, _-_, _*_}
 use lib.ListN.{length}
 use lib.Dec.{ltb, leb, eqb}
@@ -18,10 +18,11 @@ use Rattle.layout.specs.declared.Due.{Due}
 unfoldable pub question1 : List ℕ → Found
 question1 s = cond (ltb 0 (length s) and leb (length s) IMAGE) Nothing (At 0)
 
--- a question that keeps nothing, and one that asks nothing at the end
+-- for a question that keeps nothing from record to record
 abbrev pub same : Unit {0} → Rec → Unit {0}
 same st r = st
 
+-- for a question that asks nothing at the end
 abbrev pub nothing : {S : Type 0} → S → Found
 nothing st = Nothing
 
@@ -29,6 +30,7 @@ nothing st = Nothing
 abbrev pub whole : Unit {0} → Rec → Bool
 whole st r = true
 
+-- 2, put to the records of an image
 unfoldable pub question2 : List Rec → Found
 question2 rs = scan whole same nothing tt rs
 
@@ -61,6 +63,7 @@ lengthOf k b = choose k 0 (
 abbrev pub fitting : Unit {0} → Rec → Bool
 fitting st r = eqb (r .size) (lengthOf (r .kind) (r .body))
 
+-- 3, put to the records of an image
 unfoldable pub question3 : List Rec → Found
 question3 rs = scan fitting same nothing tt rs
 
@@ -104,6 +107,7 @@ noneDue end due = cond (eqb (due .blocks) 0 and eqb (due .instructions) 0) Nothi
 abbrev pub placed : Due → Rec → Bool
 placed due r = inBounds (r .kind) (r .body) and inOrder due (r .kind)
 
+-- 4, put to the records of an image of the length `end`
 unfoldable pub question4 : ℕ → List Rec → Found
 question4 end rs = scan placed dueAfter (noneDue end) start rs
 
@@ -112,6 +116,7 @@ unfoldable pub follows : Option Rec → ℕ → ℕ → Bool
 follows none f w = eqb f 0 and eqb w 0
 follows (some r) f w = (eqb f (r .body ! 0) and eqb w (r .body ! 1 + 1)) || (eqb f (r .body ! 0 + 1) and eqb w 0)
 
+-- the last VERSION so far, which question 5 keeps
 abbrev pub lastVersion : Option Rec → Rec → Option Rec
 lastVersion before r = cond (eqb (r .kind) kind.VERSION) (some r) before
 
@@ -119,5 +124,6 @@ lastVersion before r = cond (eqb (r .kind) kind.VERSION) (some r) before
 abbrev pub following : Option Rec → Rec → Bool
 following before r = not (eqb (r .kind) kind.VERSION) || follows before (r .body ! 0) (r .body ! 1)
 
+-- 5, put to the records of an image
 unfoldable pub question5 : List Rec → Found
 question5 rs = scan following lastVersion nothing none rs

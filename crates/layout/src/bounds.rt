@@ -3,21 +3,25 @@
 /// The bytes of an image.
 pub const IMAGE: usize = 32768;
 
-/// The functions, the versions of each and the versions in all.
+/// The functions: 0..31.
 pub const FUNCTIONS: usize = 32;
 
+/// The versions of a function: 0..3.
 pub const VERSIONS: usize = 4;
 
+/// The versions in all.
 pub const ALL_VERSIONS: usize = 64;
 
-/// The registers and the parameters of a version.
+/// The registers of a version: 1..16.
 pub const REGISTERS: usize = 16;
 
+/// The parameters of a version, which are at most its registers too.
 pub const PARAMETERS: usize = 8;
 
-/// The blocks of a version and the instructions of a block.
+/// The blocks of a version: 1..8.
 pub const BLOCKS: usize = 8;
 
+/// The instructions of a block: 0..48.
 pub const INSTRUCTIONS: usize = 48;
 
 /// The n of VEC, CALL and DISPATCH.

@@ -1,12 +1,11 @@
 //! The records of an image, and questions 1 to 5.
 ghost use mathlib.Core.Path.{_≡_};
-ghost use mathlib.Core.Bool.{Bool};
-ghost use Prim.Native.Nat.{_+_, _<_, _≤_};
+ghost use Prim.Native.Nat.{_<_};
 ghost use lib.Dec.{eqb};
 ghost use lib.ListN.{length};
 ghost use Rattle.layout.specs.Tests.{_and_};
-ghost use Rattle.layout.specs.Records.{_!_, u16At, sizeAt, kindAt, bodyAt, recAt, records};
-ghost use Rattle.layout.specs.Questions.{question1, question2, question3, question4, question5, lengthOf, fitting, versionInBounds, inBounds, inOrder, placed, dueAfter, follows, following};
+ghost use Rattle.layout.specs.Records.{_!_, sizeAt, kindAt, bodyAt, recAt, records};
+ghost use Rattle.layout.specs.Questions.{question1, question2, question3, question4, question5, lengthOf, versionInBounds, inBounds, inOrder, dueAfter, follows};
 ghost use Rattle.layout.specs.Turns.{lastAt, turnOf};
 
 pub mod bounds;
@@ -19,7 +18,7 @@ pub enum Found {
 }
 
 /// A byte as a number.
-fn wide(x: u8) -> usize
+pub fn wide(x: u8) -> usize
     ensures { λ r. ⌜ (r ≡ x) × (r < 256) ⌝ }
 {
     x as usize

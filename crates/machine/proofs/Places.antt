@@ -1,35 +1,23 @@
 -- Lists of places: what a read, a write and a search make of a place inside and of one outside.
-use mathlib.Core.Path.{_≡_, refl, sym, _∙_}
+use mathlib.Core.Path.{_≡_, sym, _∙_}
 use mathlib.Core.Bool.{Bool, true, false}
-use mathlib.Core.List.{List, [], _∷_, map}
-use mathlib.Core.Option.{none, some}
-use Prim.Native.Nat.{ℕ, zero, suc, _+_, _≤_, _<_}
-use native.Mathlib.Nat.{not-suc-le-zero, le-of-suc-le-suc}
+use mathlib.Core.List.{List, map}
+use Prim.Native.Nat.{ℕ, _+_, _≤_, _<_}
 use native.Mathlib.Numerals.{add-one}
 use native.Mathlib.Omega.{arith}
-use lib.ListN.{length, getD, getElem?, set, drop, drop-of-length-le, length-map}
+use lib.ListN.{length, getD, set, drop, drop-of-length-le, length-map}
 use lib.Seq.{drop-cons}
 use borrow.Author.Tests.{lt-ltb, le-ltb}
 use Rattle.layout.specs.Tests.{any}
+use Rattle.layout.proofs.Lists.{get-none, get-some}
 use Rattle.machine.specs.Frames.{readOf, writtenOf, holds}
 use Rattle.machine.specs.Try.{got, _>>=_, _>>_, at, put, orStuck, stuckUnless}
 use Rattle.machine.specs.declared.Frame.{Frame}
 use Rattle.machine.specs.declared.Place.{Place}
 use Rattle.machine.specs.declared.Read.{Read}
 use Rattle.machine.specs.declared.Value.{Value}
-use Rattle.machine.specs.declared.Written.{Written}
 
 -- ---- look-ups and writes
-
-there : {A : Type 0} (xs : List A) (i : ℕ) (d : A) → i < length xs → getElem? xs i ≡ some (getD xs i d)
-there [] i d h = absurd (not-suc-le-zero h)
-there (x ∷ xs) zero d h = refl
-there (x ∷ xs) (suc i) d h = there xs i d (le-of-suc-le-suc h)
-
-missing : {A : Type 0} (xs : List A) (i : ℕ) → length xs ≤ i → getElem? xs i ≡ none
-missing [] i h = refl
-missing (x ∷ xs) zero h = absurd (not-suc-le-zero h)
-missing (x ∷ xs) (suc i) h = missing xs i (le-of-suc-le-suc h)
 
 -- an array of a struct, of which the length is known element by element
 pub length-mapped : (X Y : Type 0) (f : X → Y) (l : List X) (n : ℕ) → length (map f l) ≡ n → length l ≡ n
@@ -39,11 +27,11 @@ length-mapped X Y f l n p = sym (length-map l f) ∙ p
 module _ (xs : List Place) (i n : ℕ) (sized : length xs ≡ n) where
   pub read-inside : (d : Place) → i < n → Read.Holds (getD xs i d .value) ≡ readOf (at xs i >>= λ (c : Place). got (c .value))
   unfolding readOf at orStuck _>>=_
-  read-inside d h = rw (there xs i d (omega arith))
+  read-inside d h = rw (get-some xs i d (omega arith))
 
   pub read-outside : n ≤ i → Read.Outside ≡ readOf (at xs i >>= λ (c : Place). got (c .value))
   unfolding readOf at orStuck _>>=_
-  read-outside h = rw (missing xs i (omega arith))
+  read-outside h = rw (get-none xs i (omega arith))
 
   -- `by` makes a frame of the places
   module _ (f : Frame) (by : List Place → Frame) (c : Place) where

@@ -28,6 +28,7 @@ use Rattle.machine.specs.declared.Vector.{Vector}
 
 -- ---- 12: arguments
 
+-- 12: an argument, an integer or the items of a vector
 pub data Given : Type 0 where
   integer : ℤ → Given
   vector : List ℤ → Given
@@ -40,6 +41,7 @@ first (negsuc zero ∷ []) = none
 first (negsuc zero ∷ z ∷ ws) = some (integer z, ws)
 first (negsuc (suc n) ∷ ws) = none
 
+-- the kind of an argument: 2 integer, 3 vector
 unfoldable pub givenKind : Given → ℕ
 givenKind (integer z) = 2
 givenKind (vector xs) = 3
@@ -66,6 +68,7 @@ valuesOf [] n = []
 valuesOf (integer z ∷ xs) n = Value.Integer z ∷ valuesOf xs n
 valuesOf (vector ys ∷ xs) n = Value.Vector n ∷ valuesOf xs (suc n)
 
+-- the vectors among the arguments, in order
 unfoldable pub vectorsOf : List Given → List Vector
 vectorsOf [] = []
 vectorsOf (integer z ∷ xs) = vectorsOf xs
@@ -84,20 +87,22 @@ firstState fs ws = record {
   status = Status.Running;
 }
 
--- ---- the questions
+-- ---- the questions 11 to 13, each with offset 0, behind the ten
 
 -- a refusal; no call is live
 unfoldable pub refused : ℕ → ℕ → Begun
 refused q p = record { state = firstState [] []; entry = Entry.Refused q p }
 
--- 11 to 13, each with offset 0
+-- 13: has the result buffer at least 16 places?
 unfoldable pub question13 : State → List ℤ → Begun
 question13 s buffer = elim (longEnough buffer) [ true ↦ record { state = s; entry = Entry.Begun } | false ↦ refused 13 0 ]
 
+-- 12: do the argument words use up exactly, each argument matching its parameter's kind? `none` says no
 unfoldable pub question12 : Version → Option (List Given) → List ℤ → Begun
 question12 W none buffer = refused 12 0
 question12 W (some xs) buffer = question13 (firstState (frameFor W (valuesOf xs 0) ∷ []) (vectorsOf xs)) buffer
 
+-- 11: does the entry exist? `none` says no
 unfoldable pub question11 : Option Version → List ℤ → List ℤ → Begun
 question11 none words buffer = refused 11 0
 question11 (some W) words buffer = question12 W (arguments (parameterTypes W) words) buffer
@@ -115,6 +120,7 @@ beginAfter (Verdict.Accepted n) P f v words buffer = enteredOf P f v words buffe
 abbrev pub programOf : List ℕ → Program
 programOf image = program (records image)
 
+-- Questions put to an image: to begin a run, 11 to 13 after the ten
 unfoldable pub beginOf : List ℕ → ℕ → ℕ → List ℤ → List ℤ → Begun
 beginOf image f v words buffer = beginAfter (verdictOf image) (programOf image) f v words buffer
 
@@ -125,5 +131,6 @@ unfoldable pub runAfter : Entry → Program → State → ℕ → List ℤ → R
 runAfter (Entry.Refused q p) P s n buffer = record { state = s; answer = Answer.Refused q p; steps = 0 }
 runAfter Entry.Begun P s n buffer = budgetOf P s n buffer
 
+-- a run from the start: it is begun and gets its first budget
 unfoldable pub runOf : List ℕ → ℕ → ℕ → List ℤ → ℕ → List ℤ → Ran
 runOf image f v words n buffer = let b = beginOf image f v words buffer in runAfter (b .entry) (programOf image) (b .state) n buffer

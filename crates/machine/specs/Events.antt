@@ -25,6 +25,7 @@ pub record Handled : Type 0 where
   pub state : State
   pub reply : Reply
 
+-- what one event does to the state s, and its reply
 unfoldable pub handle : Program → Event → State → Handled
 handle P single s = let r = stepOf P s in record { state = r .state; reply = said (r .said) }
 handle P (budget n buffer) s = let r = budgetOf P s n buffer in record { state = r .state; reply = gave (r .answer) (r .steps) (bufferOf r buffer) }
@@ -41,6 +42,7 @@ replies P (e ∷ es) s = let h = handle P e s in h .reply ∷ replies P es (h .s
 
 -- ---- history: the states in which a step was tried, in order
 
+-- `more` of the state s where the step that led to it says that the run goes on; else none
 unfoldable pub onward : State → Said → (State → List State) → List State
 onward s Said.GoesOn more = more s
 onward s (Said.Ended e) more = []
@@ -51,6 +53,7 @@ unfoldable pub triedUnder : Program → ℕ → State → List State
 triedUnder P zero s = []
 triedUnder P (suc m) s = let r = stepOf P s in s ∷ onward (r .state) (r .said) (λ t. triedUnder P m t)
 
+-- under a budget of n; none on an ended run
 unfoldable pub triedIn : Program → State → ℕ → Status → List State
 triedIn P s n Status.Running = triedUnder P n s
 triedIn P s n (Status.Ended e) = []
@@ -60,6 +63,7 @@ unfoldable pub tried : Program → Event → State → List State
 tried P single s = s ∷ []
 tried P (budget n buffer) s = elim (longEnough buffer) [ true ↦ triedIn P s n (s .status) | false ↦ [] ]
 
+-- What demand 3 speaks of: by a list of events, every state in which a step was tried
 unfoldable pub history : Program → List Event → State → List State
 history P [] s = []
 history P (e ∷ es) s = tried P e s ++ history P es (handle P e s .state)

@@ -19,6 +19,7 @@ use Rattle.machine.specs.declared.Stepped.{Stepped}
 
 -- ---- the single step
 
+-- what a step says, by the status that it leaves
 unfoldable pub saying : Status → Said
 saying Status.Running = Said.GoesOn
 saying (Status.Ended e) = Said.Ended e
@@ -34,6 +35,7 @@ unfoldable pub stepIn : Program → State → Status → Stepped
 stepIn P s Status.Running = settled s (advance P s)
 stepIn P s (Status.Ended e) = record { state = s; said = Said.Ended e }
 
+-- Steps: the single step
 unfoldable pub stepOf : Program → State → Stepped
 stepOf P s = stepIn P s (s .status)
 
@@ -73,12 +75,12 @@ unfoldable pub budgetOf : Program → State → ℕ → List ℤ → Ran
 budgetOf P s n buffer = elim (longEnough buffer) [ true ↦ budgetIn P s n (s .status) | false ↦ record { state = s; answer = Answer.Refused 13 0; steps = 0 } ]
 
 -- the items that an answer writes
-unfoldable pub written : State → Answer → List ℤ
-written s (Answer.Refused q p) = []
-written s Answer.Steps = []
-written s (Answer.Ended e) = elim e [ End.Integer z ↦ [] | End.Vector n ↦ take n (s .result) | End.Undef ↦ [] | End.Deep ↦ [] | End.Vectors ↦ [] | End.Promises ↦ [] ]
-written s Answer.Stuck = []
+unfoldable pub written : List ℤ → Answer → List ℤ
+written xs (Answer.Refused q p) = []
+written xs Answer.Steps = []
+written xs (Answer.Ended e) = elim e [ End.Integer z ↦ [] | End.Vector n ↦ take n xs | End.Undef ↦ [] | End.Deep ↦ [] | End.Vectors ↦ [] | End.Promises ↦ [] ]
+written xs Answer.Stuck = []
 
 -- the lent buffer after a budget: the items from the place 0 on, all else stays
 unfoldable pub bufferOf : Ran → List ℤ → List ℤ
-bufferOf r buffer = over (written (r .state) (r .answer)) buffer
+bufferOf r buffer = over (written (r .state .result) (r .answer)) buffer

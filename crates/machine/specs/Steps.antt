@@ -132,6 +132,7 @@ pub record Here : Type 0 where
   pub version : Version
   pub block : Block
 
+-- where the run of s stands. Stuck: a state that points outside itself or its image
 unfoldable pub here : Program → State → Try Here
 here P s = do
   a ← at (liveActivations s) (s .depth - 1)
@@ -145,16 +146,18 @@ pub data Position : Type 0 where
   instruction : Instr → Position
   blockEnd outside : Position
 
+-- what stands at the number n among these instructions: one of them, their end, or neither
 unfoldable pub position : List Line → ℕ → Position
 position [] zero = blockEnd
 position [] (suc n) = outside
 position (l ∷ ls) zero = instruction (l .does)
 position (l ∷ ls) (suc n) = position ls n
 
--- a block has at most 48 instructions
+-- where a run stands in its block, of which the first 48 instructions count: a block of an accepted image has no more
 unfoldable pub positionOf : Here → Position
 positionOf h = position (take INSTRUCTIONS (h .block .code)) (h .activation .next)
 
+-- one instruction or one block end is one step. Stuck: at neither
 unfoldable pub proceed : Program → State → Here → Position → Try State
 proceed P s h (instruction i) = execute P (passed s (h .activation)) (h .activation .frame) (h .frame) (h .version) i
 proceed P s h blockEnd = do

@@ -27,10 +27,12 @@ got a >> t = t
 stuck >> t = stuck
 stop e >> t = stop e
 
+-- go on if the test holds, else stuck
 unfoldable pub stuckUnless : Bool → Try (Unit {0})
 stuckUnless true = got tt
 stuckUnless false = stuck
 
+-- go on if the test holds, else stop with the end e
 unfoldable pub endUnless : End → Bool → Try (Unit {0})
 endUnless e true = got tt
 endUnless e false = stop e

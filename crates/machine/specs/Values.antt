@@ -9,12 +9,17 @@ use Rattle.layout.specs.Records.{choose}
 use Rattle.machine.specs.Try.{Try, got, stuck, stop, _>>_, endUnless}
 use Rattle.machine.specs.declared.End.{End}
 
+-- Values and types: integers from −2,147,483,648 to 2,147,483,647; one more than the greatest
+abbrev pub RANGE : ℕ
+RANGE = 2147483648
+
 -- UNDEF: integer result out of range; `mag` is n both for n and for −(n + 1)
 unfoldable pub ranged : ℤ → Try ℤ
 ranged z = do
-  endUnless End.Undef (ltb (mag z) 2147483648)
+  endUnless End.Undef (ltb (mag z) RANGE)
   got z
 
+-- is it 0?
 unfoldable pub isZero : ℤ → Bool
 isZero (pos n) = eqb n 0
 isZero (negsuc n) = false

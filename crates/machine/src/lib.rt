@@ -145,6 +145,11 @@ enum Referent {
     Promise(u8),
 }
 
+impl Vector {
+    /// The most items of a vector, and the fewest places of a result buffer.
+    pub const ITEMS: usize = 16;
+}
+
 impl Frame {
     /// How many registers a frame has.
     pub const REGISTERS: usize = 16;

@@ -10,13 +10,14 @@ use lib.Seq.{getD-set-same, getD-set-other}
 use lib.Dec.{ltb}
 use borrow.Author.Tests.{lt-ltb, le-ltb, ltb-true, ltb-false}
 use Rattle.layout.specs.Records.{_!_}
+use Rattle.layout.proofs.Lists.{get-take, take-none}
 use Rattle.machine.specs.Try.{got, stuck, _>>=_, _>>_, at, put, orStuck, stuckUnless}
 use Rattle.machine.specs.States.{place, liveFrames, register, named, withStack, withFrame, withRegister, withName, assign, store}
 use Rattle.machine.specs.declared.Value.{Value}
 use Rattle.memory.specs.Lists.{upTo}
 use Rattle.memory.specs.Memory.{Memory, valueOf, cellIn, registersIn, namesIn, frameIn, framesOf, stateOf}
 use Rattle.memory.specs.Parts.{registerIn, nameIn, withCells}
-use Rattle.memory.proofs.Lists.{length-upTo, getElem?-upTo, missing-upTo, upTo-same, set-upTo-by, get-take, missing-take}
+use Rattle.memory.proofs.Lists.{length-upTo, getElem?-upTo, missing-upTo, upTo-same, set-upTo-by}
 
 -- ---- live frames
 
@@ -27,7 +28,7 @@ module _ (M : Memory) (k : ℕ) where
 
   pub frame-dead : M .calls ≤ k → at (liveFrames (stateOf M)) k ≡ stuck
   unfolding at orStuck liveFrames stateOf framesOf
-  frame-dead h = rw (missing-take (upTo (frameIn (M .owners) (M .codes) (M .numbers)) 0 32) (M .calls) k h) refl
+  frame-dead h = rw (take-none (upTo (frameIn (M .owners) (M .codes) (M .numbers)) 0 32) (M .calls) k h) refl
 
   pub frame-outside : 32 ≤ k → at (liveFrames (stateOf M)) k ≡ stuck
   unfolding at orStuck liveFrames stateOf framesOf

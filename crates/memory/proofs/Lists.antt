@@ -1,6 +1,6 @@
 -- Lists by a rule: what stands at a place, what a write makes of them, how many pass.
 use mathlib.Core.Path.{_≡_, refl, sym, ap, _∙_}
-use mathlib.Core.List.{List, [], _∷_}
+use mathlib.Core.List.{_∷_}
 use mathlib.Core.Option.{none, some}
 use mathlib.Core.Bool.{Bool, true, false, cond, not, _||_}
 use Prim.Native.Nat.{ℕ, zero, suc, _+_, _-_, _≤_, _<_}
@@ -95,22 +95,6 @@ set-upTo-by f g n i x e h =
 
 pub set-upTo : {A : Type 0} (f : ℕ → A) (n i : ℕ) (x : A) → set (upTo f 0 n) i x ≡ upTo (λ j. cond (eqb j i) x (f j)) 0 n
 set-upTo f n i x = set-upTo-by f (λ j. cond (eqb j i) x (f j)) n i x (rw (eq-eqb i i refl) refl) (λ j b q. rw (ne-eqb j i q) refl)
-
--- ---- the first m of a list
-
-pub get-take : {A : Type 0} (l : List A) (m k : ℕ) → k < m → getElem? (take m l) k ≡ getElem? l k
-get-take [] zero k h = refl
-get-take [] (suc m) k h = refl
-get-take (x ∷ l) zero k h = absurd (not-suc-le-zero h)
-get-take (x ∷ l) (suc m) zero h = refl
-get-take (x ∷ l) (suc m) (suc k) h = get-take l m k (le-of-suc-le-suc h)
-
-pub missing-take : {A : Type 0} (l : List A) (m k : ℕ) → m ≤ k → getElem? (take m l) k ≡ none
-missing-take [] zero k h = refl
-missing-take [] (suc m) k h = refl
-missing-take (x ∷ l) zero k h = refl
-missing-take (x ∷ l) (suc m) zero h = absurd (not-suc-le-zero h)
-missing-take (x ∷ l) (suc m) (suc k) h = missing-take l m k (le-of-suc-le-suc h)
 
 -- ---- what passes
 

@@ -4,12 +4,13 @@ use mathlib.Core.List.{List}
 use mathlib.Core.Bool.{Bool, true, false, cond, not, _||_}
 use Prim.Native.Nat.{ℕ, _+_, _-_, _*_, _≤_, _<_}
 use native.Mathlib.Omega.{arith}
-use lib.ListN.{length, set}
+use lib.ListN.{length, length-set, set}
 use lib.Seq.{getD-set-same, getD-set-other}
 use lib.Dec.{eqb, ltb}
 use borrow.Author.Tests.{lt-ltb, le-ltb, ltb-true, ltb-false, eq-eqb, ne-eqb}
 use Rattle.layout.specs.Records.{_!_}
 use Rattle.layout.specs.Tests.{_and_, any}
+use Rattle.layout.proofs.Lists.{get-take, take-none}
 use Rattle.machine.specs.Try.{got, stuck, stop, _>>_, at, orStuck, endUnless}
 use Rattle.machine.specs.States.{liveActivations, isForce, pending, withStack}
 use Rattle.machine.specs.Calls.{opened, passed}
@@ -18,8 +19,8 @@ use Rattle.machine.specs.declared.End.{End}
 use Rattle.machine.specs.declared.Opener.{Opener}
 use Rattle.memory.specs.Lists.{upTo, countTo}
 use Rattle.memory.specs.Memory.{Memory, openerOf, activationIn, framesOf, stateOf}
-use Rattle.memory.specs.Parts.{withOpen}
-use Rattle.memory.proofs.Lists.{getElem?-upTo, missing-upTo, take-upTo, take-all-upTo, get-take, missing-take, set-upTo-by, any-upTo, countTo-same, countTo-none, countTo-step, countTo-around}
+use Rattle.memory.specs.Parts.{withOpen, pushed}
+use Rattle.memory.proofs.Lists.{getElem?-upTo, missing-upTo, take-upTo, take-all-upTo, set-upTo-by, any-upTo, countTo-same, countTo-none, countTo-step, countTo-around}
 use Rattle.memory.proofs.Counts.{either}
 
 -- ---- live activations
@@ -38,7 +39,7 @@ module _ (M : Memory) where
 
   pub activation-none : M .depth ≡ 0 → at (liveActivations (stateOf M)) (M .depth - 1) ≡ stuck
   unfolding at orStuck liveActivations stateOf
-  activation-none e = rw (missing-take (upTo (activationIn (M .stack)) 0 32) (M .depth) (M .depth - 1) (omega arith)) refl
+  activation-none e = rw (take-none (upTo (activationIn (M .stack)) 0 32) (M .depth) (M .depth - 1) (omega arith)) refl
 
   pub activation-deep : 32 < M .depth → at (liveActivations (stateOf M)) (M .depth - 1) ≡ stuck
   unfolding at orStuck liveActivations stateOf
@@ -184,3 +185,57 @@ module _ (M : Memory) (p : ℕ) where
   pub pending-live : M .depth ≤ 32 → pending (stateOf M) p ≡ pendingIn (M .stack) p (M .depth)
   unfolding pending liveActivations stateOf
   pending-live h = rw (take-upTo (activationIn (M .stack)) 32 (M .depth) h) (pending-first (M .stack) p (M .depth))
+
+-- ---- one more activation, by its six numbers
+
+module _ (s : List ℕ) (i o p d f b : ℕ) where
+  abbrev l1 : List ℕ
+  l1 = set s (6 * i) o
+
+  abbrev l2 : List ℕ
+  l2 = set l1 (6 * i + 1) p
+
+  abbrev l3 : List ℕ
+  l3 = set l2 (6 * i + 2) d
+
+  abbrev l4 : List ℕ
+  l4 = set l3 (6 * i + 3) f
+
+  abbrev l5 : List ℕ
+  l5 = set l4 (6 * i + 4) b
+
+  abbrev l6 : List ℕ
+  l6 = set l5 (6 * i + 5) 0
+
+  pub length-pushed : length (pushed s i o p d f b) ≡ length s
+  unfolding pushed
+  length-pushed = simp length-set
+
+  pushed-other : (j : ℕ) → ((r : ℕ) → r < 6 → j ≡ 6 * i + r → ⊥) → pushed s i o p d f b ! j ≡ s ! j
+  unfolding pushed
+  pushed-other j h =
+      let z : j ≡ 6 * i → ⊥ = λ e. h 0 (omega arith) (omega arith) in
+      getD-set-other l5 (6 * i + 5) j 0 0 (h 5 (omega arith)) ∙ getD-set-other l4 (6 * i + 4) j b 0 (h 4 (omega arith)) ∙ getD-set-other l3 (6 * i + 3) j f 0 (h 3 (omega arith))
+      ∙ getD-set-other l2 (6 * i + 2) j d 0 (h 2 (omega arith)) ∙ getD-set-other l1 (6 * i + 1) j p 0 (h 1 (omega arith)) ∙ getD-set-other s (6 * i) j o 0 z
+
+  pub pushed-below : (j : ℕ) → (j ≡ i → ⊥) → activationIn (pushed s i o p d f b) j ≡ activationIn s j
+  pushed-below j q = activation-same s (pushed s i o p d f b) j (λ r g. pushed-other (6 * j + r) (λ t l e. q (omega arith)))
+
+  pub pushed-top : 6 * i + 5 < length s → activationIn (pushed s i o p d f b) i ≡ record { opener = openerOf o p; d = d; frame = f; block = b; next = 0 }
+  unfolding activationIn pushed
+  pushed-top h =
+      let m1 : length l1 ≡ length s = simp length-set in
+      let m2 : length l2 ≡ length s = simp length-set in
+      let m3 : length l3 ≡ length s = simp length-set in
+      let m4 : length l4 ≡ length s = simp length-set in
+      let m5 : length l5 ≡ length s = simp length-set in
+      let e5 : l6 ! (6 * i + 5) ≡ 0 = getD-set-same l5 (6 * i + 5) 0 0 (omega arith) in
+      let e4 : l6 ! (6 * i + 4) ≡ b = getD-set-other l5 (6 * i + 5) (6 * i + 4) 0 0 (λ z. omega arith) ∙ getD-set-same l4 (6 * i + 4) b 0 (omega arith) in
+      let e3 : l6 ! (6 * i + 3) ≡ f = getD-set-other l5 (6 * i + 5) (6 * i + 3) 0 0 (λ z. omega arith) ∙ getD-set-other l4 (6 * i + 4) (6 * i + 3) b 0 (λ z. omega arith) ∙ getD-set-same l3 (6 * i + 3) f 0 (omega arith) in
+      let e2 : l6 ! (6 * i + 2) ≡ d = getD-set-other l5 (6 * i + 5) (6 * i + 2) 0 0 (λ z. omega arith) ∙ getD-set-other l4 (6 * i + 4) (6 * i + 2) b 0 (λ z. omega arith) ∙ getD-set-other l3 (6 * i + 3) (6 * i + 2) f 0 (λ z. omega arith)
+      ∙ getD-set-same l2 (6 * i + 2) d 0 (omega arith) in
+      let e1 : l6 ! (6 * i + 1) ≡ p = getD-set-other l5 (6 * i + 5) (6 * i + 1) 0 0 (λ z. omega arith) ∙ getD-set-other l4 (6 * i + 4) (6 * i + 1) b 0 (λ z. omega arith) ∙ getD-set-other l3 (6 * i + 3) (6 * i + 1) f 0 (λ z. omega arith)
+      ∙ getD-set-other l2 (6 * i + 2) (6 * i + 1) d 0 (λ z. omega arith) ∙ getD-set-same l1 (6 * i + 1) p 0 (omega arith) in
+      let e0 : l6 ! (6 * i) ≡ o = getD-set-other l5 (6 * i + 5) (6 * i) 0 0 (λ z. omega arith) ∙ getD-set-other l4 (6 * i + 4) (6 * i) b 0 (λ z. omega arith) ∙ getD-set-other l3 (6 * i + 3) (6 * i) f 0 (λ z. omega arith)
+      ∙ getD-set-other l2 (6 * i + 2) (6 * i) d 0 (λ z. omega arith) ∙ getD-set-other l1 (6 * i + 1) (6 * i) p 0 (λ z. omega arith) ∙ getD-set-same s (6 * i) o 0 (omega arith) in
+      λ t. record { opener = openerOf (e0 t) (e1 t); d = e2 t; frame = e3 t; block = e4 t; next = e5 t }

@@ -31,15 +31,19 @@ valueOf c z =
     (cond (ltb c 512) (Value.Vector (c - 256))
     (cond (ltb c 768) (Value.Promise (c - 512)) Value.Empty)))
 
+-- the value of the cell i
 unfoldable pub cellIn : List ℕ → List ℤ → ℕ → Value
 cellIn codes numbers i = valueOf (codes ! i) (getD numbers i (pos 0))
 
+-- the registers of the frame k
 unfoldable pub registersIn : List ℕ → List ℤ → ℕ → List Place
 registersIn codes numbers k = upTo (λ r. place (cellIn codes numbers (24 * k + r))) 0 REGISTERS
 
+-- the names of the frame k
 unfoldable pub namesIn : List ℕ → List ℤ → ℕ → List Place
 namesIn codes numbers k = upTo (λ x. place (cellIn codes numbers (24 * k + (16 + x)))) 0 NAMES
 
+-- the frame k; its owners are the function and the version that it is of
 unfoldable pub frameIn : List ℕ → List ℕ → List ℤ → ℕ → Frame
 frameIn owners codes numbers k = record {
   function = owners ! (2 * k);
@@ -54,6 +58,7 @@ frameIn owners codes numbers k = record {
 unfoldable pub openerOf : ℕ → ℕ → Opener
 openerOf o p = cond (eqb o 0) Opener.Call (Opener.Force p)
 
+-- the activation i
 unfoldable pub activationIn : List ℕ → ℕ → Activation
 activationIn stack i = record {
   opener = openerOf (stack ! (6 * i)) (stack ! (6 * i + 1));
@@ -65,13 +70,19 @@ activationIn stack i = record {
 
 -- ---- vectors: 16 items each; promises: 3 numbers each, and what is cached
 
+-- the item j of the vector v
+abbrev pub itemIn : List ℤ → ℕ → ℕ → ℤ
+itemIn items v j = getD items (16 * v + j) (pos 0)
+
+-- the vector v
 unfoldable pub vectorIn : List ℕ → List ℤ → ℕ → Vector
-vectorIn lengths items v = record { length = lengths ! v; items = upTo (λ j. getD items (16 * v + j) (pos 0)) 0 ITEMS }
+vectorIn lengths items v = record { length = lengths ! v; items = upTo (itemIn items v) 0 ITEMS }
 
 -- 0 is not forced
 unfoldable pub cacheOf : ℕ → ℤ → Cache
 cacheOf c z = cond (eqb c 0) Cache.Unforced (Cache.Forced z)
 
+-- the promise p
 unfoldable pub promiseIn : List ℕ → List ℤ → ℕ → Promise
 promiseIn promises caches p = record {
   frame = promises ! (3 * p);
@@ -81,6 +92,7 @@ promiseIn promises caches p = record {
 
 -- ---- the whole
 
+-- the arrays, the numbers of live calls and activations, and the result
 pub record Memory : Type 0 where
   pub owners : List ℕ
   pub codes : List ℕ
@@ -94,6 +106,7 @@ pub record Memory : Type 0 where
   pub caches : List ℤ
   pub result : List ℤ
 
+-- the frames, live or not
 unfoldable pub framesOf : Memory → List Frame
 framesOf M = upTo (frameIn (M .owners) (M .codes) (M .numbers)) 0 ACTIVATIONS
 

@@ -1,14 +1,14 @@
 -- What the parts of a step answer, over flat arrays, and what that says of the step.
 use mathlib.Core.List.{List}
 use mathlib.Core.Path.{_≡_}
-use mathlib.Core.Bool.{Bool, true, false, cond, not}
+use mathlib.Core.Bool.{cond}
 use Prim.Native.Nat.{ℕ, _+_, _*_}
 use lib.IntN.{ℤ}
+use lib.ListN.{set}
 use lib.Dec.{eqb, ltb}
 use Rattle.layout.specs.Bounds.{REGISTERS, NAMES}
 use Rattle.layout.specs.Records.{_!_}
-use Rattle.machine.specs.Try.{Try, got, stuck, stop, _>>=_}
-use Rattle.machine.specs.States.{anInteger, aVector, aPromise, full, isSet, noPromise}
+use Rattle.machine.specs.Try.{Try, got, stuck, stop}
 use Rattle.machine.specs.declared.End.{End}
 use Rattle.machine.specs.declared.State.{State}
 use Rattle.machine.specs.declared.Value.{Value}
@@ -23,9 +23,11 @@ use Rattle.memory.specs.declared.Whole.{Whole}
 
 -- ---- operands of the frame k
 
+-- what the register r holds; stuck where there is none
 unfoldable pub registerIn : List ℕ → List ℤ → ℕ → ℕ → Try Value
 registerIn codes numbers k r = cond (ltb r REGISTERS) (got (cellIn codes numbers (24 * k + r))) stuck
 
+-- what the name x holds; stuck where there is none
 unfoldable pub nameIn : List ℕ → List ℤ → ℕ → ℕ → Try Value
 nameIn codes numbers k x = cond (ltb x NAMES) (got (cellIn codes numbers (24 * k + (16 + x)))) stuck
 
@@ -79,6 +81,7 @@ Does (Did.Stop h) M N t = (t ≡ stop (endOf h)) × (N ≡ M)
 
 -- ---- memory with some of its parts anew
 
+-- memory with these cells
 unfoldable pub withCells : Memory → List ℕ → List ℤ → Memory
 withCells M codes numbers = record {
   owners = M .owners;
@@ -94,6 +97,7 @@ withCells M codes numbers = record {
   result = M .result;
 }
 
+-- memory with these vectors
 unfoldable pub withVectors : Memory → List ℕ → List ℤ → Memory
 withVectors M lengths items = record {
   owners = M .owners;
@@ -109,6 +113,7 @@ withVectors M lengths items = record {
   result = M .result;
 }
 
+-- memory with these promises
 unfoldable pub withPromises : Memory → List ℕ → List ℤ → Memory
 withPromises M promises caches = record {
   owners = M .owners;
@@ -124,6 +129,7 @@ withPromises M promises caches = record {
   result = M .result;
 }
 
+-- memory with these owners and this stack, and these numbers of live calls and activations
 unfoldable pub withOpen : Memory → List ℕ → ℕ → List ℕ → ℕ → Memory
 withOpen M owners calls stack depth = record {
   owners = owners;
@@ -142,3 +148,7 @@ withOpen M owners calls stack depth = record {
 -- memory with these numbers of live calls and activations
 unfoldable pub withLive : Memory → ℕ → ℕ → Memory
 withLive M calls depth = withOpen M (M .owners) calls (M .stack) depth
+
+-- the stack with one more activation, at its first instruction
+unfoldable pub pushed : List ℕ → ℕ → ℕ → ℕ → ℕ → ℕ → ℕ → List ℕ
+pushed stack i o p d frame block = set (set (set (set (set (set stack (6 * i) o) (6 * i + 1) p) (6 * i + 2) d) (6 * i + 3) frame) (6 * i + 4) block) (6 * i + 5) 0

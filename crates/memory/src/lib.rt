@@ -1,6 +1,7 @@
 //! The state of a run as flat arrays of numbers, which a step reads and writes in place. No function passes a whole state.
 ghost use mathlib.Core.Path.{_≡_};
-ghost use Rattle.memory.specs.Parts.{endOf};
+ghost use Prim.Native.Nat.{_<_};
+ghost use Rattle.memory.specs.Parts.{endOf, pushed};
 use machine::End;
 
 /// What stops a step.
@@ -41,4 +42,17 @@ pub fn end_of(halt: Halt) -> End
         Halt::Vectors => End::Vectors,
         Halt::Promises => End::Promises,
     }
+}
+
+/// Puts one more activation on a stack of `depth`, at its first instruction. The loop's own part: it has asked for the depth.
+pub fn push(stack: &mut [u8; 192], depth: usize, o: u8, p: u8, d: u8, frame: u8, block: u8)
+    requires { ⌜ depth < 32 ⌝ }
+    ensures { λ _. ⌜ now (stack .exit) ≡ pushed (now (stack .entry)) depth o p d frame block ⌝ }
+{
+    stack[6 * depth] = o;
+    stack[6 * depth + 1] = p;
+    stack[6 * depth + 2] = d;
+    stack[6 * depth + 3] = frame;
+    stack[6 * depth + 4] = block;
+    stack[6 * depth + 5] = 0;
 }

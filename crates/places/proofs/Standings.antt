@@ -2,22 +2,19 @@
 use mathlib.Core.Path.{_≡_, refl, sym, ap, _∙_}
 use mathlib.Core.List.{List, [], _∷_}
 use mathlib.Core.Option.{none, some}
-use mathlib.Core.Bool.{Bool, true, false, cond, not, true≢false}
+use mathlib.Core.Bool.{Bool, true, false, cond}
 use Prim.Native.Nat.{ℕ, zero, suc, _+_, _-_, _*_, _≤_, _<_}
 use native.Mathlib.Nat.{not-suc-le-zero, le-of-suc-le-suc}
 use native.Mathlib.Omega.{arith}
 use lib.ListN.{length, getElem?, set, take, drop, length-drop}
 use lib.Seq.{getD-set-same, getD-set-other, take-all, drop-drop}
-use lib.Dec.{ltb, eqb}
-use borrow.Author.Tests.{ltb-true, ltb-false, eqb-true, eqb-false, not-true}
 use Rattle.layout.specs.Kinds as kind
-use Rattle.layout.specs.Records.{_!_, sizeAt, kindAt, recAt}
+use Rattle.layout.specs.Records.{_!_, recAt}
 use Rattle.layout.specs.Tests.{_and_}
 use Rattle.layout.specs.declared.Found.the-variants.{Nothing, At}
-use Rattle.layout.proofs.Bools.{and-both}
-use Rattle.program.specs.Places.{blockAt, instrAt, past, versionAt, viewAt}
+use Rattle.program.specs.Places.{blockAt, instrAt, past, versionAt, viewAt, isLine}
 use Rattle.program.specs.Program.{Block, Line, Program, Version, findVersion, lineOf}
-use Rattle.program.proofs.Views.{at-version, at-block, at-line, view-end, view-past}
+use Rattle.program.proofs.Views.{line-view, line-none}
 use Rattle.machine.specs.Begin.{programOf}
 use Rattle.machine.specs.Calls.{finish, passed}
 use Rattle.machine.specs.States.{liveActivations, liveFrames, value}
@@ -28,47 +25,13 @@ use Rattle.machine.specs.declared.Frame.{Frame}
 use Rattle.machine.specs.declared.State.{State}
 use Rattle.machine.specs.declared.Value.{Value}
 use Rattle.memory.specs.Memory.{Memory, activationIn, frameIn, stateOf}
-use Rattle.places.specs.Standing.{Standing, isLine, skipped, topOf}
+use Rattle.places.specs.Standing.{Standing, skipped, topOf}
 use Rattle.places.specs.declared.Spot.{Spot}
-use Rattle.places.proofs.Live.{at-some, at-none, frame-read, frame-dead, frame-none, top-read, top-none, top-far}
+use Rattle.machine.proofs.Tries.{at-some, at-none}
+use Rattle.memory.proofs.Frames.{frame-live, frame-dead, frame-outside}
+use Rattle.memory.proofs.Stack.{activation-live, activation-none, activation-deep}
 
 -- ---- the instructions ahead of an offset
-
--- an instruction's record: inside, whole, and neither a VERSION nor a BLOCK
-pub record Lined (s : List ℕ) (p : ℕ) : Type 0 where
-  pub inside : p < length s
-  pub whole : sizeAt s p ≡ 0 → ⊥
-  pub noVersion : kindAt s p ≡ kind.VERSION → ⊥
-  pub noBlock : kindAt s p ≡ kind.BLOCK → ⊥
-
-pub is-lined : (s : List ℕ) (p : ℕ) → isLine s p ≡ true → Lined s p
-unfolding isLine
-is-lined s p e =
-    let a = and-both _ _ e in
-    let b = and-both _ _ (a .1) in
-    let c = and-both _ _ (b .1) in
-    record {
-      inside = ltb-true _ _ (a .0);
-      whole = eqb-false _ _ (not-true _ (b .0));
-      noVersion = eqb-false _ _ (not-true _ (c .0));
-      noBlock = eqb-false _ _ (not-true _ (c .1));
-    }
-
-pub line-view : (s : List ℕ) (p : ℕ) → isLine s p ≡ true → viewAt s p .code ≡ lineOf (recAt s p) ∷ viewAt s (past s p) .code
-line-view s p e =
-    let l = is-lined s p e in
-    rw (at-line (record { inside = l .inside; size = refl; whole = l .whole; kind = refl }) (l .noVersion) (l .noBlock))
-
-pub line-none : (s : List ℕ) (p : ℕ) → isLine s p ≡ false → viewAt s p .code ≡ []
-unfolding isLine _and_
-line-none s p = go (ltb p (length s)) (eqb (sizeAt s p) 0) (eqb (kindAt s p) kind.VERSION) (eqb (kindAt s p) kind.BLOCK) refl refl refl refl
-  where
-    go : (a b c d : Bool) → ltb p (length s) ≡ a → eqb (sizeAt s p) 0 ≡ b → eqb (kindAt s p) kind.VERSION ≡ c → eqb (kindAt s p) kind.BLOCK ≡ d → (a and not b and not c and not d) ≡ false → viewAt s p .code ≡ []
-    go false b c d ea eb ec ed e = rw (view-end s p (ltb-false _ _ ea))
-    go true true c d ea eb ec ed e = rw (view-past s p (eqb-true _ _ eb))
-    go true false true d ea eb ec ed e = rw (at-version (record { inside = ltb-true _ _ ea; size = refl; whole = eqb-false _ _ eb; kind = refl }) (eqb-true _ _ ec))
-    go true false false true ea eb ec ed e = rw (at-block (record { inside = ltb-true _ _ ea; size = refl; whole = eqb-false _ _ eb; kind = refl }) (eqb-true _ _ ed))
-    go true false false false ea eb ec ed e = absurd (true≢false e)
 
 pub skip-ahead : (s : List ℕ) (p n q : ℕ) → skipped s p n ≡ At q → (viewAt s q .code ≡ drop n (viewAt s p .code)) × (n ≤ length (viewAt s p .code))
 unfolding skipped
@@ -215,12 +178,12 @@ VersionIs s M k v = findVersion (programOf s) (M .owners ! (2 * k)) (M .owners !
 
 top-there : (M : Memory) → 0 < M .depth → M .depth ≤ 32 → at (liveActivations (stateOf M)) (stateOf M .depth - 1) ≡ got (topIn M)
 unfolding stateOf
-top-there M h g = top-read M h g
+top-there M h g = activation-live M h g
 
 module _ {M : Memory} {k : ℕ} (q : Framed M k) where
   frame-there : at (liveFrames (stateOf M)) (topIn M .frame) ≡ got (framedIn M k)
   unfolding activationIn topOf
-  frame-there = ap (λ x. at (liveFrames (stateOf M)) x) (sym (q .framed)) ∙ frame-read M k (q .live) (q .few)
+  frame-there = ap (λ x. at (liveFrames (stateOf M)) x) (sym (q .framed)) ∙ frame-live M k (q .live) (q .few)
 
   reaches : (s : List ℕ) (v b : ℕ) → VersionIs s M k v → getElem? (versionAt s v .blocks) (topOf M 4) ≡ some (blockAt s b) → here (programOf s) (stateOf M) ≡ got (hereAt s M k v b)
   unfolding activationIn frameIn topOf
@@ -231,11 +194,11 @@ module _ {M : Memory} {k : ℕ} (q : Framed M k) where
 module _ (s : List ℕ) (M : Memory) where
   pub stuck-idle : M .depth ≡ 0 → advance (programOf s) (stateOf M) ≡ stuck
   unfolding stateOf
-  stuck-idle h = advance-stuck (programOf s) (stateOf M) (here-idle (programOf s) (stateOf M) (top-none M h))
+  stuck-idle h = advance-stuck (programOf s) (stateOf M) (here-idle (programOf s) (stateOf M) (activation-none M h))
 
   pub stuck-deep : 32 < M .depth → advance (programOf s) (stateOf M) ≡ stuck
   unfolding stateOf
-  stuck-deep h = advance-stuck (programOf s) (stateOf M) (here-idle (programOf s) (stateOf M) (top-far M h))
+  stuck-deep h = advance-stuck (programOf s) (stateOf M) (here-idle (programOf s) (stateOf M) (activation-deep M h))
 
   module _ (begun : 0 < M .depth) (shallow : M .depth ≤ 32) where
     pub stuck-dead : M .calls ≤ topOf M 3 → advance (programOf s) (stateOf M) ≡ stuck
@@ -244,7 +207,7 @@ module _ (s : List ℕ) (M : Memory) where
 
     pub stuck-unframed : 32 ≤ topOf M 3 → advance (programOf s) (stateOf M) ≡ stuck
     unfolding activationIn topOf
-    stuck-unframed h = advance-stuck (programOf s) (stateOf M) (here-unframed (programOf s) (stateOf M) (topIn M) (top-there M begun shallow) (frame-none M (topIn M .frame) h))
+    stuck-unframed h = advance-stuck (programOf s) (stateOf M) (here-unframed (programOf s) (stateOf M) (topIn M) (top-there M begun shallow) (frame-outside M (topIn M .frame) h))
 
     module _ (k : ℕ) (framed : k ≡ topOf M 3) (live : k < M .calls) (few : k < 32) where
       in-frame : Framed M k

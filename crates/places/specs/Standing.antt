@@ -2,16 +2,15 @@
 use mathlib.Core.List.{List}
 use mathlib.Core.Path.{_≡_}
 use mathlib.Core.Option.{some}
-use mathlib.Core.Bool.{Bool, true, false, cond, not}
+use mathlib.Core.Bool.{Bool, true, false, cond}
 use Prim.Native.Nat.{ℕ, zero, suc, _+_, _-_, _*_, _<_, _≤_}
 use lib.ListN.{length, getElem?, drop}
-use lib.Dec.{eqb, ltb}
 use Rattle.layout.specs.Kinds as kind
-use Rattle.layout.specs.Records.{_!_, sizeAt, kindAt}
+use Rattle.layout.specs.Records.{_!_}
 use Rattle.layout.specs.Tests.{_and_}
 use Rattle.layout.specs.declared.Found.{Found}
 use Rattle.layout.specs.declared.Found.the-variants.{Nothing, At}
-use Rattle.program.specs.Places.{blockAt, past, versionAt, viewAt}
+use Rattle.program.specs.Places.{blockAt, past, versionAt, viewAt, isLine}
 use Rattle.program.specs.Program.{findVersion}
 use Rattle.machine.specs.Begin.{programOf}
 use Rattle.machine.specs.Steps.{advance}
@@ -19,10 +18,6 @@ use Rattle.machine.specs.Try.{stuck}
 use Rattle.memory.specs.Memory.{Memory, stateOf}
 use Rattle.memory.specs.Parts.{withOpen}
 use Rattle.places.specs.declared.Spot.{Spot}
-
--- an instruction's record stands at p
-unfoldable pub isLine : List ℕ → ℕ → Bool
-isLine s p = ltb p (length s) and not (eqb (sizeAt s p) 0) and not (eqb (kindAt s p) kind.VERSION) and not (eqb (kindAt s p) kind.BLOCK)
 
 -- where n instructions from p on end
 unfoldable pub skipped : List ℕ → ℕ → ℕ → Found
@@ -52,14 +47,16 @@ unfoldable pub Stands : List ℕ → Memory → Spot → Bool → Type 0
 Stands s M p true = Standing s M p
 Stands s M p false = advance (programOf s) (stateOf M) ≡ stuck
 
+-- the spot p is where the run of the memory M stands
 pub record Spotted (s : List ℕ) (M : Memory) (p : Spot) : Type 0 where
   pub calls : p .calls ≡ M .calls
   pub depth : p .depth ≡ M .depth
   pub stands : Stands s M p (p .here)
 
--- whatever else the memory holds
+-- the spot p is where a run stands with these owners and this stack, whatever else the memory holds
 unfoldable pub Located : List ℕ → List ℕ → ℕ → List ℕ → ℕ → Spot → Type 0
 Located s owners calls stack depth p = (M : Memory) → Spotted s (withOpen M owners calls stack depth) p
 
+-- the spot of a run that stands at no instruction and no block end
 unfoldable pub nowhere : ℕ → ℕ → Spot
 nowhere calls depth = record { calls = calls; depth = depth; here = false; frame = 0; version = 0; block = 0; at = 0; next = 0 }

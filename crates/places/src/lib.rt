@@ -1,10 +1,12 @@
 //! Where a run stands in its image.
 //! Its functions serve the loop of the engine; what they require, the loop keeps.
+//! `table` is the image's index.
 ghost use mathlib.Core.Path.{_≡_};
-ghost use Prim.Native.Nat.{_<_};
 ghost use Rattle.index.specs.Indexed.{Indexed};
-ghost use Rattle.places.specs.Standing.{isLine, skipped, nowhere, Located};
+ghost use Rattle.places.specs.Standing.{skipped, nowhere, Located};
 use layout::Found;
+use layout::bounds;
+use program::lookup;
 
 /// Where a run stands: its live calls and activations, and `here` where it stands at an instruction or a block end:
 /// its frame, and the offsets of its version, its block and what is next, with the number of that in the block.
@@ -19,30 +21,6 @@ pub struct Spot {
     pub next: usize,
 }
 
-/// A byte as a number.
-fn wide(x: u8) -> usize
-    ensures { λ r. ⌜ (r ≡ x) × (r < 256) ⌝ }
-{
-    x as usize
-}
-
-/// Does an instruction's record stand at `p`?
-pub fn is_line(image: &[u8], p: usize) -> bool
-    ensures { λ r. ⌜ r ≡ isLine (now (image .entry)) p ⌝ }
-{
-    if image.len() <= p {
-        return false;
-    }
-    if layout::size_at(image, p) == 0 {
-        return false;
-    }
-    let k = layout::kind_at(image, p);
-    if k == layout::kinds::VERSION {
-        return false;
-    }
-    k != layout::kinds::BLOCK
-}
-
 /// Where `n` instructions from `from` on end.
 fn skip(image: &[u8], from: usize, n: usize) -> Found
     ensures { λ r. ⌜ r ≡ skipped (now (image .entry)) from n ⌝ }
@@ -50,7 +28,7 @@ fn skip(image: &[u8], from: usize, n: usize) -> Found
     let mut p = from;
     let mut left = n;
     while 0 < left {
-        if !is_line(image, p) {
+        if !lookup::is_line(image, p) {
             return Found::Nothing;
         }
         p += layout::size_at(image, p);
@@ -94,22 +72,26 @@ pub fn locate(
         return nowhere(calls, depth);
     }
     let top = depth - 1;
-    let f = wide(stack[6 * top + 3]);
+    let f = layout::wide(stack[6 * top + 3]);
     if calls <= f {
         return nowhere(calls, depth);
     }
     if 32 <= f {
         return nowhere(calls, depth);
     }
-    let Found::At(v) = index::version(image, table, wide(owners[2 * f]), wide(owners[2 * f + 1]))
-    else {
+    let Found::At(v) = index::version(
+        image,
+        table,
+        layout::wide(owners[2 * f]),
+        layout::wide(owners[2 * f + 1]),
+    ) else {
         return nowhere(calls, depth);
     };
-    let Found::At(b) = index::block(image, table, v, wide(stack[6 * top + 4])) else {
+    let Found::At(b) = index::block(image, table, v, layout::wide(stack[6 * top + 4])) else {
         return nowhere(calls, depth);
     };
-    let next = wide(stack[6 * top + 5]);
-    if 48 < next {
+    let next = layout::wide(stack[6 * top + 5]);
+    if bounds::INSTRUCTIONS < next {
         return nowhere(calls, depth);
     }
     let Found::At(p) = skip(image, b + layout::size_at(image, b), next) else {

@@ -1,16 +1,15 @@
 -- Question 7: registers that exist, and PROMs that name a block.
 use mathlib.Core.Path.{_≡_, refl, sym, ap, _∙_}
-use mathlib.Core.List.{List, [], _∷_, map}
-use mathlib.Core.Option.{Option, none, some}
+use mathlib.Core.List.{List}
 use mathlib.Core.Bool.{Bool, true, false, cond}
-use Prim.Native.Nat.{ℕ, zero, suc, _+_, _-_, _≤_, _<_}
+use Prim.Native.Nat.{ℕ, _+_, _-_, _≤_, _<_}
 use native.Mathlib.Nat.{zero-add}
 use native.Mathlib.Omega.{arith}
-use lib.ListN.{length, getElem?}
+use lib.ListN.{length}
 use lib.Dec.{ltb}
 use Rattle.layout.specs.Kinds as kind
 use Rattle.layout.specs.Tests.{all, count}
-use Rattle.layout.specs.Records.{_!_, every, kindAt, bodyAt, recAt, choose}
+use Rattle.layout.specs.Records.{_!_, every, bodyAt}
 use Rattle.layout.proofs.Fields.{length-every, all-map}
 use Rattle.layout.proofs.Rows.{Rows, choose-each}
 use Rattle.program.specs.Program.{Argument, Instr, Line, View, nowhere, arguments, instrOf}
@@ -18,6 +17,7 @@ use Rattle.program.proofs.Forms.{argument-registers}
 use Rattle.program.specs.Places.{viewAt, past, versionAt, blockAt, instrAt, blockPlace}
 use Rattle.program.specs.Questions.{namesBlock, namings}
 use Rattle.layout.specs.declared.Found.the-variants.{Nothing, At}
+use Rattle.layout.proofs.Lists.{none-past, get-in}
 use Rattle.program.proofs.Lookups.{block-found, block-missing}
 use Rattle.program.proofs.Views.{view-end, Whole, at-version, at-block, at-line}
 
@@ -27,22 +27,11 @@ pub registers-count : (s : List ℕ) (v : ℕ) → length (versionAt s v .types)
 unfolding versionAt
 registers-count s v = length-every (bodyAt s v) 6 1 (bodyAt s v ! 3)
 
--- a block that was looked up exists
-get-below : {A : Type 0} (l : List A) (i : ℕ) (x : A) → getElem? l i ≡ some x → i < length l
-get-below [] i x e = let z : _≡_ {A = ℕ} 0 1 = cc in absurd (omega arith)
-get-below (y ∷ l) zero x e = omega arith
-get-below (y ∷ l) (suc i) x e = omega (arith, get-below l i x e)
-
-get-none : {A : Type 0} (l : List A) (i : ℕ) → getElem? l i ≡ none → length l ≤ i
-get-none [] i e = omega arith
-get-none (y ∷ l) zero e = let z : _≡_ {A = ℕ} 0 1 = cc in absurd (omega arith)
-get-none (y ∷ l) (suc i) e = omega (arith, get-none l i e)
-
 pub block-exists : (s : List ℕ) (v b q : ℕ) → blockPlace s v b ≡ At q → b < length (versionAt s v .blocks)
-block-exists s v b q e = get-below (versionAt s v .blocks) b (blockAt s q) (block-found s v b q e)
+block-exists s v b q e = get-in (versionAt s v .blocks) b (blockAt s q) (blockAt s q) (block-found s v b q e) .0
 
 pub block-lacks : (s : List ℕ) (v b : ℕ) → blockPlace s v b ≡ Nothing → length (versionAt s v .blocks) ≤ b
-block-lacks s v b e = get-none (versionAt s v .blocks) b (block-missing s v b e)
+block-lacks s v b e = none-past (versionAt s v .blocks) b (block-missing s v b e)
 
 -- ---- PROMs that name a block
 

@@ -6,11 +6,11 @@ use Prim.Native.Nat.{ℕ, suc, _+_, _-_}
 use native.Mathlib.Omega.{arith}
 use lib.ListN.{length}
 use lib.Dec.{ltb, leb, eqb}
-use borrow.Author.Tests.{eqb-true, eqb-false, ltb-true, ne-eqb}
+use borrow.Author.Tests.{eqb-true, ltb-true, ne-eqb}
 use Rattle.layout.specs.Bounds.{FUNCTIONS, VERSIONS, ALL-VERSIONS, REGISTERS, PARAMETERS, BLOCKS, INSTRUCTIONS, OPERANDS, MARKS, OPERATIONS}
 use Rattle.layout.specs.Kinds as kind
 use Rattle.layout.specs.Tests.{_and_}
-use Rattle.layout.specs.Records.{Rec, _!_, choose, every}
+use Rattle.layout.specs.Records.{Rec, _!_, choose}
 use Rattle.layout.specs.Scan.{scan}
 use Rattle.layout.specs.Questions.{versionInBounds, inBounds, inOrder, dueAfter, noneDue, placed, question4}
 use Rattle.layout.specs.declared.Found.{Found}

@@ -2,21 +2,21 @@
 use mathlib.Core.Path.{_≡_, refl, sym, ap, _∙_, subst}
 use mathlib.Core.List.{List, [], _∷_}
 use mathlib.Core.Option.{Option, none, some}
-use mathlib.Core.Bool.{Bool, true, false, cond, true≢false}
+use mathlib.Core.Bool.{Bool, true, false, cond}
 use Prim.Native.Nat.{ℕ, zero, suc, _+_, _-_, _≤_, _<_}
 use native.Mathlib.Omega.{arith}
 use lib.ListN.{length, getElem?}
 use lib.Dec.{ltb, eqb}
-use borrow.Author.Tests.{eq-eqb, ne-eqb, ltb-true, ltb-false, eqb-true, eqb-false}
+use borrow.Author.Tests.{ltb-true, ltb-false, eqb-true, eqb-false}
 use Rattle.layout.specs.Kinds as kind
 use Rattle.layout.specs.Tests.{_and_}
-use Rattle.layout.specs.Records.{_!_, sizeAt, kindAt, bodyAt, recAt, records, rest}
+use Rattle.layout.specs.Records.{_!_, sizeAt, kindAt, bodyAt, recAt, records}
 use Rattle.layout.specs.declared.Found.{Found}
 use Rattle.layout.specs.declared.Found.the-variants.{Nothing, At}
 use Rattle.layout.proofs.Fields.{fields-at, every-past}
 use Rattle.program.specs.Program.{Line, Block, Version, Program, View, nowhere, lineOf, program, findVersion, firstMark}
-use Rattle.program.specs.Places.{viewAt, past, versionAt, blockAt, placeOf, versionPlace, blockPlace, linePlace}
-use Rattle.program.proofs.Views.{view-end, view-broken, view-past, Whole, at-version, at-block, at-line}
+use Rattle.program.specs.Places.{viewAt, past, versionAt, blockAt, placeOf, versionPlace, blockPlace}
+use Rattle.program.proofs.Views.{view-end, view-past, Whole, at-version, at-block, at-line}
 
 -- ---- lists
 
@@ -137,17 +137,6 @@ pub block-missing : (s : List ℕ) (v b : ℕ) → blockPlace s v b ≡ Nothing 
 unfolding blockPlace
 block-missing s v b e = place-nothing (λ (x : Block). x .at) (getElem? (versionAt s v .blocks) b) e
 
-pub line-found : (s : List ℕ) (b i q : ℕ) → linePlace s b i ≡ At q → getElem? (blockAt s b .code) i ≡ some (lineOf (recAt s q))
-unfolding linePlace blockAt
-line-found s b i q e =
-    let r = place-found (λ (l : Line). l .at) (getElem? (viewAt s (past s b) .code) i) q e in
-    let t = each-get (LineThere s) (viewAt s (past s b) .code) i (r .0) (seen s (past s b) .code) (r .1) in
-    r .1 ∙ ap (λ (x : Line). some x) (t ∙ ap (λ (n : ℕ). lineOf (recAt s n)) (r .2))
-
-pub line-missing : (s : List ℕ) (b i : ℕ) → linePlace s b i ≡ Nothing → getElem? (blockAt s b .code) i ≡ none
-unfolding linePlace
-line-missing s b i e = place-nothing (λ (l : Line). l .at) (getElem? (blockAt s b .code) i) e
-
 -- ---- what is left of a look-up at an offset
 
 unfoldable pub versionFrom : List ℕ → ℕ → ℕ → ℕ → Found
@@ -155,9 +144,6 @@ versionFrom s p f w = placeOf (λ (v : Version). v .at) (findVersion (viewAt s p
 
 unfoldable pub blockFrom : List ℕ → ℕ → ℕ → Found
 blockFrom s p b = placeOf (λ (x : Block). x .at) (getElem? (viewAt s p .blocks) b)
-
-unfoldable pub lineFrom : List ℕ → ℕ → ℕ → Found
-lineFrom s p i = placeOf (λ (l : Line). l .at) (getElem? (viewAt s p .code) i)
 
 -- nothing, where nothing is seen
 pub version-nowhere : (s : List ℕ) (p f w : ℕ) → viewAt s p ≡ nowhere → versionFrom s p f w ≡ Nothing
@@ -167,10 +153,6 @@ version-nowhere s p f w e = rw e
 pub block-nowhere : (s : List ℕ) (p b : ℕ) → viewAt s p ≡ nowhere → blockFrom s p b ≡ Nothing
 unfolding blockFrom placeOf
 block-nowhere s p b e = rw e
-
-pub line-nowhere : (s : List ℕ) (p i : ℕ) → viewAt s p ≡ nowhere → lineFrom s p i ≡ Nothing
-unfolding lineFrom placeOf
-line-nowhere s p i e = rw e
 
 -- is the record at p the VERSION w of the function f?
 abbrev pub isVersion : List ℕ → ℕ → ℕ → ℕ → Bool
@@ -211,23 +193,6 @@ module _ {s : List ℕ} {p n k : ℕ} (m : Whole s p n k) where
   unfolding blockFrom
   block-behind b x y = rw (at-line m x y)
 
-  -- an instruction: none behind a VERSION or a BLOCK
-  pub no-line-version : (i : ℕ) → k ≡ kind.VERSION → lineFrom s p i ≡ Nothing
-  unfolding lineFrom placeOf
-  no-line-version i e = rw (at-version m e)
-
-  pub no-line-block : (i : ℕ) → k ≡ kind.BLOCK → lineFrom s p i ≡ Nothing
-  unfolding lineFrom placeOf
-  no-line-block i e = rw (at-block m e)
-
-  pub line-here : (i : ℕ) → (k ≡ kind.VERSION → ⊥) → (k ≡ kind.BLOCK → ⊥) → i ≡ 0 → lineFrom s p i ≡ At p
-  unfolding lineFrom placeOf
-  line-here i x y z = rw (at-line m x y, z)
-
-  pub line-later : (i : ℕ) → (k ≡ kind.VERSION → ⊥) → (k ≡ kind.BLOCK → ⊥) → (i ≡ 0 → ⊥) → lineFrom s p i ≡ lineFrom s (p + n) (i - 1)
-  unfolding lineFrom
-  line-later i x y z = rw (at-line m x y, get-more i (lineOf (recAt s p)) (viewAt s (p + n) .code) z)
-
 -- nothing stands behind the end of the image
 past-outside : (s : List ℕ) (p : ℕ) → length s ≤ p → viewAt s (past s p) ≡ nowhere
 past-outside s p h = view-end s (past s p) (omega arith)
@@ -235,10 +200,6 @@ past-outside s p h = view-end s (past s p) (omega arith)
 pub block-outside : (s : List ℕ) (v b : ℕ) → length s ≤ v → blockPlace s v b ≡ Nothing
 unfolding blockPlace placeOf versionAt
 block-outside s v b h = rw (past-outside s v h)
-
-pub line-outside : (s : List ℕ) (b i : ℕ) → length s ≤ b → linePlace s b i ≡ Nothing
-unfolding linePlace placeOf blockAt
-line-outside s b i h = rw (past-outside s b h)
 
 -- ---- marks and types
 

@@ -1,5 +1,5 @@
 -- A question to the program, as a pass along the records puts it.
-use mathlib.Core.Path.{_≡_, refl, sym, ap, _∙_, subst}
+use mathlib.Core.Path.{_≡_, refl, sym, ap, _∙_}
 use mathlib.Core.List.{List, [], _∷_}
 use mathlib.Core.Bool.{Bool, true, false, cond, true≢false}
 use Prim.Native.Nat.{ℕ, zero, suc, _+_, _-_, _≤_, _<_}
@@ -7,17 +7,17 @@ use native.Mathlib.Numerals.{add-one}
 use native.Mathlib.Omega.{arith}
 use lib.ListN.{length}
 use lib.Dec.{ltb, eqb}
-use borrow.Author.Tests.{eq-eqb, ne-eqb, lt-ltb, le-ltb, ltb-true, ltb-false, eqb-true, eqb-false}
+use borrow.Author.Tests.{ne-eqb, lt-ltb, le-ltb, eqb-true, eqb-false}
 use Rattle.layout.specs.Kinds as kind
 use Rattle.layout.specs.Tests.{_and_}
-use Rattle.layout.specs.Records.{sizeAt, kindAt, bodyAt, recAt, records, choose}
+use Rattle.layout.specs.Records.{sizeAt, kindAt, recAt, records, choose}
 use Rattle.layout.proofs.Bools.{and-on, and-off}
 use Rattle.layout.proofs.Walk.{size-room}
 use Rattle.layout.specs.declared.Found.{Found}
 use Rattle.layout.specs.declared.Found.the-variants.{Nothing, At}
 use Rattle.program.specs.Program.{Line, Block, Version, View, nowhere, lineOf, program}
 use Rattle.program.specs.Search.{Question, firstLine, firstBlock, first}
-use Rattle.program.specs.Places.{viewAt, past, versionAt, blockAt, instrAt, movedTo, asked}
+use Rattle.program.specs.Places.{viewAt, versionAt, blockAt, instrAt, movedTo, asked}
 use Rattle.program.specs.declared.Here.{Here}
 use Rattle.program.proofs.Views.{view-end, view-past, Whole, at-version, at-block, at-line}
 

@@ -1,22 +1,21 @@
 -- The table of versions, and whether a function has one.
 use mathlib.Core.Path.{_≡_, refl, sym, ap, _∙_, subst}
 use mathlib.Core.List.{List, [], _∷_, map}
-use mathlib.Core.Option.{Option, none, some}
-use mathlib.Core.Bool.{Bool, true, false, cond, _||_, true≢false}
+use mathlib.Core.Option.{some}
+use mathlib.Core.Bool.{Bool, true, false, cond, _||_}
 use Prim.Native.Nat.{ℕ, zero, suc, _+_, _-_, _*_, _/_, _%_, _≤_, _<_}
 use native.Mathlib.Nat.{add-zero}
 use native.Mathlib.Omega.{arith}
 use lib.ListN.{length, getD, set, length-set, replicate, length-replicate, getD-replicate}
 use lib.Seq.{ext-getD, getD-set-same, getD-set-other}
 use lib.Dec.{ltb, eqb}
-use borrow.Author.Tests.{eq-eqb, ne-eqb, lt-ltb, le-ltb, ltb-true, ltb-false, eqb-true, eqb-false}
-use Rattle.layout.specs.Bounds.{FUNCTIONS, VERSIONS}
+use borrow.Author.Tests.{eq-eqb, ne-eqb, ltb-true, ltb-false, eqb-true, eqb-false}
 use Rattle.layout.specs.Kinds as kind
 use Rattle.layout.specs.Tests.{_and_, any}
-use Rattle.layout.specs.Records.{_!_, sizeAt, kindAt, bodyAt, records}
+use Rattle.layout.specs.Records.{_!_, kindAt, bodyAt, records}
 use Rattle.layout.specs.declared.Found.{Found}
 use Rattle.layout.specs.declared.Found.the-variants.{Nothing, At}
-use Rattle.program.specs.Program.{Version, Program, View, nowhere, program, findVersion, hasFunction}
+use Rattle.program.specs.Program.{Version, Program, nowhere, program, findVersion, hasFunction}
 use Rattle.program.specs.Places.{viewAt, versionAt, versionPlace, offsetOf, numbers, tableEntry, tableOf, slotOf, placeIn, listedIn, functionIn}
 use Rattle.program.proofs.Views.{Whole, at-version, at-block, at-line}
 use Rattle.program.proofs.Lookups.{versionFrom, version-nowhere, version-here, version-later, version-found, isVersion}

@@ -96,12 +96,15 @@ instrOf k b = choose k (LIT (b ! 0) (signed b 1)) (
     (kind.CALL, CALL (b ! 0) (b ! 1) (b ! 2) (fields b 4 (b ! 3))) ∷
     (kind.DISPATCH, DISPATCH (b ! 0) (b ! 1) (b ! 2) (b ! 3) (arguments b 5 (b ! 4))) ∷ [])
 
+-- Image: the instruction that a record makes
 abbrev pub lineOf : Rec → Line
 lineOf r = record { at = r .at; does = instrOf (r .kind) (r .body) }
 
+-- Image: the block that a BLOCK and its instructions make
 abbrev pub blockOf : Rec → List Line → Block
 blockOf r code = record { at = r .at; mark = r .body ! 0; result = r .body ! 1; code = code }
 
+-- Image: the version that a VERSION and its blocks make
 abbrev pub versionOf : Rec → List Block → Version
 versionOf r blocks = record {
   at = r .at;
@@ -119,6 +122,7 @@ pub record View : Type 0 where
   pub blocks : List Block
   pub versions : List Version
 
+-- nothing lies ahead
 abbrev pub nowhere : View
 nowhere = record { code = []; blocks = []; versions = [] }
 
@@ -129,10 +133,12 @@ put r w =
     (cond (eqb (r .kind) kind.BLOCK) (record { code = []; blocks = blockOf r (w .code) ∷ w .blocks; versions = w .versions })
     (record { code = lineOf r ∷ w .code; blocks = w .blocks; versions = w .versions }))
 
+-- what lies ahead of a list of records, up to one that is not whole
 unfoldable pub view : List Rec → View
 view [] = nowhere
 view (r ∷ rs) = cond (eqb (r .size) 0) nowhere (put r (view rs))
 
+-- Image: the program of its records
 abbrev pub program : List Rec → Program
 program rs = view rs .versions
 
@@ -145,11 +151,12 @@ findVersion (v ∷ vs) f w = cond (eqb (v .function) f and eqb (v .version) w) (
 abbrev pub hasFunction : ℕ → Program → Bool
 hasFunction f P = any (λ (v : Version). eqb (v .function) f) P
 
--- the mark of a version is that of its block 0
+-- the mark of the first of these blocks, 0 where there is none
 unfoldable pub firstMark : List Block → ℕ
 firstMark [] = 0
 firstMark (b ∷ bs) = b .mark
 
+-- Types fit when: a version's mark is that of its block 0
 abbrev pub markOf : Version → ℕ
 markOf v = firstMark (v .blocks)
 

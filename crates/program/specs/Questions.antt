@@ -9,10 +9,11 @@ use Rattle.layout.specs.Tests.{_and_, all, count, found}
 use Rattle.program.specs.Program.{Argument, Instr, LIT, MOVE, USE, DUP, VEC, LEN, GET, SET, ARITH, SELECT, CAST, NAMED, STORE, PROM, FORCE, PEEK, POKE, CALL, DISPATCH, Line, Block, Version, Program, findVersion, hasFunction}
 use Rattle.program.specs.Search.{Question}
 
--- does the register, the name exist?
+-- does the register exist in the version?
 abbrev pub registerExists : Version → ℕ → Bool
 registerExists v r = ltb r (length (v .types))
 
+-- does the name exist?
 abbrev pub nameExists : ℕ → Bool
 nameExists x = ltb x NAMES
 
@@ -69,5 +70,6 @@ namings n (b ∷ bs) = count (λ (l : Line). namesBlock n (l .does)) (b .code) +
 unfoldable pub blockNamed : Version → ℕ → Block → Bool
 blockNamed v n b = registerExists v (b .result) and (eqb n 0 || eqb (namings n (v .blocks)) 1)
 
+-- 7, as a question to the program
 abbrev pub question7 : Program → Question
 question7 P = record { ofVersion = λ v. true; ofBlock = blockNamed; ofInstr = exists P }

@@ -12,15 +12,17 @@ pub record Question : Type 0 where
   pub ofBlock : Version → ℕ → Block → Bool
   pub ofInstr : Version → ℕ → Instr → Bool
 
--- the first that fails among instructions, blocks from n on, versions; `more` is what follows them
+-- the first that fails among instructions of the block n; `more` is what follows them
 unfoldable pub firstLine : Question → Version → ℕ → List Line → Found → Found
 firstLine q v n [] more = more
 firstLine q v n (l ∷ ls) more = cond (q .ofInstr v n (l .does)) (firstLine q v n ls more) (At (l .at))
 
+-- the first that fails among blocks from n on and their instructions; `more` is what follows them
 unfoldable pub firstBlock : Question → Version → ℕ → List Block → Found → Found
 firstBlock q v n [] more = more
 firstBlock q v n (b ∷ bs) more = cond (q .ofBlock v n b) (firstLine q v n (b .code) (firstBlock q v (n + 1) bs more)) (At (b .at))
 
+-- the offset of the first record that fails the question, in the image's order
 unfoldable pub first : Question → Program → Found
 first q [] = Nothing
 first q (v ∷ vs) = cond (q .ofVersion v) (firstBlock q v 0 (v .blocks) (first q vs)) (At (v .at))

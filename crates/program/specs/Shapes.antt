@@ -1,13 +1,11 @@
 -- The decoded form of an instruction: its fields, and for a list of operands its length; the operands stay in the image.
 use mathlib.Core.List.{List, [], map}
-use mathlib.Core.Option.{Option, none, some}
 use Prim.Native.Nat.{ℕ}
-use lib.ListN.{length, getElem?}
-use Rattle.layout.specs.Records.{records}
-use Rattle.program.specs.Program.{Argument, Instr, LIT, MOVE, USE, DUP, VEC, LEN, GET, SET, ARITH, SELECT, CAST, NAMED, STORE, PROM, FORCE, PEEK, POKE, CALL, DISPATCH, Line, Block, Version, Program, program, findVersion}
+use lib.ListN.{length}
+use Rattle.program.specs.Program.{Argument, Instr, LIT, MOVE, USE, DUP, VEC, LEN, GET, SET, ARITH, SELECT, CAST, NAMED, STORE, PROM, FORCE, PEEK, POKE, CALL, DISPATCH}
 use Rattle.program.specs.declared.Instruction.{Instruction}
-use Rattle.program.specs.declared.Fetched.{Fetched}
 
+-- the decoded form of an instruction
 unfoldable pub shapeOf : Instr → Instruction
 shapeOf (LIT d i) = Instruction.Lit d i
 shapeOf (MOVE d a) = Instruction.Move d a
@@ -72,20 +70,3 @@ listedTypes (PEEK d a x) = []
 listedTypes (POKE a x e) = []
 listedTypes (CALL d f w rs) = []
 listedTypes (DISPATCH d f mark ret pairs) = map (λ (a : Argument). a .type) pairs
-
--- the line of a block that was looked up: its place and its form
-unfoldable pub fetchedLine : Option Line → Fetched
-fetchedLine none = Fetched.Nothing
-fetchedLine (some l) = Fetched.Line (l .at) (shapeOf (l .does))
-
-unfoldable pub fetchedIn : Option Block → ℕ → Fetched
-fetchedIn none i = Fetched.Nothing
-fetchedIn (some b) i = fetchedLine (getElem? (b .code) i)
-
-unfoldable pub fetchedOf : Option Version → ℕ → ℕ → Fetched
-fetchedOf none b i = Fetched.Nothing
-fetchedOf (some v) b i = fetchedIn (getElem? (v .blocks) b) i
-
--- the instruction i of the block b of the version w of the function f
-unfoldable pub fetchOf : List ℕ → ℕ → ℕ → ℕ → ℕ → Fetched
-fetchOf s f w b i = fetchedOf (findVersion (program (records s)) f w) b i

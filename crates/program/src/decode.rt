@@ -1,15 +1,12 @@
 //! Instructions: their decoded forms and operands.
 ghost use mathlib.Core.Path.{_≡_};
-ghost use Prim.Native.Nat.{_+_, _*_, _<_, _^_};
-ghost use lib.Dec.{ltb};
-ghost use mathlib.Core.Bool.{cond};
+ghost use Prim.Native.Nat.{_<_, _^_};
 ghost use mir.Val.{toZ};
 ghost use mir.Syntax.{w32};
 ghost use Rattle.layout.specs.Records.{bodyAt, _!_};
 ghost use Rattle.program.specs.Program.{signed};
 ghost use Rattle.program.specs.Places.{instrAt};
-ghost use Rattle.program.specs.Shapes.{shapeOf, listedRegisters, listedTypes, fetchOf};
-use crate::Fetched;
+ghost use Rattle.program.specs.Shapes.{shapeOf, listedRegisters, listedTypes};
 use crate::Instruction;
 use crate::lookup;
 use layout::Found;
@@ -182,20 +179,4 @@ pub fn listed_type(image: &[u8], p: usize, i: usize) -> usize
     } else {
         0
     }
-}
-
-/// The instruction `i` of the block `b` of the version `w` of the function `f`: its place and its form.
-pub fn fetch(image: &[u8], f: usize, w: usize, b: usize, i: usize) -> Fetched
-    ensures { λ r. ⌜ r ≡ fetchOf (now (image .entry)) f w b i ⌝ }
-{
-    let Found::At(v) = lookup::version(image, f, w) else {
-        return Fetched::Nothing;
-    };
-    let Found::At(q) = lookup::block(image, v, b) else {
-        return Fetched::Nothing;
-    };
-    let Found::At(p) = lookup::line(image, q, i) else {
-        return Fetched::Nothing;
-    };
-    Fetched::Line(p, decode(image, p))
 }

@@ -98,12 +98,6 @@ pub enum Instruction {
     },
 }
 
-/// An instruction that was looked up: the offset of its record and its form.
-pub enum Fetched {
-    Nothing,
-    Line(usize, Instruction),
-}
-
 /// Where a pass along the records stands: in the version whose record is at `version`, with so many of its blocks begun.
 /// Where no record is at `version`, it stands outside of all versions.
 pub struct Here {

@@ -2,12 +2,12 @@
 ghost use mathlib.Core.Path.{_≡_};
 ghost use Prim.Native.Nat.{_<_};
 ghost use lib.Dec.{eqb};
-ghost use lib.ListN.{length, getD};
+ghost use lib.ListN.{length};
 ghost use Rattle.layout.specs.Tests.{_and_};
 ghost use Rattle.layout.specs.Records.{records, kindAt, bodyAt, _!_};
 ghost use Rattle.layout.specs.Kinds as kind;
 ghost use Rattle.program.specs.Program.{program, hasFunction, markOf};
-ghost use Rattle.program.specs.Places.{versionAt, versionPlace, blockPlace, linePlace, tableOf, slotOf, listedIn, functionIn};
+ghost use Rattle.program.specs.Places.{versionAt, versionPlace, blockPlace, isLine, tableOf, slotOf, listedIn, functionIn};
 use layout::Found;
 
 /// The entries of the table of versions: 4 for each function.
@@ -75,34 +75,21 @@ pub fn block(image: &[u8], v: usize, b: usize) -> Found
     Found::Nothing
 }
 
-/// Where the instruction `i` of the block at `b` stands.
-pub fn line(image: &[u8], b: usize, i: usize) -> Found
-    ensures { λ r. ⌜ r ≡ linePlace (now (image .entry)) b i ⌝ }
+/// Does an instruction's record stand at `p`?
+pub fn is_line(image: &[u8], p: usize) -> bool
+    ensures { λ r. ⌜ r ≡ isLine (now (image .entry)) p ⌝ }
 {
-    if image.len() <= b {
-        return Found::Nothing;
+    if image.len() <= p {
+        return false;
     }
-    let mut p = b + layout::size_at(image, b);
-    let mut left = i;
-    while p < image.len() {
-        let n = layout::size_at(image, p);
-        if n == 0 {
-            return Found::Nothing;
-        }
-        let k = layout::kind_at(image, p);
-        if k == layout::kinds::VERSION {
-            return Found::Nothing;
-        }
-        if k == layout::kinds::BLOCK {
-            return Found::Nothing;
-        }
-        if left == 0 {
-            return Found::At(p);
-        }
-        left -= 1;
-        p += n;
+    if layout::size_at(image, p) == 0 {
+        return false;
     }
-    Found::Nothing
+    let k = layout::kind_at(image, p);
+    if k == layout::kinds::VERSION {
+        return false;
+    }
+    k != layout::kinds::BLOCK
 }
 
 /// How many parameters the version at `v` has.

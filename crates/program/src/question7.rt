@@ -1,10 +1,9 @@
 //! Question 7: do registers, names, functions, called versions and blocks exist?
 ghost use mathlib.Core.Path.{_≡_};
-ghost use Prim.Native.Nat.{_<_, _≤_};
+ghost use Prim.Native.Nat.{_<_};
 ghost use lib.Dec.{ltb};
-ghost use lib.ListN.{length};
 ghost use Rattle.layout.specs.Tests.{all};
-ghost use Rattle.layout.specs.Records.{records, bodyAt, every, _!_};
+ghost use Rattle.layout.specs.Records.{records, bodyAt, every};
 ghost use Rattle.layout.specs.Kinds as kind;
 ghost use Rattle.program.specs.Program.{program, instrOf};
 ghost use Rattle.program.specs.Search.{first};

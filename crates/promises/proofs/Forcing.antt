@@ -5,8 +5,7 @@ use mathlib.Core.Bool.{Bool, true, false, cond, not}
 use Prim.Native.Nat.{ℕ, _+_, _*_, _<_, _≤_}
 use native.Mathlib.Omega.{arith}
 use lib.IntN.{ℤ, pos}
-use lib.ListN.{getD, length, length-set, set}
-use lib.Seq.{getD-set-same, getD-set-other}
+use lib.ListN.{getD, length}
 use lib.Dec.{eqb, ltb}
 use borrow.Author.Tests.{eq-eqb, ne-eqb, ltb-true, ltb-false}
 use Rattle.layout.specs.Records.{_!_}
@@ -20,17 +19,17 @@ use Rattle.machine.specs.declared.End.{End}
 use Rattle.machine.specs.declared.Opener.{Opener}
 use Rattle.memory.specs.Memory.{Memory, activationIn, cacheOf, framesOf, openerOf, stateOf, valueOf}
 use Rattle.memory.specs.Memory as memory
-use Rattle.memory.specs.Parts.{endOf, withCells, withOpen, withPromises}
+use Rattle.memory.specs.Parts.{endOf, withCells, withOpen, withPromises, pushed}
 use Rattle.memory.specs.Works.{executed}
 use Rattle.memory.proofs.Frames.{assign-in, assign-outside}
 use Rattle.memory.proofs.Heap.{promise-at, promise-outside}
-use Rattle.memory.proofs.Stack.{activation-same, forces, opened-deep, opened-in, pendingIn, pending-in, pending-met, pending-passed}
+use Rattle.memory.proofs.Stack.{forces, opened-deep, opened-in, pendingIn, pending-in, pending-met, pending-passed, length-pushed, pushed-below, pushed-top}
 use Rattle.memory.specs.declared.Halt.{Halt}
 use Rattle.cells.specs.Operands.{promiseIn, written}
 use Rattle.cells.proofs.Codes.{bound-got, bound-stuck, written-in, written-out}
 use Rattle.cells.proofs.Giving.{long-cells}
 use Rattle.cells.proofs.Reading.{promise-in}
-use Rattle.promises.specs.Changes.{ForcedTo, Forces, Pends, cachedBy, pushed, withForced}
+use Rattle.promises.specs.Changes.{ForcedTo, Forces, Pends, cachedBy, withForced}
 use Rattle.promises.specs.declared.Forced.{Forced}
 use Rattle.promises.proofs.Operands.{length-written}
 
@@ -51,60 +50,6 @@ module _ (stack : List ℕ) (depth p n : ℕ) (all : n ≡ cond (ltb depth 32) d
 pub pends-on : (stack : List ℕ) (p i : ℕ) {b : Bool} → pendingIn stack p i ≡ false → b ≡ (not (eqb (stack ! (6 * i)) 0) and eqb p (stack ! (6 * i + 1))) → b ≡ false → pendingIn stack p (i + 1) ≡ false
 unfolding forces
 pends-on stack p i e f t = pending-passed stack p i e (sym f ∙ t)
-
--- ---- one more activation
-
-module _ (s : List ℕ) (i o p d f b : ℕ) where
-  abbrev l1 : List ℕ
-  l1 = set s (6 * i) o
-
-  abbrev l2 : List ℕ
-  l2 = set l1 (6 * i + 1) p
-
-  abbrev l3 : List ℕ
-  l3 = set l2 (6 * i + 2) d
-
-  abbrev l4 : List ℕ
-  l4 = set l3 (6 * i + 3) f
-
-  abbrev l5 : List ℕ
-  l5 = set l4 (6 * i + 4) b
-
-  abbrev l6 : List ℕ
-  l6 = set l5 (6 * i + 5) 0
-
-  pub length-pushed : length (pushed s i o p d f b) ≡ length s
-  unfolding pushed
-  length-pushed = simp length-set
-
-  pushed-other : (j : ℕ) → ((r : ℕ) → r < 6 → j ≡ 6 * i + r → ⊥) → pushed s i o p d f b ! j ≡ s ! j
-  unfolding pushed
-  pushed-other j h =
-      let z : j ≡ 6 * i → ⊥ = λ e. h 0 (omega arith) (omega arith) in
-      getD-set-other l5 (6 * i + 5) j 0 0 (h 5 (omega arith)) ∙ getD-set-other l4 (6 * i + 4) j b 0 (h 4 (omega arith)) ∙ getD-set-other l3 (6 * i + 3) j f 0 (h 3 (omega arith))
-      ∙ getD-set-other l2 (6 * i + 2) j d 0 (h 2 (omega arith)) ∙ getD-set-other l1 (6 * i + 1) j p 0 (h 1 (omega arith)) ∙ getD-set-other s (6 * i) j o 0 z
-
-  pub pushed-below : (j : ℕ) → (j ≡ i → ⊥) → activationIn (pushed s i o p d f b) j ≡ activationIn s j
-  pushed-below j q = activation-same s (pushed s i o p d f b) j (λ r g. pushed-other (6 * j + r) (λ t l e. q (omega arith)))
-
-  pub pushed-top : 6 * i + 5 < length s → activationIn (pushed s i o p d f b) i ≡ record { opener = openerOf o p; d = d; frame = f; block = b; next = 0 }
-  unfolding activationIn pushed
-  pushed-top h =
-      let m1 : length l1 ≡ length s = simp length-set in
-      let m2 : length l2 ≡ length s = simp length-set in
-      let m3 : length l3 ≡ length s = simp length-set in
-      let m4 : length l4 ≡ length s = simp length-set in
-      let m5 : length l5 ≡ length s = simp length-set in
-      let e5 : l6 ! (6 * i + 5) ≡ 0 = getD-set-same l5 (6 * i + 5) 0 0 (omega arith) in
-      let e4 : l6 ! (6 * i + 4) ≡ b = getD-set-other l5 (6 * i + 5) (6 * i + 4) 0 0 (λ z. omega arith) ∙ getD-set-same l4 (6 * i + 4) b 0 (omega arith) in
-      let e3 : l6 ! (6 * i + 3) ≡ f = getD-set-other l5 (6 * i + 5) (6 * i + 3) 0 0 (λ z. omega arith) ∙ getD-set-other l4 (6 * i + 4) (6 * i + 3) b 0 (λ z. omega arith) ∙ getD-set-same l3 (6 * i + 3) f 0 (omega arith) in
-      let e2 : l6 ! (6 * i + 2) ≡ d = getD-set-other l5 (6 * i + 5) (6 * i + 2) 0 0 (λ z. omega arith) ∙ getD-set-other l4 (6 * i + 4) (6 * i + 2) b 0 (λ z. omega arith) ∙ getD-set-other l3 (6 * i + 3) (6 * i + 2) f 0 (λ z. omega arith)
-      ∙ getD-set-same l2 (6 * i + 2) d 0 (omega arith) in
-      let e1 : l6 ! (6 * i + 1) ≡ p = getD-set-other l5 (6 * i + 5) (6 * i + 1) 0 0 (λ z. omega arith) ∙ getD-set-other l4 (6 * i + 4) (6 * i + 1) b 0 (λ z. omega arith) ∙ getD-set-other l3 (6 * i + 3) (6 * i + 1) f 0 (λ z. omega arith)
-      ∙ getD-set-other l2 (6 * i + 2) (6 * i + 1) d 0 (λ z. omega arith) ∙ getD-set-same l1 (6 * i + 1) p 0 (omega arith) in
-      let e0 : l6 ! (6 * i) ≡ o = getD-set-other l5 (6 * i + 5) (6 * i) 0 0 (λ z. omega arith) ∙ getD-set-other l4 (6 * i + 4) (6 * i) b 0 (λ z. omega arith) ∙ getD-set-other l3 (6 * i + 3) (6 * i) f 0 (λ z. omega arith)
-      ∙ getD-set-other l2 (6 * i + 2) (6 * i) d 0 (λ z. omega arith) ∙ getD-set-other l1 (6 * i + 1) (6 * i) p 0 (λ z. omega arith) ∙ getD-set-same s (6 * i) o 0 (omega arith) in
-      λ t. record { opener = openerOf (e0 t) (e1 t); d = e2 t; frame = e3 t; block = e4 t; next = e5 t }
 
 -- ---- FORCE
 

@@ -2,7 +2,7 @@
 use mathlib.Core.Path.{_≡_, refl, sym, ap, _∙_}
 use mathlib.Core.List.{List}
 use mathlib.Core.Bool.{Bool, true, false, not}
-use Prim.Native.Nat.{ℕ, suc, _+_, _-_, _*_, _<_, _≤_}
+use Prim.Native.Nat.{ℕ, _+_, _-_, _*_, _<_, _≤_}
 use native.Mathlib.Omega.{arith}
 use lib.IntN.{ℤ, pos}
 use lib.ListN.{getD, length, length-set, set}
@@ -12,11 +12,12 @@ use borrow.Author.Tests.{eq-eqb, ne-eqb}
 use Rattle.layout.specs.Records.{_!_}
 use Rattle.layout.specs.declared.Found.{Found}
 use Rattle.layout.specs.declared.Found.the-variants.{Nothing, At}
+use Rattle.memory.proofs.Free.{free-on, free-here, free-none}
 use Rattle.program.specs.Program.{PROM}
 use Rattle.program.specs.Places.{blockPlace, versionAt}
 use Rattle.program.proofs.Lookups.{block-found, block-missing}
 use Rattle.machine.specs.Begin.{programOf}
-use Rattle.machine.specs.Try.{got, stop, _>>=_, _>>_, at, orStuck}
+use Rattle.machine.specs.Try.{_>>=_, _>>_, at, orStuck}
 use Rattle.machine.specs.States.{assign, free, freePromise, held, isPromise, promiseCounts, withPromise}
 use Rattle.machine.specs.Steps.{execute}
 use Rattle.machine.specs.declared.Cache.{Cache}
@@ -37,19 +38,6 @@ use Rattle.promises.specs.Changes.{Below, Counts, Frees, Pends, promiseF
 use Rattle.promises.proofs.Operands.{length-written, promise-value}
 
 -- ---- the search for a place
-
-module _ (e : End) (counts : ℕ → Bool) (n p : ℕ) where
-  free-on : counts p ≡ true → free e counts (suc n) p ≡ free e counts n (suc p)
-  unfolding free
-  free-on h = rw (h, free) refl
-
-  free-here : counts p ≡ false → free e counts (suc n) p ≡ got p
-  unfolding free
-  free-here h = rw (h, free) refl
-
-  free-none : free e counts 0 p ≡ stop e
-  unfolding free
-  free-none = refl
 
 flip : (a b : Bool) → not a ≡ not b → a ≡ b
 flip true true h = refl
@@ -95,23 +83,15 @@ module _ (codes stack : List ℕ) (calls depth : ℕ) where
 
   pub through-on : (b : Bool) (p : ℕ) → p < 64 → Through p → Counts b codes stack calls depth p → not b ≡ false → Through (p + 1)
   unfolding Through Counts
-  through-on b p h t w e = λ M.
-      let s : 64 - p ≡ suc (64 - (p + 1)) = omega arith in
-      let r : suc p ≡ p + 1 = omega arith in
-      t M ∙ ap (λ i. free End.Promises (countsIn M) i p) s ∙ free-on End.Promises (countsIn M) (64 - (p + 1)) p (sym (w M) ∙ flip b true e) ∙ ap (free End.Promises (countsIn M) (64 - (p + 1))) r
+  through-on b p h t w e = λ M. t M ∙ free-on End.Promises (countsIn M) 64 p h (sym (w M) ∙ flip b true e)
 
   pub through-found : (b : Bool) (p : ℕ) → p < 64 → Through p → Counts b codes stack calls depth p → not b ≡ true → Frees (At p) codes stack calls depth × Below (At p) 64
   unfolding Through Counts Frees Below promiseFound
-  through-found b p h t w e = (
-    λ M.
-        let s : 64 - p ≡ suc (64 - (p + 1)) = omega arith in
-        t M ∙ ap (λ i. free End.Promises (countsIn M) i p) s ∙ free-here End.Promises (countsIn M) (64 - (p + 1)) p (sym (w M) ∙ flip b false e),
-    h,
-  )
+  through-found b p h t w e = (λ M. t M ∙ free-here End.Promises (countsIn M) 64 p h (sym (w M) ∙ flip b false e), h)
 
   pub through-end : (p : ℕ) → 64 ≤ p → Through p → Frees Nothing codes stack calls depth × Below Nothing 64
   unfolding Through Frees Below promiseFound
-  through-end p h t = (λ M. let s : 64 - p ≡ 0 = omega arith in t M ∙ ap (λ i. free End.Promises (countsIn M) i p) s ∙ free-none End.Promises (countsIn M) 0 p, tt)
+  through-end p h t = (λ M. t M ∙ free-none End.Promises (countsIn M) 64 p h, tt)
 
 -- ---- a new promise
 

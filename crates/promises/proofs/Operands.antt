@@ -12,7 +12,7 @@ use Rattle.layout.specs.Records.{_!_}
 use Rattle.layout.specs.Tests.{_and_}
 use Rattle.layout.proofs.Bools.{and-both}
 use Rattle.program.specs.Program.{USE}
-use Rattle.machine.specs.Try.{got, stuck, _>>=_}
+use Rattle.machine.specs.Try.{got, stuck}
 use Rattle.machine.specs.States.{assign}
 use Rattle.machine.specs.Steps.{execute}
 use Rattle.machine.specs.declared.Value.{Value}
@@ -21,8 +21,8 @@ use Rattle.memory.specs.Parts.{Does, withCells}
 use Rattle.memory.specs.Works.{Works, executed}
 use Rattle.memory.specs.declared.Did.{Did}
 use Rattle.memory.proofs.Frames.{assign-in, assign-outside}
-use Rattle.cells.specs.Operands.{cellWhere, isVector, vectorIn, written}
-use Rattle.cells.proofs.Codes.{bound-got, bound-stuck, vector-range, written-in}
+use Rattle.cells.specs.Operands.{cellWhere, vectorIn, written}
+use Rattle.cells.proofs.Codes.{bound-got, bound-stuck, written-in, vector-held}
 use Rattle.cells.proofs.Giving.{long-cells}
 use Rattle.cells.proofs.Reading.{vector-in}
 use Rattle.promises.specs.Changes.{Changed}
@@ -38,20 +38,6 @@ unfolding cellWhere
 cell-found is codes k r h =
     let p = chosen (ltb r 16 and is (codes ! (24 * k + r))) _ _ h in
     (sym (p .1), ltb-true r 16 (and-both (ltb r 16) (is (codes ! (24 * k + r))) (p .0) .0))
-
-module _ (codes : List ℕ) (k r : ℕ) {n : ℕ} where
-  vector-by : (b : Bool) → (ltb r 16 and isVector (codes ! (24 * k + r))) ≡ b → (cond b (got (24 * k + r)) stuck >>= λ i. got (codes ! i - 256)) ≡ got n → (r < 16) × (n < 256)
-  unfolding _>>=_
-  vector-by true e h =
-      let q = and-both (ltb r 16) (isVector (codes ! (24 * k + r))) e in
-      let l = vector-range (codes ! (24 * k + r)) (q .1) in
-      let s : codes ! (24 * k + r) - 256 ≡ n = cc in
-      (ltb-true r 16 (q .0), omega (arith, l .0, l .1))
-  vector-by false e h = let z : _≡_ {A = ℕ} 0 1 = cc in absurd (omega arith)
-
-  pub vector-fits : vectorIn codes k r ≡ got n → (r < 16) × (n < 256)
-  unfolding vectorIn cellWhere
-  vector-fits h = vector-by (ltb r 16 and isVector (codes ! (24 * k + r))) refl h
 
 -- ---- values by their codes
 
@@ -88,7 +74,7 @@ module _ (codes : List ℕ) (numbers : List ℤ) (k d a : ℕ) where
       let N = withCells M codes numbers in (
         (
           bound-got _ (vector-in (M .owners) codes numbers k a ∙ e)
-              ∙ bound-got _ (assign-in N k a live few (long .codes) (long .numbers) (vector-fits codes k a e .0) 0 (pos 0))
+              ∙ bound-got _ (assign-in N k a live few (long .codes) (long .numbers) (vector-held codes k a v e .0) 0 (pos 0))
               ∙ assign-outside (withCells N _ _) k d live few (Value.Vector v) h,
           refl,
         ),
@@ -99,7 +85,7 @@ module _ (codes : List ℕ) (numbers : List ℤ) (k d a : ℕ) where
       → n ≡ written numbers (24 * k) 16 a y → numbers′ ≡ written n (24 * k) 16 d z → Changed Did.On codes codes′ numbers numbers′ k (USE d a)
   unfolding Changed Works Does executed execute withCells valueOf
   used {v} y z {c} {codes′} {n} {numbers′} e h p p′ q q′ = λ P W M long live few.
-      let b = vector-fits codes k a e in
+      let b = vector-held codes k a v e in
       let p1 : c ≡ set codes (24 * k + a) 0 = p ∙ written-in codes (24 * k) 16 a 0 (b .0) in
       let q1 : n ≡ set numbers (24 * k + a) y = q ∙ written-in numbers (24 * k) 16 a y (b .0) in
       let p2 : codes′ ≡ set c (24 * k + d) (256 + v) = p′ ∙ written-in c (24 * k) 16 d (256 + v) h in
@@ -108,7 +94,7 @@ module _ (codes : List ℕ) (numbers : List ℤ) (k d a : ℕ) where
       let m1 : length n ≡ length numbers = ap length q1 ∙ simp length-set in (
         bound-got _ (vector-in (M .owners) codes numbers k a ∙ e)
             ∙ bound-got _ (assign-in (withCells M codes numbers) k a live few (long .codes) (long .numbers) (b .0) 0 y ∙ rw (p1, q1))
-            ∙ ap (assign (stateOf (withCells M c n)) k d) (sym (vector-value v z (b .1)))
+            ∙ ap (assign (stateOf (withCells M c n)) k d) (sym (vector-value v z (b .2)))
             ∙ assign-in (withCells M c n) k d live few (l1 ∙ long .codes) (m1 ∙ long .numbers) h (256 + v) z
             ∙ rw (p2, q2),
         long-cells M codes codes′ numbers numbers′ long (ap length p2 ∙ (simp length-set) ∙ l1) (ap length q2 ∙ (simp length-set) ∙ m1),

@@ -4,7 +4,6 @@ use mathlib.Core.List.{List}
 use mathlib.Core.Bool.{Bool, cond}
 use Prim.Native.Nat.{ℕ, _+_, _*_, _<_, _≤_}
 use lib.IntN.{ℤ}
-use lib.ListN.{set}
 use Rattle.layout.specs.Records.{_!_}
 use Rattle.layout.specs.declared.Found.{Found}
 use Rattle.layout.specs.declared.Found.the-variants.{Nothing, At}
@@ -49,9 +48,11 @@ pub data FrameOf (codes promises : List ℕ) (calls k a : ℕ) (r : Found) : Typ
 unfoldable pub withDelayed : Memory → List ℕ → ℕ → Memory
 withDelayed M promises calls = withLive (withPromises M promises (M .caches)) calls (M .depth)
 
+-- PEEK of the register a and the name x in the frame k gives g
 unfoldable pub Peeks : Gives → List ℕ → List ℤ → List ℕ → ℕ → ℕ → ℕ → ℕ → Type 0
 Peeks g codes numbers promises calls k a x = (P : Program) (W : Version) (M : Memory) (d : ℕ) → Feeds P W g (withCells (withDelayed M promises calls) codes numbers) k d (PEEK d a x)
 
+-- POKE of the registers a and e and the name x in the frame k changes the cells
 unfoldable pub Pokes : Did → List ℕ → List ℕ → List ℤ → List ℤ → List ℕ → ℕ → ℕ → ℕ → ℕ → ℕ → Type 0
 Pokes r codes codes′ numbers numbers′ promises calls k a x e =
     (P : Program) (W : Version) (M : Memory) → Works P W r (withCells (withDelayed M promises calls) codes numbers) (withCells (withDelayed M promises calls) codes′ numbers′) k (POKE a x e)
@@ -61,10 +62,6 @@ Pokes r codes codes′ numbers numbers′ promises calls k a x e =
 -- a pending force refers to the promise p
 unfoldable pub Pends : Bool → List ℕ → ℕ → ℕ → Type 0
 Pends r stack depth p = (M : Memory) → r ≡ pending (stateOf (withOpen M (M .owners) (M .calls) stack depth)) p
-
--- the stack with one more activation, at its first instruction
-unfoldable pub pushed : List ℕ → ℕ → ℕ → ℕ → ℕ → ℕ → ℕ → List ℕ
-pushed stack i o p d frame block = set (set (set (set (set (set stack (6 * i) o) (6 * i + 1) p) (6 * i + 2) d) (6 * i + 3) frame) (6 * i + 4) block) (6 * i + 5) 0
 
 -- a cached integer, into a register that is there or not
 unfoldable pub cachedBy : Bool → Forced
@@ -82,6 +79,7 @@ ForcedTo (Forced.Stop h) M codes numbers stack t = (t ≡ stop (endOf h)) × (co
 unfoldable pub withForced : Memory → List ℕ → List ℤ → List ℕ → List ℕ → List ℤ → ℕ → Memory
 withForced M codes numbers stack promises caches depth = withCells (withOpen (withPromises M promises caches) (M .owners) (M .calls) stack depth) codes numbers
 
+-- FORCE of the register a into d in the frame k changes the cells or the stack
 unfoldable pub Forces : Forced → List ℕ → List ℕ → List ℤ → List ℤ → List ℕ → List ℕ → List ℕ → List ℤ → ℕ → ℕ → ℕ → ℕ → Type 0
 Forces r codes codes′ numbers numbers′ stack stack′ promises caches depth k d a =
     (P : Program) (W : Version) (M : Memory) → Long (withForced M codes numbers stack promises caches depth) → k < M .calls → k < 32
@@ -111,6 +109,7 @@ Below Nothing n = Unit {0}
 unfoldable pub withProm : Memory → List ℕ → List ℤ → List ℕ → List ℕ → ℕ → ℕ → Memory
 withProm M codes numbers stack promises calls depth = withCells (withPromises (withOpen M (M .owners) calls stack depth) promises (M .caches)) codes numbers
 
+-- PROM of a block into d in the frame k of the version at v changes the cells and the promises
 unfoldable pub Proms : Did → List ℕ → List ℕ → List ℕ → List ℤ → List ℤ → List ℕ → List ℕ → List ℕ → ℕ → ℕ → ℕ → ℕ → ℕ → ℕ → Type 0
 Proms r image codes codes′ numbers numbers′ stack promises promises′ calls depth k v d block =
     (M : Memory) → Works (programOf image) (versionAt image v) r (withProm M codes numbers stack promises calls depth) (withProm M codes′ numbers′ stack promises′ calls depth) k (PROM d block)

@@ -1,5 +1,6 @@
-//! Names and promises: USE, STORE, PROM, FORCE, PEEK and POKE. The engine's loop alone calls them, in a frame below 32.
+//! USE, STORE, PROM, FORCE, PEEK and POKE, and free places of promises.
 //! Its functions serve the loop of the engine; what they require, the loop keeps.
+//! `table` is the image's index.
 ghost use mathlib.Core.Path.{_≡_};
 ghost use mathlib.Core.Bool.{cond, not};
 ghost use Prim.Native.Nat.{_<_, _≤_};
@@ -7,7 +8,7 @@ ghost use lib.Dec.{eqb, ltb};
 ghost use Rattle.layout.specs.Tests.{_and_};
 ghost use Rattle.program.specs.Program.{USE, STORE};
 ghost use Rattle.index.specs.Indexed.{Indexed};
-ghost use Rattle.promises.specs.Changes.{Changed, Named, FrameOf, Peeks, Pokes, Pends, pushed, cachedBy, Forces, Counts, Frees, Below, Proms};
+ghost use Rattle.promises.specs.Changes.{Changed, Named, FrameOf, Peeks, Pokes, Pends, cachedBy, Forces, Counts, Frees, Below, Proms};
 use layout::Found;
 use memory::Did;
 use memory::Gives;
@@ -20,13 +21,6 @@ pub enum Forced {
     Opened,
     Stuck,
     Stop(Halt),
-}
-
-/// A byte as a number.
-fn wide(x: u8) -> usize
-    ensures { λ r. ⌜ (r ≡ x) × (r < 256) ⌝ }
-{
-    x as usize
 }
 
 /// USE: the register `d` of the frame `k` gets the vector of its register `a`, which is emptied.
@@ -88,7 +82,7 @@ fn frame_of(codes: &[u16; 768], promises: &[u8; 192], calls: usize, k: usize, a:
     if 64 <= p {
         return Found::Nothing;
     }
-    let f = wide(promises[3 * p]);
+    let f = layout::wide(promises[3 * p]);
     if calls <= f {
         return Found::Nothing;
     }
@@ -144,7 +138,7 @@ fn is_force(o: u8, q: u8, p: usize) -> bool
     if o == 0 {
         return false;
     }
-    p == wide(q)
+    p == layout::wide(q)
 }
 
 /// How many activations are live on a stack that holds 32.
@@ -170,19 +164,6 @@ pub fn pending(stack: &[u8; 192], depth: usize, p: usize) -> bool
         i += 1;
     }
     false
-}
-
-/// Puts one more activation on the stack.
-fn push(stack: &mut [u8; 192], depth: usize, o: u8, p: u8, d: u8, frame: u8, block: u8)
-    requires { ⌜ depth < 32 ⌝ }
-    ensures { λ _. ⌜ now (stack .exit) ≡ pushed (now (stack .entry)) depth o p d frame block ⌝ }
-{
-    stack[6 * depth] = o;
-    stack[6 * depth + 1] = p;
-    stack[6 * depth + 2] = d;
-    stack[6 * depth + 3] = frame;
-    stack[6 * depth + 4] = block;
-    stack[6 * depth + 5] = 0;
 }
 
 /// What a FORCE of a cached integer has done, by whether its register was there.
@@ -227,7 +208,7 @@ pub fn force(
     }
     let frame = promises[3 * p];
     let block = promises[3 * p + 1];
-    push(stack, depth, 1, p as u8, d, frame, block);
+    memory::push(stack, depth, 1, p as u8, d, frame, block);
     Forced::Opened
 }
 
@@ -256,7 +237,7 @@ pub fn free_promise(codes: &[u16; 768], stack: &[u8; 192], calls: usize, depth: 
     Found::Nothing
 }
 
-/// PROM: the register `d` gets a new promise of the block `block` in the frame `k` of the version at `v`. The table is the image's index.
+/// PROM: the register `d` gets a new promise of the block `block` in the frame `k` of the version at `v`.
 pub fn prom(
     image: &[u8],
     table: &[u16; 1152],
@@ -274,7 +255,7 @@ pub fn prom(
     requires { ⌜ Indexed (now image) (now table) × (k < 32) ⌝ }
     ensures { λ r. ⌜ Proms r (now (image .entry)) (now (codes .entry)) (now (codes .exit)) (now (numbers .entry)) (now (numbers .exit)) (now (stack .entry)) (now (promises .entry)) (now (promises .exit)) calls depth k v d block ⌝ }
 {
-    let Found::At(_b) = index::block(image, table, v, wide(block)) else {
+    let Found::At(_b) = index::block(image, table, v, layout::wide(block)) else {
         return Did::Stuck;
     };
     let Found::At(n) = free_promise(codes, stack, calls, depth) else {

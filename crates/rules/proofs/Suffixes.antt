@@ -3,12 +3,12 @@ use mathlib.Core.Path.{_≡_, refl, sym, ap, _∙_}
 use mathlib.Core.List.{List, [], _∷_, _++_}
 use mathlib.Core.Option.{Option, none, some}
 use mathlib.Core.Bool.{and-true}
-use Prim.Native.Nat.{ℕ, zero, suc, _+_}
+use Prim.Native.Nat.{ℕ, suc, _+_}
 use native.Mathlib.Numerals.{add-one}
-use native.Mathlib.Omega.{arith}
 use lib.ListN.{take, drop, getElem?, take-append-drop}
 use Rattle.sets.specs.Sets.{has, those}
 use Rattle.program.specs.Program.{Instr, Line, Block, Version, Program}
+use Rattle.layout.proofs.Lists.{drop-end, get-drop}
 use Rattle.rules.specs.Actions.{Action, _then_, ∅, reading, along}
 use Rattle.rules.specs.Walks.{blockAction, acts, before, after}
 use Rattle.rules.proofs.Walked.{walked-at}
@@ -25,17 +25,6 @@ module _ (act : Instr → Option Action) (result : ℕ) where
   unfolding along before
   along-split a [] ms = along-after a ms
   along-split a (l ∷ ls) ms = along-split (a then act (l .does)) ls ms
-
-get-drop : {A : Type 0} (l : List A) (i : ℕ) (x : A) → getElem? l i ≡ some x → drop i l ≡ x ∷ drop (suc i) l
-get-drop [] i x h = let z : _≡_ {A = ℕ} 0 1 = cc in absurd (omega arith)
-get-drop (y ∷ l) zero x h = let e : y ≡ x = cc in ap (λ z. z ∷ l) e
-get-drop (y ∷ l) (suc i) x h = get-drop l i x h
-
-drop-end : {A : Type 0} (l : List A) (i : ℕ) → getElem? l i ≡ none → drop i l ≡ []
-drop-end [] zero h = refl
-drop-end [] (suc i) h = refl
-drop-end (y ∷ l) zero h = let z : _≡_ {A = ℕ} 0 1 = cc in absurd (omega arith)
-drop-end (y ∷ l) (suc i) h = drop-end l i h
 
 -- ---- the block x, which is the block b of a version, does c
 

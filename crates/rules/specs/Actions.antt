@@ -32,16 +32,19 @@ none then b = none
 some a then none = none
 some a then some b = cond (clash a b) none (some (joined a b))
 
+-- Flow, ∅: no register
 abbrev pub ∅ : Set
 ∅ = empty REGISTERS
 
--- what only reads, empties or assigns registers
+-- what only reads registers
 abbrev pub reading : List ℕ → Option Action
 reading rs = some (record { R = those REGISTERS rs; W = ∅; U = ∅; C = ∅ })
 
+-- what only empties registers
 abbrev pub emptying : List ℕ → Option Action
 emptying rs = some (record { R = ∅; W = ∅; U = those REGISTERS rs; C = ∅ })
 
+-- what only assigns registers
 abbrev pub assigning : List ℕ → Option Action
 assigning rs = some (record { R = ∅; W = those REGISTERS rs; U = ∅; C = ∅ })
 

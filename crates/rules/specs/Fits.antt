@@ -8,26 +8,31 @@ use Rattle.layout.specs.Tests.{_and_, all, any, count, found}
 use Rattle.program.specs.Program.{Argument, Instr, LIT, MOVE, USE, DUP, VEC, LEN, GET, SET, ARITH, SELECT, CAST, NAMED, STORE, PROM, FORCE, PEEK, POKE, CALL, DISPATCH, Block, Version, Program, findVersion, given}
 use Rattle.rules.specs.Types.{kindOf, isShared, isOwned, isBorrowed, isInteger, isVector, isPromise, within}
 
--- the declared type of a register, and its kind
+-- the declared type of a register
 abbrev pub typeOf : Version → ℕ → ℕ
 typeOf v r = getD (v .types) r 0
 
+-- the declared kind of a register
 abbrev pub declaredKind : Version → ℕ → ℕ
 declaredKind v r = kindOf (typeOf v r)
 
--- what a register is declared to be
+-- is the register declared shared?
 abbrev pub shared : Version → ℕ → Bool
 shared v r = isShared (typeOf v r)
 
+-- is the register declared an integer?
 abbrev pub integer : Version → ℕ → Bool
 integer v r = isInteger (typeOf v r)
 
+-- is the register declared a vector, shared, owned or borrowed?
 abbrev pub vector : Version → ℕ → Bool
 vector v r = isVector (typeOf v r)
 
+-- is the register declared an owned vector?
 abbrev pub owned : Version → ℕ → Bool
 owned v r = isVector (typeOf v r) and isOwned (typeOf v r)
 
+-- is the register declared a promise, of kind 4 or 5?
 abbrev pub promise : Version → ℕ → Bool
 promise v r = isPromise (typeOf v r)
 

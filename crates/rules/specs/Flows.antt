@@ -10,5 +10,6 @@ use Rattle.rules.specs.Actions.{bodyAction}
 unfoldable pub flows : Program → Version → Bool
 flows P v = found (bodyAction P v) (λ a. below (v .parameters) (a .R))
 
+-- 10, as a question to the program (at the VERSION)
 abbrev pub question10 : Program → Question
 question10 P = record { ofVersion = flows P; ofBlock = free; ofInstr = free }

@@ -13,11 +13,11 @@ use Rattle.rules.specs.Effects.{covered}
 unfoldable pub typeAllowed : ℕ → ℕ → ℕ → Bool
 typeAllowed parameters r t = cond (ltb r parameters) (parameterType t) (registerType t)
 
--- 6: is each type byte allowed at its place? In a VERSION
+-- 6: is each type byte of a VERSION allowed at its place?
 unfoldable pub versionTypes : Version → Bool
 versionTypes v = allFrom (typeAllowed (v .parameters)) 0 (v .types) and returnType (v .return)
 
--- and in a DISPATCH
+-- 6: is each type byte of an instruction allowed at its place? DISPATCH alone has some
 unfoldable pub typesAllowed : Instr → Bool
 typesAllowed (LIT d i) = true
 typesAllowed (MOVE d a) = true
@@ -39,6 +39,7 @@ typesAllowed (POKE a x e) = true
 typesAllowed (CALL d f w rs) = true
 typesAllowed (DISPATCH d f mark ret pairs) = returnType ret and all (λ (a : Argument). parameterType (a .type)) pairs
 
+-- 6, as a question to the program
 abbrev pub question6 : Question
 question6 = record { ofVersion = versionTypes; ofBlock = free; ofInstr = λ v n i. typesAllowed i }
 

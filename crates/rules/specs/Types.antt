@@ -8,6 +8,7 @@ use Rattle.layout.specs.Tests.{_and_}
 unfoldable pub kindOf : ℕ → ℕ
 kindOf t = t % 16
 
+-- its ownership
 unfoldable pub ownershipOf : ℕ → ℕ
 ownershipOf t = t / 16
 

@@ -1,7 +1,7 @@
 -- What the walk of a block and the walk of an instruction find.
 use mathlib.Core.List.{List, [], _∷_}
 use mathlib.Core.Option.{Option, none}
-use mathlib.Core.Bool.{Bool, true, false, cond}
+use mathlib.Core.Bool.{cond}
 use Prim.Native.Nat.{ℕ}
 use lib.ListN.{getD}
 use lib.Dec.{ltb}
@@ -20,16 +20,12 @@ entered P v b block = cond (ltb b block) (blockAction P v block) none
 abbrev pub acts : Program → Version → ℕ → Instr → Option Action
 acts P v b i = actionOf (entered P v b) (touch P i)
 
--- is an instruction left?
-unfoldable pub more : List Line → Bool
-more [] = false
-more (l ∷ ls) = true
-
--- what instructions have done behind what was done before them, and what they do from here to the end of their block
+-- what instructions have done behind what was done before them
 unfoldable pub before : (Instr → Option Action) → Option Action → List Line → Option Action
 before act a [] = a
 before act a (l ∷ ls) = before act (a then act (l .does)) ls
 
+-- what instructions do from here to the end of their block, the result register read last
 unfoldable pub after : (Instr → Option Action) → ℕ → List Line → Option Action
 after act result [] = reading (result ∷ [])
 after act result (l ∷ ls) = act (l .does) then after act result ls

@@ -2,17 +2,16 @@
 use mathlib.Core.Path.{_≡_, refl, sym, ap, _∙_}
 use mathlib.Core.Logic.{_≢_}
 use mathlib.Core.List.{List, [], _∷_}
-use mathlib.Core.Option.{Option, none, some}
+use mathlib.Core.Option.{none, some}
 use mathlib.Core.Bool.{Bool, true, false, not, true≢false}
 use Prim.Native.Nat.{ℕ, zero, suc, _≤_, _<_}
-use native.Mathlib.Nat.{le-of-suc-le-suc, not-suc-le-zero}
 use native.Mathlib.Decide.{decLt}
 use native.Mathlib.Omega.{arith}
 use lib.ListN.{length, getElem?, set, take}
 use lib.Dec.{ltb}
 use Rattle.program.specs.Program.{Instr, LIT, MOVE, USE, DUP, VEC, LEN, GET, SET, ARITH, SELECT, CAST, NAMED, STORE, PROM, FORCE, PEEK, POKE, CALL, DISPATCH, Version, Program}
 use Rattle.rules.specs.Types.{kindOf, isOwned, within}
-use Rattle.machine.specs.Try.{Try, got, stuck, stop, _>>=_, _>>_, stuckUnless, endUnless, orStuck, at, put, each}
+use Rattle.machine.specs.Try.{Try, got, stuck, stop, _>>=_, _>>_, stuckUnless, endUnless, at, put, each}
 use Rattle.machine.specs.Values.{index}
 use Rattle.machine.specs.Values as values
 use Rattle.machine.specs.States.{ACTIVATIONS, place, itemsOf, newVector, liveFrames, value, integer, vector, promise, plain, name, kindIn, freeVector, freePromise, pending, withStack, withVector, withPromise, withFrame, withRegister, withName, assign, store}
@@ -26,8 +25,9 @@ use Rattle.machine.specs.declared.Promise.{Promise}
 use Rattle.machine.specs.declared.State.{State}
 use Rattle.machine.specs.declared.Value.{Value}
 use Rattle.machine.specs.declared.Vector.{Vector}
+use Rattle.layout.proofs.Lists.{get-take, take-in, take-none}
+use Rattle.machine.proofs.Tries.{or-stuck}
 use Rattle.runs.specs.Lives.{numbers, callAt, Stays, isCall}
-use Rattle.runs.proofs.Lists.{get-take, take-in}
 
 -- ---- results: a part of a step that has one
 
@@ -76,35 +76,7 @@ unfolding stuckUnless
 test-true true x e = refl
 test-true false x e = let z : _≡_ {A = ℕ} 0 1 = cc in absurd (omega arith)
 
--- what was found
-pub or-stuck : {A : Type 0} (o : Option A) (x : A) → orStuck o ≡ got x → o ≡ some x
-unfolding orStuck
-or-stuck none x e = let z : _≡_ {A = ℕ} 0 1 = cc in absurd (omega arith)
-or-stuck (some y) x e = let q : y ≡ x = cc in ap some q
-
 -- ---- lists of any length
-
--- another place than the one put
-pub get-other : {A : Type 0} (xs : List A) (i j : ℕ) (x : A) → j ≢ i → getElem? (set xs i x) j ≡ getElem? xs j
-get-other [] i j x n = refl
-get-other (y ∷ xs) zero zero x n = absurd (n refl)
-get-other (y ∷ xs) zero (suc j) x n = refl
-get-other (y ∷ xs) (suc i) zero x n = refl
-get-other (y ∷ xs) (suc i) (suc j) x n = get-other xs i j x (λ e. n (ap suc e))
-
--- the place put
-pub get-same : {A : Type 0} (xs : List A) (i : ℕ) (x : A) → i < length xs → getElem? (set xs i x) i ≡ some x
-get-same [] i x h = absurd (not-suc-le-zero h)
-get-same (y ∷ xs) zero x h = refl
-get-same (y ∷ xs) (suc i) x h = get-same xs i x (le-of-suc-le-suc h)
-
--- nothing stands behind the first n
-get-behind : {A : Type 0} (xs : List A) (n i : ℕ) → n ≤ i → getElem? (take n xs) i ≡ none
-get-behind [] zero i h = refl
-get-behind [] (suc n) i h = refl
-get-behind (x ∷ xs) zero i h = refl
-get-behind (x ∷ xs) (suc n) zero h = absurd (not-suc-le-zero h)
-get-behind (x ∷ xs) (suc n) (suc i) h = get-behind xs n i (le-of-suc-le-suc h)
 
 -- a frame put in the place of one with the same numbers
 same-numbers : (fs : List Frame) (k : ℕ) (f g : Frame) → getElem? fs k ≡ some f → g .function ≡ f .function → g .version ≡ f .version → (j : ℕ) → numbers (getElem? (set fs k g) j) ≡ numbers (getElem? fs j)
@@ -125,7 +97,7 @@ call-in s k h = ap numbers (get-take (s .frames) (s .calls) k h)
 -- from the count on there is none
 pub call-out : (s : State) (k : ℕ) → s .calls ≤ k → callAt s k ≡ none
 unfolding callAt liveFrames numbers
-call-out s k h = ap numbers (get-behind (s .frames) (s .calls) k h)
+call-out s k h = ap numbers (take-none (s .frames) (s .calls) k h)
 
 -- t has the frames of s, each with its numbers, and goes on as s does
 pub record Keeps (s t : State) : Type 0 where

@@ -2,47 +2,14 @@
 use mathlib.Core.Path.{_≡_, refl, ap}
 use mathlib.Core.Logic.{_⊎_, inl, inr}
 use mathlib.Core.List.{List, [], _∷_, map}
-use mathlib.Core.Option.{none, some}
+use mathlib.Core.Option.{some}
 use mathlib.Core.Bool.{Bool, true, false, cond, _||_, false≢true}
-use Prim.Native.Nat.{ℕ, zero, suc, _+_, _≤_, _<_}
-use native.Mathlib.Nat.{le-of-suc-le-suc, not-suc-le-zero}
+use Prim.Native.Nat.{ℕ, zero, suc, _+_}
 use native.Mathlib.Omega.{arith}
-use lib.ListN.{length, getD, getElem?, take}
+use lib.ListN.{getElem?}
 use Rattle.layout.specs.Tests.{_and_, all, any, count}
 use Rattle.layout.proofs.Bools.{and-both}
 use Rattle.rules.proofs.Follows.{or-either, or-left}
-
--- ---- look-ups by number
-
-pub get-some : {A : Type 0} (xs : List A) (i : ℕ) (d : A) → i < length xs → getElem? xs i ≡ some (getD xs i d)
-get-some [] i d h = absurd (not-suc-le-zero h)
-get-some (x ∷ xs) zero d h = refl
-get-some (x ∷ xs) (suc i) d h = get-some xs i d (le-of-suc-le-suc h)
-
-pub get-in : {A : Type 0} (xs : List A) (i : ℕ) (d x : A) → getElem? xs i ≡ some x → (i < length xs) × (getD xs i d ≡ x)
-get-in [] i d x h = let z : _≡_ {A = ℕ} 0 1 = cc in absurd (omega arith)
-get-in (y ∷ xs) zero d x h = (omega arith, cc)
-get-in (y ∷ xs) (suc i) d x h = let t = get-in xs i d x h in (omega (arith, t .0), t .1)
-
-pub get-take : {A : Type 0} (xs : List A) (n i : ℕ) → i < n → getElem? (take n xs) i ≡ getElem? xs i
-get-take [] zero i h = absurd (not-suc-le-zero h)
-get-take [] (suc n) i h = refl
-get-take (x ∷ xs) zero i h = absurd (not-suc-le-zero h)
-get-take (x ∷ xs) (suc n) zero h = refl
-get-take (x ∷ xs) (suc n) (suc i) h = get-take xs n i (le-of-suc-le-suc h)
-
-pub take-in : {A : Type 0} (xs : List A) (n i : ℕ) (x : A) → getElem? (take n xs) i ≡ some x → i < n
-take-in [] zero i x h = let z : _≡_ {A = ℕ} 0 1 = cc in absurd (omega arith)
-take-in [] (suc n) i x h = let z : _≡_ {A = ℕ} 0 1 = cc in absurd (omega arith)
-take-in (y ∷ xs) zero i x h = let z : _≡_ {A = ℕ} 0 1 = cc in absurd (omega arith)
-take-in (y ∷ xs) (suc n) zero x h = omega arith
-take-in (y ∷ xs) (suc n) (suc i) x h = omega (arith, take-in xs n i x h)
-
--- behind the end nothing stands
-pub get-end : {A : Type 0} (xs : List A) (i : ℕ) → length xs ≤ i → getElem? xs i ≡ none
-get-end [] i h = refl
-get-end (x ∷ xs) zero h = absurd (not-suc-le-zero h)
-get-end (x ∷ xs) (suc i) h = get-end xs i (le-of-suc-le-suc h)
 
 -- ---- tests of all and of some
 
@@ -82,10 +49,6 @@ pub map-get : {A B : Type 0} (f : A → B) (l : List A) (i : ℕ) (x : A) → ge
 map-get f [] i x e = let z : _≡_ {A = ℕ} 0 1 = cc in absurd (omega arith)
 map-get f (y ∷ l) zero x e = let q : y ≡ x = cc in ap (λ z. some (f z)) q
 map-get f (y ∷ l) (suc i) x e = map-get f l i x e
-
-pub map-length : {A B : Type 0} (f : A → B) (l : List A) → length (map f l) ≡ length l
-map-length f [] = refl
-map-length f (x ∷ l) = ap suc (map-length f l)
 
 pub none-counted : {A : Type 0} (p : A → Bool) (l : List A) → count p l ≡ 0 → (i : ℕ) (x : A) → getElem? l i ≡ some x → p x ≡ true → ⊥
 unfolding count

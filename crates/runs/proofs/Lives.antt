@@ -10,15 +10,17 @@ use native.Mathlib.Omega.{arith}
 use lib.IntN.{ℤ}
 use lib.ListN.{length, set}
 use lib.Dec.{eqb, ltb}
-use borrow.Author.Tests.{eqb-true, ltb-true}
+use borrow.Author.Tests.{eqb-true}
 use Rattle.layout.specs.Bounds.{VERSIONS}
 use Rattle.layout.specs.Tests.{_and_, found}
 use Rattle.layout.proofs.Bools.{and-both}
+use Rattle.layout.proofs.Lists.{get-other, get-same}
+use Rattle.machine.proofs.Tries.{or-stuck, put-there}
 use Rattle.program.specs.Program.{Argument, Instr, LIT, MOVE, USE, DUP, VEC, LEN, GET, SET, ARITH, SELECT, CAST, NAMED, STORE, PROM, FORCE, PEEK, POKE, CALL, DISPATCH, Version, Program, findVersion, parameterTypes}
 use Rattle.rules.specs.Types.{kindOf, within}
 use Rattle.checker.specs.Verdicts.{verdictOf}
 use Rattle.checker.specs.declared.Verdict.{Verdict}
-use Rattle.machine.specs.Try.{Try, got, stuck, stop, _>>_, stuckUnless, orStuck, at, put, each}
+use Rattle.machine.specs.Try.{Try, got, stuck, stop, stuckUnless, orStuck, at, put, each}
 use Rattle.machine.specs.States.{over, itemsOf, liveFrames, anInteger, value, kindIn, withStack, withPromise, withEnd}
 use Rattle.machine.specs.Calls.{opened, passed, matching, emptied, frameFor, enter, dispatches, lowest, picked, closed, done, back, finish}
 use Rattle.machine.specs.Steps.{registersOf, execute, Here, here, Position, instruction, blockEnd, outside, positionOf, proceed, advance}
@@ -36,7 +38,7 @@ use Rattle.machine.specs.declared.Status.{Status}
 use Rattle.machine.specs.declared.Value.{Value}
 use Rattle.machine.specs.declared.Vector.{Vector}
 use Rattle.runs.specs.Lives.{numbers, callAt, Enters, Leaves, isDone, Finishes, Ends, isCall, Happens, calls, dispatches as dispatched, ends, stays, steps, Lives, Unmoved, idle, FirstCall, Advances, Moves}
-use Rattle.runs.proofs.Keeps.{Gives, gives-then, gives-next, gives-after, gives-weaken, gives-got, test-true, or-stuck, get-other, get-same, call-in, call-out, Keeps, keeps-trans, keeps-stays, assign-keeps, opened-keeps, passed-keeps, emptied-keeps, execute-keeps}
+use Rattle.runs.proofs.Keeps.{Gives, gives-then, gives-next, gives-after, gives-weaken, gives-got, test-true, call-in, call-out, Keeps, keeps-trans, keeps-stays, assign-keeps, opened-keeps, passed-keeps, emptied-keeps, execute-keeps}
 use Rattle.program.proofs.Held.{find-numbers}
 use Rattle.runs.proofs.Stops.{Halts, advance-halts}
 
@@ -64,15 +66,6 @@ put-enters s u F h l = (h .status, record { count = ap (λ (n : ℕ). n + 1) (h 
     same : (k : ℕ) → k ≢ s .calls → Dec (k < s .calls) → callAt t k ≡ callAt s k
     same k n (yes m) = call-in t k (omega (arith, h .count)) ∙ ap numbers (get-other (u .frames) (u .calls) k F (λ e. n (e ∙ h .count))) ∙ h .frames k ∙ sym (call-in s k m)
     same k n (no m) = let g : s .calls ≢ k = λ e. n (sym e) in call-out t k (omega (arith, h .count)) ∙ sym (call-out s k (omega arith))
-
--- a place that was there
-put-there : {A : Type 0} (xs ys : List A) (i : ℕ) (x : A) → put xs i x ≡ got ys → (i < length xs) × (set xs i x ≡ ys)
-unfolding put stuckUnless _>>_
-put-there xs ys i x e = go (ltb i (length xs)) refl e
-  where
-    go : (b : Bool) → ltb i (length xs) ≡ b → (stuckUnless b >> got (set xs i x)) ≡ got ys → (i < length xs) × (set xs i x ≡ ys)
-    go true l q = (ltb-true i (length xs) l, cc)
-    go false l q = let z : _≡_ {A = ℕ} 0 1 = cc in absurd (omega arith)
 
 -- the frame of the version W
 frame-enters : (s u : State) (W : Version) (vs : List Value) (fs : List Frame) → Keeps s u → put (u .frames) (u .calls) (frameFor W vs) ≡ got fs → EntersOn s (W .function) (W .version) (withStack u fs (u .calls + 1) (u .activations) (u .depth))

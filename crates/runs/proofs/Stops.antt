@@ -352,7 +352,7 @@ proceed-halts P s h (instruction i) = execute-halts P (passed s (h .activation))
 proceed-halts P s h blockEnd = bind _ _ (value-halts (h .frame) (h .block .result)) (λ v. finish-halts P s (h .activation) (h .version) v (h .activation .opener))
 proceed-halts P s h outside = tt
 
--- THE LAW
+-- THE LAW: no step stops with DONE
 pub advance-halts : (P : Program) (s : State) → Halts (advance P s)
 unfolding advance
 advance-halts P s = bind _ _ (here-halts P s) (λ h. proceed-halts P s h (positionOf h))

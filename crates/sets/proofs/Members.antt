@@ -1,6 +1,6 @@
 -- Sets of any size, register by register.
 use mathlib.Core.Path.{_≡_, refl, sym, ap, ap₂, _∙_}
-use mathlib.Core.List.{List, [], _∷_, map}
+use mathlib.Core.List.{[], _∷_, map}
 use mathlib.Core.Bool.{Bool, true, false, _||_, or-false, or-assoc, true≢false}
 use Prim.Native.Nat.{ℕ, zero, suc}
 use Rattle.sets.specs.Sets.{Set, has, both, inhabited, _∪_}

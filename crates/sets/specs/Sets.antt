@@ -5,6 +5,7 @@ use Prim.Native.Nat.{ℕ, zero, suc, _+_, _/_, _%_}
 use lib.ListN.{drop, getD, replicate}
 use lib.Dec.{eqb}
 
+-- a register set: of each register, from 0 on, whether it is in
 abbrev pub Set : Type 0
 Set = List Bool
 
@@ -28,11 +29,12 @@ both f [] t = map (f false) t
 both f (a ∷ s) [] = map (λ x. f x false) (a ∷ s)
 both f (a ∷ s) (b ∷ t) = f a b ∷ both f s t
 
--- in one or the other, in one but not in the other
+-- Flow, ∪: in one or the other
 infixl 60 _∪_
 abbrev pub _∪_ : Set → Set → Set
 s ∪ t = both _||_ s t
 
+-- Flow, −: in the first but not in the second
 infixl 60 _∖_
 abbrev pub _∖_ : Set → Set → Set
 s ∖ t = both (λ a b. a && not b) s t

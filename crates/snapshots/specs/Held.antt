@@ -34,6 +34,7 @@ endingOf End.Deep = record { status = 4; length = 0; value = pos 0 }
 endingOf End.Vectors = record { status = 5; length = 0; value = pos 0 }
 endingOf End.Promises = record { status = 6; length = 0; value = pos 0 }
 
+-- the state that a snapshot stands for, whatever its numbers
 unfoldable pub held : Snapshot → State
 held S = record {
   frames = upTo (frameIn (S .owners) (S .codes) (S .numbers)) 0 ACTIVATIONS;

@@ -1,6 +1,10 @@
-//! The state of a run as a struct of numbers, and back.
+//! The state of a run as a struct of numbers in C layout; conversion both ways, which the C interface does without.
 ghost use mathlib.Core.Path.{_≡_};
 ghost use Rattle.snapshots.specs.Held.{endingOf, held, statusOf};
+use flat::delays;
+use flat::frames;
+use flat::heap;
+use flat::stack;
 use machine::End;
 use machine::State;
 use machine::Status;
@@ -122,10 +126,10 @@ pub fn state(snapshot: Snapshot) -> State
     let flags = snapshot.promises;
     let caches = snapshot.caches;
     let result = snapshot.result;
-    let frames = flat::frames(&owners, &codes, &numbers);
-    let activations = flat::activations(&stack);
-    let vectors = flat::vectors(&lengths, &items);
-    let promises = flat::promises(&flags, &caches);
+    let frames = frames::frames(&owners, &codes, &numbers);
+    let activations = stack::activations(&stack);
+    let vectors = heap::vectors(&lengths, &items);
+    let promises = delays::promises(&flags, &caches);
     let status = status(snapshot.status, snapshot.value, snapshot.length);
     State {
         frames: frames,
@@ -157,10 +161,10 @@ pub fn snapshot_of(state: State) -> Snapshot
     let mut items = [0i32; 1024];
     let mut promises = [0u8; 192];
     let mut caches = [0i32; 64];
-    flat::load_frames(frames, &mut owners, &mut codes, &mut numbers);
-    flat::load_activations(activations, &mut stack);
-    flat::load_vectors(vectors, &mut lengths, &mut items);
-    flat::load_promises(delayed, &mut promises, &mut caches);
+    frames::load_frames(frames, &mut owners, &mut codes, &mut numbers);
+    stack::load_activations(activations, &mut stack);
+    heap::load_vectors(vectors, &mut lengths, &mut items);
+    delays::load_promises(delayed, &mut promises, &mut caches);
     let mark = mark(status);
     Snapshot {
         numbers: numbers,

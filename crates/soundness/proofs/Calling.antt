@@ -6,13 +6,14 @@ use mathlib.Core.Option.{Option, none, some, Option·elim}
 use mathlib.Core.Bool.{Bool, true, false, cond, not, false≢true}
 use Prim.Native.Nat.{ℕ, zero, suc, _≤_, _<_}
 use native.Mathlib.Omega.{arith}
-use lib.ListN.{length, getElem?}
+use lib.ListN.{length, getElem?, length-map}
 use lib.Dec.{eqb}
 use borrow.Author.Tests.{eqb-true, eqb-false, eq-eqb, leb-true, ltb-true, not-true}
 use Rattle.layout.specs.Bounds.{VERSIONS}
 use Rattle.layout.specs.Tests.{_and_, all, count, found}
 use Rattle.layout.proofs.Fields.{all-map}
 use Rattle.layout.proofs.Bools.{and-both, found-some, found-none}
+use Rattle.layout.proofs.Lists.{get-in, get-some, get-take, take-in}
 use Rattle.sets.specs.Sets.{has}
 use Rattle.program.specs.Program.{Argument, Instr, CALL, DISPATCH, Line, Version, Program, findVersion, markOf, parameterTypes, beside, given}
 use Rattle.program.specs.Questions.{registerExists, exists}
@@ -46,7 +47,7 @@ use Rattle.soundness.proofs.Standing.{At, live, place-in, typed, meets}
 use Rattle.soundness.proofs.Operands.{only-one, fits-i, exists-i, bounded-i, marked-i, touched, full-at, assigned-in, value-got}
 use Rattle.soundness.proofs.Plain.{Stepped}
 use Rattle.soundness.proofs.Entering.{Enters, enters}
-use Rattle.runs.proofs.Lists.{get-some, get-in, get-take, take-in, any-at, all-at, get-map, map-get, map-length, counted-once}
+use Rattle.runs.proofs.Lists.{any-at, all-at, get-map, map-get, counted-once}
 
 both-hold : {b c : Bool} → b ≡ true → c ≡ true → (b and c) ≡ true
 unfolding _and_
@@ -143,7 +144,7 @@ module _ (P : Program) (sure : Sure P) (s : State) (a : Activation) (rest : List
       known = known;
       exist = register-exists;
       full = λ j r g. full-at P sure s a rest l W i is (registersOf call) (freed call) (d ∷ []) e j r g (register-exists j r g);
-      count = map-length (λ (x : Argument). x .register) call ∙ same-length call (parameterTypes C) same ∙ length-parameters P C (sure _ _ C known);
+      count = length-map call (λ (x : Argument). x .register) ∙ same-length call (parameterTypes C) same ∙ length-parameters P C (sure _ _ C known);
       matches = λ j r g. let x = argument j r g in matching-at (kindsOf (registersOf call)) (parameterTypes C) fits-kinds j _ (typeOf C j) (map-get (valueKind P (s .frames) (s .promises)) (map (cellAt (s .frames) (a .frame)) (registersOf call)) j (cellAt (s .frames) (a .frame) r) (map-get (cellAt (s .frames) (a .frame)) (registersOf call) j r g)) (type-at j (x .0) (x .1));
       owned = owned-at;
       shared = shared-at;
@@ -243,7 +244,7 @@ module _ (P : Program) (sure : Sure P) (s : State) (a : Activation) (rest : List
         go false false eo eb f = and-both _ _ f .1
 
     matches : matching (map (valueKind P (s .frames) (s .promises)) (map (cellAt (s .frames) (a .frame)) rs)) (parameterTypes C) ≡ true
-    matches = matching-all _ (parameterTypes C) (map-length (valueKind P (s .frames) (s .promises)) (map (cellAt (s .frames) (a .frame)) rs) ∙ map-length (cellAt (s .frames) (a .frame)) rs ∙ as-many) each-kind
+    matches = matching-all _ (parameterTypes C) (length-map (map (cellAt (s .frames) (a .frame)) rs) (valueKind P (s .frames) (s .promises)) ∙ length-map rs (cellAt (s .frames) (a .frame)) ∙ as-many) each-kind
       where
         each-kind : (j k t : ℕ) → getElem? (map (valueKind P (s .frames) (s .promises)) (map (cellAt (s .frames) (a .frame)) rs)) j ≡ some k → getElem? (parameterTypes C) j ≡ some t → within k (kindOf t) ≡ true
         each-kind j k t f h =

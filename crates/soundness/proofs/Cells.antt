@@ -2,29 +2,29 @@
 use mathlib.Core.Path.{_≡_, refl, ap, _∙_}
 use mathlib.Core.Logic.{_≢_, _⊎_, inl, inr}
 use mathlib.Core.List.{List}
-use mathlib.Core.Option.{some}
 use mathlib.Core.Bool.{Bool, true, false, cond}
 use Prim.Native.Nat.{ℕ, _+_, _-_, _≤_, _<_}
 use native.Mathlib.Decide.{ℕ-discrete}
 use native.Mathlib.Omega.{arith}
-use lib.ListN.{length, getD, getElem?, set, take, length-set, List·getD-eq-default}
+use lib.ListN.{length, getD, set, take, length-set, List·getD-eq-default}
 use lib.Seq.{getD-set-same, getD-set-other}
 use lib.Dec.{ltb}
 use borrow.Author.Tests.{lt-ltb, le-ltb, ltb-true, ltb-false}
 use Rattle.layout.specs.Bounds.{REGISTERS, NAMES}
-use Rattle.machine.specs.Try.{got, _>>=_, _>>_, stuckUnless, orStuck, at, put}
+use Rattle.layout.proofs.Lists.{get-some, get-take}
+use Rattle.machine.proofs.Tries.{at-in, at-some, put-in}
+use Rattle.machine.specs.Try.{got, _>>=_, _>>_, at, put}
 use Rattle.machine.specs.States.{ACTIVATIONS, place, newFrame, liveFrames, register, named, withStack, withFrame, withRegister, withName, assign, store}
 use Rattle.machine.specs.declared.Frame.{Frame}
 use Rattle.machine.specs.declared.Place.{Place}
 use Rattle.machine.specs.declared.State.{State}
 use Rattle.machine.specs.declared.Value.{Value}
-use Rattle.runs.proofs.Lists.{get-some, get-take}
 
 -- how many cells a frame has
 abbrev pub CELLS : ℕ
 CELLS = 24
 
--- shut: proofs know it through the getters below
+-- a default, not unfolded in proofs: they know it through the getters below
 pub noFrame : Frame
 noFrame = newFrame 0 0
 
@@ -58,20 +58,6 @@ pub record Whole (f : Frame) : Type 0 where
 pub record Sized (fs : List Frame) : Type 0 where
   pub frames : length fs ≡ ACTIVATIONS
   pub whole : (k : ℕ) → k < ACTIVATIONS → Whole (frameAt fs k)
-
--- ---- look-ups
-
-pub at-in : {A : Type 0} (xs : List A) (i : ℕ) (d : A) → i < length xs → at xs i ≡ got (getD xs i d)
-unfolding at orStuck
-at-in xs i d h = rw (get-some xs i d h)
-
-pub at-some : {A : Type 0} (xs : List A) (i : ℕ) (x : A) → getElem? xs i ≡ some x → at xs i ≡ got x
-unfolding at orStuck
-at-some xs i x h = rw h
-
-pub put-in : {A : Type 0} (xs : List A) (i : ℕ) (x : A) → i < length xs → put xs i x ≡ got (set xs i x)
-unfolding put stuckUnless _>>_
-put-in xs i x h = rw (lt-ltb i (length xs) h)
 
 -- ---- one frame
 

@@ -9,8 +9,11 @@ use native.Mathlib.Decide.{decLt}
 use native.Mathlib.Omega.{arith}
 use lib.IntN.{ℤ}
 use lib.ListN.{length, getElem?, List·getD-eq-default}
-use borrow.Author.Tests.{lt-ltb, le-ltb}
+use borrow.Author.Tests.{le-ltb}
 use Rattle.layout.specs.Bounds.{REGISTERS, NAMES}
+use Rattle.layout.proofs.Lists.{get-in, get-none, get-some}
+use Rattle.soundness.proofs.Ends.{not-running}
+use Rattle.soundness.proofs.Types.{register-type}
 use Rattle.program.specs.Program.{Version, Program, findVersion}
 use Rattle.rules.specs.Types.{ownershipOf, isOwned, isBorrowed}
 use Rattle.rules.specs.Fits.{typeOf}
@@ -34,20 +37,16 @@ use Rattle.checker.proofs.Limits.{limited}
 use Rattle.soundness.proofs.LiveCalls.{live-frame}
 use Rattle.soundness.proofs.KindsOf.{valueKind, kind-got, kind-within}
 use Rattle.soundness.proofs.Quiet.{reflective-runs, none-quiet}
-use Rattle.runs.proofs.Lists.{get-some, get-in, get-end}
 
 -- a step of a run that goes on is not stuck and keeps the invariant
 abbrev pub StepSafe : Program → Type 0
 StepSafe P = (s : State) → Inv P s → s .status ≡ Status.Running → Good (Inv P) (advance P s)
 
 -- an ended run does not go on
-ended-runs : (e : End) → Status.Ended e ≡ Status.Running → ⊥
-ended-runs e h = let z : _≡_ {A = ℕ} 0 1 = cc in omega arith
-
 -- an end keeps all but the stack, which is spoken of only while the run goes on
 pub end-keeps : (P : Program) (s : State) (xs : List ℤ) (e : End) → Inv P s → Inv P (withEnd s xs e)
 unfolding withEnd
-end-keeps P s xs e inv = record { heap = inv .heap; vectors = inv .vectors; room = inv .room; deep = inv .deep; stack = λ h. absurd (ended-runs e h) }
+end-keeps P s xs e inv = record { heap = inv .heap; vectors = inv .vectors; room = inv .room; deep = inv .deep; stack = λ h. absurd (not-running e h) }
 
 -- ---- the invariant is kept
 
@@ -193,7 +192,7 @@ module _ (f : Frame) (w : Whole f) where
     where
       go : Dec (r < REGISTERS) → (r < REGISTERS) × (cell f r ≡ v)
       go (yes h) = let q : got (cell f r) ≡ got v = sym (register-is f w r h) ∙ e in (h, cc)
-      go (no h) = let q : stuck ≡ got v = rw (get-end (f .registers) r (omega (arith, w .registers))) at e in let z : _≡_ {A = ℕ} 0 1 = cc in absurd (omega arith)
+      go (no h) = let q : stuck ≡ got v = rw (get-none (f .registers) r (omega (arith, w .registers))) at e in let z : _≡_ {A = ℕ} 0 1 = cc in absurd (omega arith)
 
   -- and so with names
   name-holds : (x : ℕ) (v : Value) → named f x ≡ got v → cell f (REGISTERS + x) ≡ v
@@ -202,12 +201,7 @@ module _ (f : Frame) (w : Whole f) where
     where
       go : Dec (x < NAMES) → cell f (REGISTERS + x) ≡ v
       go (yes h) = let q : got (cell f (REGISTERS + x)) ≡ got v = sym (named-is f w x h) ∙ e in cc
-      go (no h) = let q : stuck ≡ got v = rw (get-end (f .names) x (omega (arith, w .names))) at e in let z : _≡_ {A = ℕ} 0 1 = cc in absurd (omega arith)
-
--- the type of a register, and that of a name, which is not borrowed
-register-type : (v : Version) (r : ℕ) → r < REGISTERS → cellType v r ≡ typeOf v r
-unfolding cellType
-register-type v r h = rw (lt-ltb r REGISTERS h) refl
+      go (no h) = let q : stuck ≡ got v = rw (get-none (f .names) x (omega (arith, w .names))) at e in let z : _≡_ {A = ℕ} 0 1 = cc in absurd (omega arith)
 
 -- a name is of a type that is not borrowed
 name-not-borrowed : (v : Version) (x : ℕ) → isBorrowed (cellType v (REGISTERS + x)) ≡ false

@@ -11,6 +11,7 @@ use lib.Dec.{ltb}
 use borrow.Author.Tests.{eqb-true, lt-ltb, le-ltb, ltb-true, ltb-false}
 use Rattle.layout.specs.Bounds.{REGISTERS}
 use Rattle.layout.specs.Tests.{any}
+use Rattle.layout.proofs.Lists.{get-in, get-some, get-take, take-in}
 use Rattle.rules.proofs.Follows.{or-either, or-left, or-right, not-true as not-false}
 use Rattle.machine.specs.Try.{Try, got, _>>=_, each}
 use Rattle.machine.specs.States.{place, liveFrames, isVector, isPromise, refers, held, vectorCounts, promiseCounts, free}
@@ -22,7 +23,7 @@ use Rattle.machine.specs.declared.Value.{Value}
 use Rattle.soundness.proofs.Cells.{CELLS, Sized, Whole, noFrame, frameAt, cell, cellAt, at-out}
 use Rattle.soundness.proofs.Progress.{Good}
 use Rattle.soundness.proofs.Types.{clash, eqb-same}
-use Rattle.runs.proofs.Lists.{get-some, get-in, get-take, take-in, any-at, any-find}
+use Rattle.runs.proofs.Lists.{any-at, any-find}
 
 -- ---- lists
 

@@ -30,7 +30,7 @@ started image f v words buffer h = go (verdictOf image) refl h
     go (Verdict.Refused q p) e g = absurd (refused-begun q p g)
     go (Verdict.Accepted n) e g = record { sure = checked image n e; inv = begun-inv (programOf image) (checked image n e) f v words buffer g }
 
--- THE LAW
+-- THE LAW: demand 3 holds where every step is safe
 pub demand3-from : ((P : Program) → Sure P → StepSafe P) → Demand3
 unfolding Demand3
 demand3-from safe image f v words buffer h events =

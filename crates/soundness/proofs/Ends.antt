@@ -13,6 +13,7 @@ use lib.Dec.{eqb}
 use borrow.Author.Tests.{eqb-true, eqb-false, eq-eqb, lt-ltb}
 use Rattle.layout.specs.Bounds.{REGISTERS}
 use Rattle.layout.specs.Tests.{_and_}
+use Rattle.machine.proofs.Tries.{at-in}
 use Rattle.sets.specs.Sets.{has}
 use Rattle.program.specs.Program.{Version, Program}
 use Rattle.rules.specs.Types.{kindOf, isOwned, isBorrowed, within}
@@ -34,7 +35,7 @@ use Rattle.machine.specs.declared.Promise.{Promise}
 use Rattle.machine.specs.declared.State.{State}
 use Rattle.machine.specs.declared.Status.{Status}
 use Rattle.machine.specs.declared.Value.{Value}
-use Rattle.soundness.proofs.Cells.{frameAt, cellAt, writeAt, wrote, at-in, at-same, assign-is, register-is}
+use Rattle.soundness.proofs.Cells.{frameAt, cellAt, writeAt, wrote, at-same, assign-is, register-is}
 use Rattle.soundness.proofs.Invariant.{Sure, versionAt, blockAt, promiseAt, typeAt, isFull, kept, Fits, Unshared, Lone, Heap, Ext, every, top, waits, isPend, Gets, Stands, Opened, below, gives, awaited, Base, Stack, noActivation, stackOf, Inv}
 use Rattle.soundness.proofs.Progress.{Good, good, good-got, good-test}
 use Rattle.soundness.proofs.Types.{clash, register-type, shared-owned, owned-owned, owned-kind, plain-shared, plain-kind, fresh-kind, integer-kind, force-kind, force-owned, within-trans, fits-within, fits-down, fits-promise, an-integer}
@@ -108,7 +109,7 @@ goes-back P sure s n h d t k x v r e eh H U fx fits-x lone =
     (record { heap = z .0; vectors = v; room = r; deep = omega arith; stack = λ _. rw j (z .1) })))
 
 -- an ended state does not run
-not-running : (e : End) → Status.Ended e ≡ Status.Running → ⊥
+pub not-running : (e : End) → Status.Ended e ≡ Status.Running → ⊥
 not-running e q = let z : _≡_ {A = ℕ} 0 1 = cc in omega arith
 
 an-integer-got : (z : ℤ) → anInteger (Value.Integer z) ≡ got z

@@ -7,10 +7,12 @@ use mathlib.Core.Bool.{Bool, true, false, cond}
 use Prim.Native.Nat.{ℕ, zero, suc, _+_, _≤_, _<_}
 use native.Mathlib.Numerals.{add-one}
 use native.Mathlib.Omega.{arith}
-use lib.ListN.{length, getD, getElem?, set, length-set}
+use lib.ListN.{length, getD, getElem?, set, length-set, length-map}
 use lib.Dec.{eqb, ltb}
 use borrow.Author.Tests.{ltb-true}
 use Rattle.layout.specs.Bounds.{REGISTERS}
+use Rattle.layout.proofs.Lists.{get-in, get-some, get-take}
+use Rattle.machine.proofs.Tries.{put-in}
 use Rattle.sets.specs.Sets.{has}
 use Rattle.program.specs.Program.{Line, Version, Program, findVersion, markOf, parameterTypes, beside}
 use Rattle.program.specs.Questions.{registerExists}
@@ -28,7 +30,7 @@ use Rattle.machine.specs.declared.Frame.{Frame}
 use Rattle.machine.specs.declared.Opener.{Opener}
 use Rattle.machine.specs.declared.State.{State}
 use Rattle.machine.specs.declared.Value.{Value}
-use Rattle.soundness.proofs.Cells.{cell, cellAt, put-in, Apart, place?}
+use Rattle.soundness.proofs.Cells.{cell, cellAt, Apart, place?}
 use Rattle.soundness.proofs.Invariant.{Sure, versionAt, blockAt, cellType, typeAt, isFull, keep, kept, Fits, Unshared, Heap, Ext, every, Pend, top, waits, isPend, Gets, Stands, Opened, below, gives, awaited, Base, Stack, stackOf, Inv}
 use Rattle.soundness.proofs.Progress.{Good, good, good-got}
 use Rattle.soundness.proofs.Types.{clash, eqb-same, register-type}
@@ -41,7 +43,6 @@ use Rattle.soundness.proofs.Clearing.{isIn, Cleared, still, full-still,
 use Rattle.soundness.proofs.Standing.{At, moved, live, place-in, type-is, typed, meets, onward, under-le, spare, not-owned}
 use Rattle.soundness.proofs.Vectors.{sole, under-body}
 use Rattle.soundness.proofs.Promises.{stack-push}
-use Rattle.runs.proofs.Lists.{get-some, get-in, get-take, map-length}
 
 -- ---- arguments
 
@@ -130,7 +131,7 @@ module _ (P : Program) (sure : Sure P) (s : State) (a : Activation) (rest : List
   callee = sure _ _ C (K .known)
 
   few : length (map (cellAt (s .frames) (a .frame)) rs) ≤ REGISTERS
-  few = omega (arith, map-length (cellAt (s .frames) (a .frame)) rs, K .count, limited P C callee .parameters)
+  few = omega (arith, length-map rs (cellAt (s .frames) (a .frame)), K .count, limited P C callee .parameters)
 
   -- the type of a parameter
   parameter : (j r : ℕ) → getElem? rs j ≡ some r → (j < REGISTERS) × (cellType C j ≡ typeOf C j) × (getElem? (parameterTypes C) j ≡ some (typeOf C j))

@@ -32,7 +32,7 @@ use Rattle.soundness.proofs.Cells.{Sized, Apart, frameAt, cellAt}
 abbrev pub Sure : Program → Type 0
 Sure P = (f w : ℕ) (v : Version) → findVersion P f w ≡ some v → Checked P v
 
--- ---- versions and types of the frames; defaults are shut
+-- ---- versions and types of the frames; defaults are not unfolded in proofs
 
 pub noVersion : Version
 noVersion = record { at = 0; function = 0; version = 0; parameters = 0; types = []; return = 0; blocks = [] }
@@ -194,7 +194,7 @@ unfoldable pub Stack : Program → List Frame → Pend → ℕ → List Activati
 Stack P fs pend n [] = Base pend n
 Stack P fs pend n (a ∷ rest) = Stands P fs pend (a .frame) (a .block) (a .next) × Opened n (a .frame) (a .block) (a .opener) × Stack P fs (awaited P fs a) (below n (a .frame) (a .opener)) rest
 
--- shut
+-- a default, not unfolded in proofs
 pub noActivation : Activation
 noActivation = record { opener = Opener.Call; d = 0; frame = 0; block = 0; next = 0 }
 

@@ -14,7 +14,8 @@ use Rattle.machine.specs.declared.Frame.{Frame}
 use Rattle.machine.specs.declared.Promise.{Promise}
 use Rattle.machine.specs.declared.State.{State}
 use Rattle.machine.specs.declared.Value.{Value}
-use Rattle.soundness.proofs.Cells.{frameAt, at-in, at-some, frame-is}
+use Rattle.machine.proofs.Tries.{at-in, at-some}
+use Rattle.soundness.proofs.Cells.{frameAt, frame-is}
 use Rattle.soundness.proofs.Invariant.{versionAt, promiseAt, noPromise, isFull, kindAt, Fits, Heap}
 
 unfoldable pub valueKind : Program → List Frame → List Promise → Value → ℕ

@@ -11,9 +11,9 @@ use Rattle.machine.specs.States.{liveFrames}
 use Rattle.machine.specs.declared.Frame.{Frame}
 use Rattle.machine.specs.declared.Promise.{Promise}
 use Rattle.machine.specs.declared.State.{State}
+use Rattle.layout.proofs.Lists.{get-in, get-take, take-in}
 use Rattle.soundness.proofs.Cells.{noFrame, frameAt}
 use Rattle.soundness.proofs.Invariant.{Sure, versionAt, blockAt, noBlock, Heap}
-use Rattle.runs.proofs.Lists.{get-in, get-take, take-in}
 
 -- a version's mark is that of its body
 pub mark-is : (v : Version) → 0 < length (v .blocks) → blockAt v 0 .mark ≡ markOf v

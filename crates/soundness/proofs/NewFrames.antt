@@ -11,6 +11,7 @@ use lib.Dec.{ltb}
 use borrow.Author.Tests.{ltb-false}
 use Rattle.layout.specs.Bounds.{REGISTERS, NAMES}
 use Rattle.layout.specs.Tests.{_and_}
+use Rattle.layout.proofs.Lists.{get-some}
 use Rattle.program.specs.Program.{Version, Program}
 use Rattle.rules.proofs.Suffixes.{Does, Begun, begun}
 use Rattle.rules.proofs.Touches.{Flowing, flows-body}
@@ -23,7 +24,6 @@ use Rattle.machine.specs.declared.Value.{Value}
 use Rattle.soundness.proofs.Cells.{Whole, cell, cellAt}
 use Rattle.soundness.proofs.Invariant.{noBlock, versionAt, blockAt, isFull, captures, keep, top, Gets, Stands}
 use Rattle.checker.proofs.Limits.{limited}
-use Rattle.runs.proofs.Lists.{get-some}
 
 -- ---- a list put over another
 

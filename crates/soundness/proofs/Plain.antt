@@ -12,6 +12,7 @@ use Rattle.layout.specs.Bounds.{OPERATIONS}
 use Rattle.layout.specs.Tests.{_and_}
 use Rattle.layout.specs.Records.{choose}
 use Rattle.layout.proofs.Bools.{and-both}
+use Rattle.machine.proofs.Tries.{at-in}
 use Rattle.program.specs.Program.{Instr, LIT, MOVE, LEN, GET, ARITH, SELECT, CAST, Line, Version, Program}
 use Rattle.program.specs.Questions.{registerExists, exists}
 use Rattle.program.proofs.Laid.{instrBounded}
@@ -27,7 +28,7 @@ use Rattle.machine.specs.declared.Activation.{Activation}
 use Rattle.machine.specs.declared.State.{State}
 use Rattle.machine.specs.declared.Value.{Value}
 use Rattle.machine.specs.declared.Vector.{Vector}
-use Rattle.soundness.proofs.Cells.{frameAt, cellAt, at-in}
+use Rattle.soundness.proofs.Cells.{frameAt, cellAt}
 use Rattle.soundness.proofs.Invariant.{Sure, versionAt, typeAt, isFull, Fits, Inv}
 use Rattle.soundness.proofs.Progress.{Good, good, good-then, good-got, good-end, good-test}
 use Rattle.soundness.proofs.Types.{plain-kind, fits-within}

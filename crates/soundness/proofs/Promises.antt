@@ -12,6 +12,8 @@ use lib.Seq.{getD-set-same, getD-set-other}
 use borrow.Author.Tests.{ltb-true, lt-ltb}
 use Rattle.layout.specs.Tests.{_and_}
 use Rattle.layout.proofs.Bools.{and-both, found-some}
+use Rattle.layout.proofs.Lists.{get-some}
+use Rattle.machine.proofs.Tries.{at-some}
 use Rattle.program.specs.Program.{Instr, PROM, FORCE, Line, Block, Version, Program}
 use Rattle.program.specs.Questions.{registerExists, exists}
 use Rattle.rules.specs.Types.{kindOf, within}
@@ -33,7 +35,6 @@ use Rattle.machine.specs.declared.Opener.{Opener}
 use Rattle.machine.specs.declared.Promise.{Promise}
 use Rattle.machine.specs.declared.State.{State}
 use Rattle.machine.specs.declared.Value.{Value}
-use Rattle.soundness.proofs.Cells.{at-some}
 use Rattle.soundness.proofs.Invariant.{Sure, versionAt, blockAt, noBlock, promiseAt, noPromise, isFull, touches, Alive, kindAt, PromiseFits, Fits, top, waits, isPend, Gets, Stands, Opened, below, gives, awaited, Stack, stackOf, Inv}
 use Rattle.soundness.proofs.Progress.{Good, good, good-then, good-got, good-next, good-end}
 use Rattle.soundness.proofs.Types.{In, itself, any, value, promise as quiet-promise, within-in, plain-kind, force-kind, force-owned, eqb-same}
@@ -44,7 +45,6 @@ use Rattle.soundness.proofs.KindsOf.{promise-is}
 use Rattle.soundness.proofs.Standing.{At, live, there, meets, operand, kept-now, onward, writes-register}
 use Rattle.soundness.proofs.Operands.{only-one, fits-i, exists-i, marked-i, full-at, assigned-in, promise-got}
 use Rattle.soundness.proofs.Plain.{Stepped, gives-integer}
-use Rattle.runs.proofs.Lists.{get-some}
 use Rattle.checker.proofs.Limits.{mark-bound}
 
 -- ---- the pool of promises

@@ -90,22 +90,22 @@ begin-entered image f v words buffer = go (verdictOf image) (verdict-numbered im
 -- ---- runs
 
 -- only DONE with a vector writes
-writes-none : (s : State) (a : Answer) → ((k : ℕ) → a ≢ Answer.Ended (End.Vector k)) → written s a ≡ []
+writes-none : (xs : List ℤ) (a : Answer) → ((k : ℕ) → a ≢ Answer.Ended (End.Vector k)) → written xs a ≡ []
 unfolding written
-writes-none s (Answer.Refused q p) h = refl
-writes-none s Answer.Steps h = refl
-writes-none s (Answer.Ended (End.Integer z)) h = refl
-writes-none s (Answer.Ended (End.Vector k)) h = absurd (h k refl)
-writes-none s (Answer.Ended End.Undef) h = refl
-writes-none s (Answer.Ended End.Deep) h = refl
-writes-none s (Answer.Ended End.Vectors) h = refl
-writes-none s (Answer.Ended End.Promises) h = refl
-writes-none s Answer.Stuck h = refl
+writes-none xs (Answer.Refused q p) h = refl
+writes-none xs Answer.Steps h = refl
+writes-none xs (Answer.Ended (End.Integer z)) h = refl
+writes-none xs (Answer.Ended (End.Vector k)) h = absurd (h k refl)
+writes-none xs (Answer.Ended End.Undef) h = refl
+writes-none xs (Answer.Ended End.Deep) h = refl
+writes-none xs (Answer.Ended End.Vectors) h = refl
+writes-none xs (Answer.Ended End.Promises) h = refl
+writes-none xs Answer.Stuck h = refl
 
 -- and what writes nothing leaves the buffer
 buffer-kept : (r : Ran) (buffer : List ℤ) → ((k : ℕ) → r .answer ≢ Answer.Ended (End.Vector k)) → bufferOf r buffer ≡ buffer
 unfolding bufferOf over
-buffer-kept r buffer h = rw (writes-none (r .state) (r .answer) h) refl
+buffer-kept r buffer h = rw (writes-none (r .state .result) (r .answer) h) refl
 
 -- an end adds at most one step
 last-step : (e : End) → lastStep e ≤ 1
@@ -170,7 +170,7 @@ budget-told P safe s n buffer inv = long (longEnough buffer) refl
     long true e = rw (e, budgetOf) (inner (s .status))
     long false e = rw (e, budgetOf) (refused-told n buffer s 13 0 (late 13 (omega arith) (omega arith)))
 
--- THE LAW
+-- THE LAW: every run from the start has a result where every step is safe
 pub results-from : ((P : Program) → Sure P → StepSafe P) → Results
 unfolding Results runOf runAfter Entered
 results-from safe image f v words n buffer = go (beginOf image f v words buffer .entry) refl (begin-entered image f v words buffer)

@@ -8,6 +8,8 @@ use native.Mathlib.Omega.{arith}
 use lib.ListN.{length, getD, getElem?, set, take}
 use lib.Seq.{take-all}
 use Rattle.layout.specs.Bounds.{INSTRUCTIONS}
+use Rattle.layout.proofs.Lists.{get-some, get-take}
+use Rattle.machine.proofs.Tries.{at-some}
 use lib.Seq.{getD-set-same, getD-set-other}
 use Rattle.program.specs.Program.{Line, Program}
 use Rattle.machine.specs.Try.{got, _>>=_, orStuck, at}
@@ -17,10 +19,9 @@ use Rattle.machine.specs.declared.Activation.{Activation}
 use Rattle.machine.specs.declared.Opener.{Opener}
 use Rattle.machine.specs.declared.State.{State}
 use Rattle.machine.specs.declared.Status.{Status}
-use Rattle.soundness.proofs.Cells.{frameAt, at-some, frame-is}
+use Rattle.soundness.proofs.Cells.{frameAt, frame-is}
 use Rattle.checker.proofs.Limits.{code-few}
 use Rattle.soundness.proofs.Invariant.{Sure, versionAt, blockAt, top, Stands, Opened, below, awaited, Base, Stack, noActivation, stackOf, Inv}
-use Rattle.runs.proofs.Lists.{get-some, get-take}
 
 -- ---- stacks
 

@@ -8,6 +8,7 @@ use Prim.Native.Nat.{ℕ, _+_, _≤_, _<_}
 use native.Mathlib.Omega.{arith}
 use lib.ListN.{length, getElem?}
 use Rattle.layout.specs.Bounds.{REGISTERS}
+use Rattle.layout.proofs.Lists.{get-in}
 use Rattle.sets.specs.Sets.{has}
 use Rattle.program.specs.Program.{Line, Program}
 use Rattle.program.specs.Questions.{registerExists, exists}
@@ -31,7 +32,6 @@ use Rattle.soundness.proofs.Progress.{Good, good}
 use Rattle.soundness.proofs.Types.{clash, register-type, shared-owned, shared-borrowed}
 use Rattle.soundness.proofs.Versions.{register-in, covers, spares}
 use Rattle.soundness.proofs.Heap.{same-version, ext-every, ext-less, stack-ext, ext-full, heap-write}
-use Rattle.runs.proofs.Lists.{get-in}
 use Rattle.soundness.proofs.Stacks.{opened-live, below-le}
 
 -- past its instruction

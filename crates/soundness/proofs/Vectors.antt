@@ -1,4 +1,4 @@
--- Vectors: USE, DUP, VEC and SET.
+-- Vectors: DUP, VEC and SET.
 use mathlib.Core.Path.{_≡_, refl, sym, ap, _∙_}
 use mathlib.Core.Logic.{_⊎_, inl, inr}
 use mathlib.Core.List.{List, [], _∷_}

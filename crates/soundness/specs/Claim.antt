@@ -31,6 +31,7 @@ counted Said.GoesOn = true
 counted (Said.Ended e) = eqb (lastStep e) 1
 counted Said.Stuck = false
 
+-- the run goes on
 unfoldable pub running : Status → Bool
 running Status.Running = true
 running (Status.Ended e) = false
@@ -57,6 +58,7 @@ isAccess (POKE a x e) = true
 isAccess (CALL d f w rs) = false
 isAccess (DISPATCH d f mark ret pairs) = false
 
+-- the run stands at a PEEK or POKE
 unfoldable pub atAccess : Try Position → Bool
 atAccess stuck = false
 atAccess (stop e) = false

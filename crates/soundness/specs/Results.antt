@@ -1,4 +1,4 @@
--- What a run from the start gives, as the sections "Questions" and "Steps" have it: the statement alone.
+-- What a run from the start gives, as the sections "Questions put to an image" and "Steps" have it: the statement alone.
 use mathlib.Core.Path.{_≡_}
 use mathlib.Core.Logic.{_≢_}
 use mathlib.Core.List.{List}

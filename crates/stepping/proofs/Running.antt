@@ -1,22 +1,20 @@
 -- A turn of the loop and the run that is left.
 use mathlib.Core.Path.{_≡_, refl, sym, ap, _∙_}
 use mathlib.Core.List.{List, []}
-use Prim.Native.Nat.{ℕ, zero, suc, _+_, _-_, _<_, _≤_}
+use Prim.Native.Nat.{ℕ, suc, _+_, _-_, _<_, _≤_}
 use native.Mathlib.Numerals.{add-one}
 use native.Mathlib.Omega.{arith}
 use lib.IntN.{ℤ}
 use lib.ListN.{length}
 use Rattle.program.specs.Program.{Program}
-use Rattle.machine.specs.Calls.{closed, done}
+use Rattle.machine.specs.Calls.{done}
 use Rattle.machine.specs.Runs.{continued, lastStep, runFrom, saying, settled, stepIn, stepOf}
-use Rattle.machine.specs.States.{itemsOf, withEnd, withStack}
+use Rattle.machine.specs.States.{withEnd}
 use Rattle.machine.specs.Steps.{advance}
-use Rattle.machine.specs.Try.{Try, got, stuck, stop, _>>=_, _>>_, at}
-use Rattle.machine.specs.declared.Answer.{Answer}
-use Rattle.machine.specs.declared.Ran.{Ran}
+use Rattle.machine.specs.Try.{got, stuck, stop, _>>=_, _>>_, at}
 use Rattle.machine.specs.declared.State.{State}
 use Rattle.machine.specs.declared.Value.{Value}
-use Rattle.memory.specs.Memory.{Long, Memory, memoryOf, stateOf, vectorIn}
+use Rattle.memory.specs.Memory.{Long, Memory, memoryOf, stateOf}
 use Rattle.memory.proofs.Heap.{vector-at}
 use Rattle.machine.specs.Begin.{programOf}
 use Rattle.memory.specs.Parts.{endOf, withOpen}

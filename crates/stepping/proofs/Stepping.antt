@@ -5,26 +5,24 @@ use mathlib.Core.Bool.{Bool, true, false}
 use Prim.Native.Nat.{ℕ, zero, suc, _+_, _-_, _*_, _<_, _≤_}
 use native.Mathlib.Omega.{arith}
 use lib.IntN.{ℤ}
-use lib.ListN.{length, length-set, set}
+use lib.ListN.{length-set, set}
 use lib.Dec.{ltb}
-use borrow.Author.Tests.{ltb-true, ltb-false}
-use Rattle.layout.proofs.Bools.{and-both, and-on}
+use borrow.Author.Tests.{ltb-false}
+use Rattle.layout.proofs.Bools.{and-on}
 use Rattle.layout.specs.Records.{_!_}
 use Rattle.layout.specs.Tests.{_and_}
-use Rattle.program.specs.Places.{instrAt, past, versionAt}
+use Rattle.program.specs.Places.{instrAt, past, versionAt, isLine}
 use Rattle.machine.specs.Begin.{programOf}
 use Rattle.machine.specs.Steps.{advance}
-use Rattle.machine.specs.Try.{Try, got, stuck, stop}
-use Rattle.machine.specs.declared.State.{State}
 use Rattle.memory.specs.Memory.{Long, Memory, memoryOf, stateOf}
 use Rattle.memory.specs.Parts.{withOpen}
 use Rattle.memory.specs.Works.{executed}
 use Rattle.memory.proofs.Stack.{passed-in}
 use Rattle.memory.specs.declared.Halt.{Halt}
-use Rattle.places.specs.Standing.{Spotted, Standing, Stands, isLine, topOf}
+use Rattle.places.specs.Standing.{Spotted, Standing, Stands, topOf}
 use Rattle.places.specs.declared.Spot.{Spot}
 use Rattle.places.proofs.Standings.{at-end-full, at-end-short, at-instruction, next-line}
-use Rattle.ends.specs.Closing.{Closes, Ends, Fewer, endOf}
+use Rattle.ends.specs.Closing.{Closes, Ends, Fewer, blockEnded}
 use Rattle.ends.specs.declared.Closed.{Closed}
 use Rattle.instructions.specs.Turns.{Instructs, Turns}
 use Rattle.instructions.specs.declared.Turn.{Turn}
@@ -64,12 +62,12 @@ module _ (s owners codes : List ℕ) (numbers : List ℤ) (stack lengths : List 
   stands R = stands-there s (memoryOf owners codes numbers stack lengths items promises caches) p ready here R
 
   module _ (unlined : (ltb (p .next) 48 and isLine s (p .at)) ≡ false) where
-    ended : (R : List ℤ) (b : Bool) → ltb (p .next) 48 ≡ b → advance (programOf s) (stateOf (the R)) ≡ endOf s (the R) p
-    unfolding endOf
+    ended : (R : List ℤ) (b : Bool) → ltb (p .next) 48 ≡ b → advance (programOf s) (stateOf (the R)) ≡ blockEnded s (the R) p
+    unfolding blockEnded
     ended R true e = at-end-short s (the R) p (stands R) (sym (and-on (isLine s (p .at)) e) ∙ unlined)
     ended R false e = at-end-full s (the R) p (stands R) (ltb-false (p .next) 48 e)
 
-    closes : (r : Closed) (N : List ℤ → ℕ → ℕ → Memory) → Closes s r (memoryOf owners codes numbers stack lengths items promises caches) N p → (R : List ℤ) → Ends r (the R) (N R) (endOf s (the R) p)
+    closes : (r : Closed) (N : List ℤ → ℕ → ℕ → Memory) → Closes s r (memoryOf owners codes numbers stack lengths items promises caches) N p → (R : List ℤ) → Ends r (the R) (N R) (blockEnded s (the R) p)
     unfolding Closes the topOf memoryOf
     closes r N c R = c R (ready .stands R .0) (stands R .framed)
 

@@ -1,7 +1,6 @@
 -- Steps and budgets over flat arrays.
 use mathlib.Core.List.{List}
 use mathlib.Core.Path.{_≡_}
-use mathlib.Core.Bool.{true}
 use Prim.Native.Nat.{ℕ, _+_, _-_, _<_}
 use lib.IntN.{ℤ}
 use lib.ListN.{length}
@@ -11,11 +10,10 @@ use Rattle.machine.specs.Calls.{closed, done}
 use Rattle.machine.specs.Runs.{runFrom}
 use Rattle.machine.specs.States.{itemsOf, withEnd}
 use Rattle.machine.specs.Steps.{advance}
-use Rattle.machine.specs.Try.{Try, got, stuck, stop}
+use Rattle.machine.specs.Try.{got, stuck, stop}
 use Rattle.machine.specs.declared.Answer.{Answer}
 use Rattle.machine.specs.declared.End.{End}
 use Rattle.machine.specs.declared.Ran.{Ran}
-use Rattle.machine.specs.declared.State.{State}
 use Rattle.machine.specs.declared.Value.{Value}
 use Rattle.memory.specs.Memory.{Long, Memory, stateOf, vectorIn}
 use Rattle.memory.specs.Parts.{endOf}
@@ -46,6 +44,7 @@ pub record Ready (s : List ℕ) (M : List ℤ → ℕ → ℕ → Memory) (p : S
   pub depth : p .depth < 256
   pub stands : (R : List ℤ) → Long (M R (p .calls) (p .depth)) × Spotted s (M R (p .calls) (p .depth)) p
 
+-- one step of a run at the spot p comes to the turn r; M is the memory before it, N after, whatever their result
 unfoldable pub Steps : List ℕ → Turn → (List ℤ → ℕ → ℕ → Memory) → (List ℤ → ℕ → ℕ → Memory) → Spot → Type 0
 Steps s r M N p = (R : List ℤ) → Advanced s r (M R (p .calls) (p .depth)) (N R) p
 
@@ -71,6 +70,7 @@ Placed (Turn.Vector v) = v < 64
 Placed Turn.Stuck = Unit {0}
 Placed (Turn.Stop e) = Unit {0}
 
+-- at most `budget` steps of a run at the spot p come to r, as `runFrom` has it; M is the memory before them, N after
 pub record Goes (s : List ℕ) (r : Counted) (M N : List ℤ → ℕ → ℕ → Memory) (p : Spot) (budget : ℕ) : Type 0 where
   pub calls : r .calls < 256
   pub depth : r .depth < 256

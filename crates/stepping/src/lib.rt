@@ -1,10 +1,12 @@
 //! Steps of a run over flat arrays, under a budget.
+//! `table` is the image's index.
 ghost use mathlib.Core.Path.{_≡_};
 ghost use mathlib.Core.Bool.{true};
 ghost use Prim.Native.Nat.{_<_, _≤_};
 ghost use lib.Dec.{ltb};
+ghost use lib.ListN.{length};
 ghost use Rattle.layout.specs.Tests.{_and_};
-ghost use Rattle.places.specs.Standing.{isLine};
+ghost use Rattle.program.specs.Places.{isLine};
 ghost use Rattle.machine.specs.Runs.{lastStep};
 ghost use Rattle.index.specs.Indexed.{Indexed};
 ghost use Rattle.memory.specs.Memory.{memoryOf};
@@ -14,8 +16,9 @@ use ends::Closed;
 use instructions::Turn;
 use memory::Halt;
 use places::Spot;
+use program::lookup;
 
-/// So many steps: the last turn, the live calls and activations after it, and how many are counted.
+/// What a budget comes to: the last turn, the live calls and activations after it (at DONE before it), and the steps that count.
 pub struct Counted {
     pub turn: Turn,
     pub calls: usize,
@@ -39,8 +42,8 @@ fn last_step(halt: Halt) -> u32
 fn is_next(image: &[u8], at: usize, next: usize) -> bool
     ensures { λ r. ⌜ r ≡ (ltb next 48 and isLine (now (image .entry)) at) ⌝ }
 {
-    if next < 48 {
-        places::is_line(image, at)
+    if next < layout::bounds::INSTRUCTIONS {
+        lookup::is_line(image, at)
     } else {
         false
     }
@@ -111,8 +114,8 @@ fn line(
     }
 }
 
-/// One step of a run that stands at the spot. The loop's own part: what it requires is what the loop keeps.
-pub fn step(
+/// One step of a run that stands at the spot.
+fn step(
     image: &[u8],
     table: &[u16; 1152],
     owners: &mut [u8; 64],
@@ -163,8 +166,20 @@ pub fn step(
     closed(end, spot.depth)
 }
 
+/// So many steps, of which the last was taken at the spot.
+fn tally(turn: Turn, spot: Spot, steps: u32) -> Counted
+    ensures { λ r. ⌜ r ≡ record { turn = turn; calls = spot .calls; depth = spot .depth; steps = steps } ⌝ }
+{
+    Counted {
+        turn: turn,
+        calls: spot.calls,
+        depth: spot.depth,
+        steps: steps,
+    }
+}
+
 /// Steps from the spot on, at most `budget`.
-pub fn go(
+fn go(
     image: &[u8],
     table: &[u16; 1152],
     owners: &mut [u8; 64],
@@ -206,49 +221,60 @@ pub fn go(
                 spot = places::locate(image, table, owners, stack, calls, depth);
                 n += 1;
             }
-            Turn::Integer(z) => {
-                return Counted {
-                    turn: Turn::Integer(z),
-                    calls: spot.calls,
-                    depth: spot.depth,
-                    steps: n + 1,
-                };
-            }
-            Turn::Vector(v) => {
-                return Counted {
-                    turn: Turn::Vector(v),
-                    calls: spot.calls,
-                    depth: spot.depth,
-                    steps: n + 1,
-                };
-            }
-            Turn::Stuck => {
-                return Counted {
-                    turn: Turn::Stuck,
-                    calls: spot.calls,
-                    depth: spot.depth,
-                    steps: n,
-                };
-            }
-            Turn::Stop(h) => {
-                return Counted {
-                    turn: Turn::Stop(h),
-                    calls: spot.calls,
-                    depth: spot.depth,
-                    steps: n + last_step(h),
-                };
-            }
+            Turn::Integer(z) => return tally(Turn::Integer(z), spot, n + 1),
+            Turn::Vector(v) => return tally(Turn::Vector(v), spot, n + 1),
+            Turn::Stuck => return tally(Turn::Stuck, spot, n),
+            Turn::Stop(h) => return tally(Turn::Stop(h), spot, n + last_step(h)),
         }
     }
-    Counted {
-        turn: Turn::On,
-        calls: spot.calls,
-        depth: spot.depth,
-        steps: n,
-    }
+    tally(Turn::On, spot, n)
 }
 
-/// Goes on with the run that the arrays stand for, at most `budget` steps. It requires of the arrays what their types say.
+/// How many bytes there are.
+fn bytes(s: &[u8]) -> usize
+    ensures { λ r. ⌜ r ≡ length (now (s .entry)) ⌝ }
+{
+    s.len()
+}
+
+/// How many codes there are.
+fn halves(s: &[u16]) -> usize
+    ensures { λ r. ⌜ r ≡ length (now (s .entry)) ⌝ }
+{
+    s.len()
+}
+
+/// How many integers there are.
+fn words(s: &[i32]) -> usize
+    ensures { λ r. ⌜ r ≡ length (now (s .entry)) ⌝ }
+{
+    s.len()
+}
+
+/// The arrays have the lengths that their types say, which a proof learns from slices of them.
+fn measure(
+    owners: &[u8; 64],
+    codes: &[u16; 768],
+    numbers: &[i32; 768],
+    stack: &[u8; 192],
+    lengths: &[u8; 64],
+    items: &[i32; 1024],
+    promises: &[u8; 192],
+    caches: &[i32; 64],
+)
+    ensures { λ _. ⌜ Sized (memoryOf (now (owners .entry)) (now (codes .entry)) (now (numbers .entry)) (now (stack .entry)) (now (lengths .entry)) (now (items .entry)) (now (promises .entry)) (now (caches .entry))) ⌝ }
+{
+    bytes(owners);
+    halves(codes);
+    words(numbers);
+    bytes(stack);
+    bytes(lengths);
+    words(items);
+    bytes(promises);
+    words(caches);
+}
+
+/// Goes on with the run that the arrays stand for, at most `budget` steps.
 pub fn resume(
     image: &[u8],
     owners: &mut [u8; 64],
@@ -263,9 +289,18 @@ pub fn resume(
     depth: u8,
     budget: u32,
 ) -> Counted
-    requires { ⌜ Sized (memoryOf (now owners) (now codes) (now numbers) (now stack) (now lengths) (now items) (now promises) (now caches)) ⌝ }
     ensures { λ r. ⌜ Resumes (now (image .entry)) r (memoryOf (now (owners .entry)) (now (codes .entry)) (now (numbers .entry)) (now (stack .entry)) (now (lengths .entry)) (now (items .entry)) (now (promises .entry)) (now (caches .entry))) (memoryOf (now (owners .exit)) (now (codes .exit)) (now (numbers .exit)) (now (stack .exit)) (now (lengths .exit)) (now (items .exit)) (now (promises .exit)) (now (caches .exit))) calls depth budget ⌝ }
 {
+    measure(
+        owners,
+        codes,
+        numbers,
+        stack,
+        lengths,
+        items,
+        promises,
+        caches,
+    );
     let table = index::of(image);
     let spot = places::locate(image, &table, owners, stack, calls as usize, depth as usize);
     go(

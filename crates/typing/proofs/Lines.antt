@@ -1,6 +1,6 @@
 -- Question 9: the instructions of a block, as a loop along its records meets them, and those whose effect is quiet.
-use mathlib.Core.Path.{_≡_, refl, sym, ap, _∙_}
-use mathlib.Core.List.{List, [], _∷_}
+use mathlib.Core.Path.{_≡_, refl, _∙_}
+use mathlib.Core.List.{List}
 use mathlib.Core.Bool.{Bool, true, false, _||_}
 use Prim.Native.Nat.{ℕ, _+_, _≤_}
 use native.Mathlib.Omega.{arith}
@@ -10,7 +10,7 @@ use borrow.Author.Tests.{ne-eqb}
 use Rattle.layout.specs.Kinds as kind
 use Rattle.layout.specs.Tests.{any}
 use Rattle.layout.proofs.Rows.{Rows, choose-each}
-use Rattle.program.specs.Program.{Instr, Line, Block, Version, Program, nowhere, instrOf, lineOf}
+use Rattle.program.specs.Program.{Instr, Line, Block, Version, Program, nowhere, instrOf}
 use Rattle.program.specs.Places.{viewAt, past, blockAt, instrAt}
 use Rattle.program.proofs.Views.{view-end, Whole, at-version, at-block, at-line}
 use Rattle.rules.specs.Effects.{reflective, covered}

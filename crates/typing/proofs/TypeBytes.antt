@@ -1,15 +1,15 @@
 -- Question 6: the type bytes of a DISPATCH, and the records that have none.
 use mathlib.Core.Path.{_≡_, refl, sym, ap, _∙_}
-use mathlib.Core.List.{List, [], _∷_, map}
-use mathlib.Core.Bool.{Bool, true}
-use Prim.Native.Nat.{ℕ, _+_, _≤_, _<_}
+use mathlib.Core.List.{List, [], _∷_}
+use mathlib.Core.Bool.{true}
+use Prim.Native.Nat.{ℕ, _+_, _≤_}
 use native.Mathlib.Nat.{zero-add}
 use native.Mathlib.Omega.{arith}
 use lib.ListN.{length}
 use borrow.Author.Tests.{lt-ltb}
 use Rattle.layout.specs.Kinds as kind
 use Rattle.layout.specs.Tests.{_and_, all, allFrom}
-use Rattle.layout.specs.Records.{_!_, every}
+use Rattle.layout.specs.Records.{every}
 use Rattle.layout.proofs.Fields.{length-every, all-map}
 use Rattle.layout.proofs.Rows.{Rows, choose-each}
 use Rattle.program.specs.Program.{Argument, Instr, arguments, instrOf}

@@ -1,5 +1,5 @@
 -- What the code of question 8 has in hand: a type byte taken apart, and the arguments of a call where they stand.
-use mathlib.Core.List.{List, [], _∷_}
+use mathlib.Core.List.{List}
 use mathlib.Core.Bool.{cond}
 use Prim.Native.Nat.{ℕ, zero, suc, _<_}
 use Rattle.layout.specs.Records.{every, bodyAt, _!_}
@@ -34,9 +34,10 @@ pub record Small (c : Call) : Type 0 where
   pub step : c .step < 256
   pub n : c .n < 256
 
--- where the arguments of the CALL at p of the version at q stand, and those of the DISPATCH at p
+-- where the arguments of the CALL at p of the version at q stand
 unfoldable pub callOf : List ℕ → ℕ → ℕ → Call
 callOf s p q = record { place = q; types = 6; registers = 4; step = 1; n = least (bodyAt s q ! 2) (least (bodyAt s q ! 3) (bodyAt s p ! 3)) }
 
+-- where the arguments of the DISPATCH at p stand
 unfoldable pub dispatchOf : List ℕ → ℕ → Call
 dispatchOf s p = record { place = p; types = 5; registers = 6; step = 2; n = bodyAt s p ! 4 }

@@ -2,7 +2,7 @@
 ghost use mathlib.Core.Path.{_≡_};
 ghost use Prim.Native.Nat.{_≤_};
 ghost use lib.Dec.{eqb};
-ghost use Rattle.layout.specs.Tests.{all, any, count};
+ghost use Rattle.layout.specs.Tests.{all, count};
 ghost use Rattle.layout.specs.Records.{bodyAt, _!_};
 ghost use Rattle.program.specs.Program.{Argument};
 ghost use Rattle.program.specs.Places.{versionAt};
@@ -78,14 +78,14 @@ fn argument_fits(image: &[u8], v: usize, p: usize, call: Call, k: usize, l: usiz
     let place = call.place;
     let t = layout::field(image, place, k);
     match t / 16 {
-        1 => {
+        types::OWNED => {
             if registers::is_owned(image, v, p, l) {
                 occurrences(image, p, call, layout::field(image, p, l)) == 1
             } else {
                 false
             }
         }
-        2 => registers::is_vector(image, v, p, l),
+        types::BORROWED => registers::is_vector(image, v, p, l),
         _ => {
             if registers::is_shared(image, v, p, l) {
                 types::is_within(registers::kind_in(image, v, p, l), t % 16)
@@ -129,7 +129,7 @@ fn does_empty(image: &[u8], p: usize, call: Call) -> bool
     let mut k = call.types;
     let mut i: usize = 0;
     while i < n {
-        if layout::field(image, place, k) / 16 == 1 {
+        if layout::field(image, place, k) / 16 == types::OWNED {
             return true;
         }
         i += 1;
@@ -142,7 +142,7 @@ fn does_empty(image: &[u8], p: usize, call: Call) -> bool
 fn return_fits(image: &[u8], v: usize, p: usize, t: usize) -> bool
     ensures { λ r. ⌜ r ≡ fitsReturn (versionAt (now (image .entry)) v) (bodyAt (now (image .entry)) p ! 0) t ⌝ }
 {
-    if t / 16 == 1 {
+    if t / 16 == types::OWNED {
         registers::takes_fresh(image, v, p, 0)
     } else {
         registers::takes_plain(image, v, p, 0, t % 16)

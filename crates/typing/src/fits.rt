@@ -2,7 +2,7 @@
 ghost use mathlib.Core.Path.{_≡_};
 ghost use Prim.Native.Nat.{_<_};
 ghost use Rattle.layout.specs.Tests.{all};
-ghost use Rattle.layout.specs.Records.{records, bodyAt, every, _!_};
+ghost use Rattle.layout.specs.Records.{records, bodyAt, every};
 ghost use Rattle.layout.specs.Kinds as kind;
 ghost use Rattle.program.specs.Program.{program, instrOf};
 ghost use Rattle.program.specs.Places.{versionAt, blockAt, instrAt, tableOf};
@@ -287,10 +287,10 @@ fn body_result_fits(image: &[u8], v: usize, p: usize) -> bool
 {
     let t = layout::field(image, v, 4);
     if types::is_within(registers::kind_in(image, v, p, 1), t % 16) {
-        if t / 16 == 1 {
+        if t / 16 == types::OWNED {
             registers::is_owned(image, v, p, 1)
         } else {
-            registers::type_in(image, v, p, 1) / 16 != 2
+            registers::type_in(image, v, p, 1) / 16 != types::BORROWED
         }
     } else {
         false

@@ -1,8 +1,8 @@
 //! Question 6: is each type byte allowed at its place?
 ghost use mathlib.Core.Path.{_≡_};
-ghost use Prim.Native.Nat.{_<_, _≤_};
+ghost use Prim.Native.Nat.{_<_};
 ghost use Rattle.layout.specs.Tests.{allFrom};
-ghost use Rattle.layout.specs.Records.{records, bodyAt, every, _!_};
+ghost use Rattle.layout.specs.Records.{records, bodyAt, every};
 ghost use Rattle.layout.specs.Kinds as kind;
 ghost use Rattle.program.specs.Program.{program, instrOf};
 ghost use Rattle.program.specs.Search.{first};

@@ -6,9 +6,10 @@ ghost use Rattle.layout.specs.Kinds as kind;
 ghost use Rattle.program.specs.Program.{Line, program, instrOf};
 ghost use Rattle.program.specs.Search.{first};
 ghost use Rattle.program.specs.Places.{versionAt, blockAt, instrAt, tableOf, asked};
-ghost use Rattle.rules.specs.Effects.{reflective, covered};
+ghost use Rattle.rules.specs.Effects.{reflective};
 ghost use Rattle.rules.specs.Questions.{question9};
 use crate::registers;
+use crate::types;
 use layout::Found;
 use layout::kinds;
 use program::Here;
@@ -34,7 +35,7 @@ fn reflects(image: &[u8], table: &[usize; 128], v: usize, p: usize) -> bool
     ensures { λ r. ⌜ r ≡ reflective (program (records (now (image .entry)))) (versionAt (now (image .entry)) v) (instrAt (now (image .entry)) p) ⌝ }
 {
     match layout::kind_at(image, p) {
-        kinds::FORCE => registers::kind_in(image, v, p, 1) == 5,
+        kinds::FORCE => registers::kind_in(image, v, p, 1) == types::REFLECTIVE,
         kinds::PEEK => true,
         kinds::POKE => true,
         kinds::CALL => call_reflects(image, table, v, p),

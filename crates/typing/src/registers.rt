@@ -26,7 +26,7 @@ pub fn kind_in(image: &[u8], v: usize, p: usize, k: usize) -> usize
 pub fn is_shared(image: &[u8], v: usize, p: usize, k: usize) -> bool
     ensures { λ r. ⌜ r ≡ shared (versionAt (now (image .entry)) v) (bodyAt (now (image .entry)) p ! k) ⌝ }
 {
-    type_in(image, v, p, k) / 16 == 0
+    type_in(image, v, p, k) / 16 == types::SHARED
 }
 
 /// Is it an integer?
@@ -61,7 +61,7 @@ pub fn is_promise(image: &[u8], v: usize, p: usize, k: usize) -> bool
     if kind == types::PROMISE {
         true
     } else {
-        kind == 5
+        kind == types::REFLECTIVE
     }
 }
 

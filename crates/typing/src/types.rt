@@ -4,17 +4,38 @@ ghost use Rattle.rules.specs.Types.{parameterType, registerType, returnType, wi
 ghost use Rattle.typing.specs.Calls.{ownedKind};
 use crate::Owned;
 
-/// The kinds: any, value, integer, vector, quiet promise, reflective promise.
+/// How many kinds there are: 0 any, 1 value, 2 integer, 3 vector, 4 quiet promise, 5 reflective promise.
 pub const KINDS: usize = 6;
 
-/// The kinds that results have: no promise, an integer, a vector, a quiet promise.
+/// The kind that all others are within.
+pub const ANY: usize = 0;
+
+/// The kind of a value, no promise.
 pub const VALUE: usize = 1;
 
+/// The kind of an integer.
 pub const INTEGER: usize = 2;
 
+/// The kind of a vector.
 pub const VECTOR: usize = 3;
 
+/// The kind of a quiet promise; with the mark of a promise's block added, the kind of that promise.
 pub const PROMISE: usize = 4;
+
+/// The kind of a reflective promise.
+pub const REFLECTIVE: usize = 5;
+
+/// How many ownerships there are.
+pub const OWNERSHIPS: usize = 3;
+
+/// The ownership of a type that is neither owned nor borrowed.
+pub const SHARED: usize = 0;
+
+/// The ownership of a vector that nothing else holds.
+pub const OWNED: usize = 1;
+
+/// The ownership of a vector that a call lends.
+pub const BORROWED: usize = 2;
 
 /// May the type byte `t` stand at a parameter or in a call signature?
 pub fn parameter_type(t: usize) -> bool
@@ -25,10 +46,14 @@ pub fn parameter_type(t: usize) -> bool
     if KINDS <= kind {
         return false;
     }
-    if ownership == 0 {
+    if ownership == SHARED {
         return true;
     }
-    if ownership < 3 { kind == VECTOR } else { false }
+    if ownership < OWNERSHIPS {
+        kind == VECTOR
+    } else {
+        false
+    }
 }
 
 /// May the type byte `t` stand at a register that is no parameter?
@@ -36,7 +61,7 @@ pub fn register_type(t: usize) -> bool
     ensures { λ r. ⌜ r ≡ registerType t ⌝ }
 {
     if parameter_type(t) {
-        t / 16 != 2
+        t / 16 != BORROWED
     } else {
         false
     }
@@ -48,7 +73,7 @@ pub fn return_type(t: usize) -> bool
 {
     let kind = t % 16;
     if register_type(t) {
-        if kind == 0 { false } else { kind < 4 }
+        if kind == ANY { false } else { kind < PROMISE }
     } else {
         false
     }
@@ -58,7 +83,7 @@ pub fn return_type(t: usize) -> bool
 pub fn owned_kind(t: usize) -> Owned
     ensures { λ r. ⌜ r ≡ ownedKind t ⌝ }
 {
-    if t / 16 == 1 {
+    if t / 16 == OWNED {
         Owned::Kind(t % 16)
     } else {
         Owned::Not
@@ -70,17 +95,17 @@ pub fn is_within(a: usize, b: usize) -> bool
     ensures { λ r. ⌜ r ≡ within a b ⌝ }
 {
     match b {
-        0 => true,
-        1 => {
-            if a == 1 {
+        ANY => true,
+        VALUE => {
+            if a == VALUE {
                 true
-            } else if a == 2 {
+            } else if a == INTEGER {
                 true
             } else {
-                a == 3
+                a == VECTOR
             }
         }
-        5 => { if a == 5 { true } else { a == 4 } }
+        REFLECTIVE => { if a == REFLECTIVE { true } else { a == PROMISE } }
         _ => a == b,
     }
 }

@@ -23,8 +23,8 @@ use Rattle.memory.specs.declared.Halt.{Halt}
 use Rattle.memory.proofs.Heap.{vector-at, vector-outside, items-count, item-at}
 use Rattle.cells.specs.Operands as cells
 use Rattle.cells.proofs.Codes.{bound-got, bound-stuck, bound-stop}
+use Rattle.cells.proofs.Reading.{integer-in, vector-in}
 use Rattle.vectors.specs.Vectors.{Measured, Picked, shownOf, withAll}
-use Rattle.vectors.proofs.Operands.{integer-in, vector-in}
 
 -- how many items a vector has
 pub items-shown : (lengths : List ℕ) (items : List ℤ) (v : ℕ) → length (itemsOf (vectorIn lengths items v)) ≡ shownOf lengths v

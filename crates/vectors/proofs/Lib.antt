@@ -1,5 +1,4 @@
 pub mod Counting
-pub mod Operands
 pub mod Feeding
 pub mod Freeing
 pub mod Replacing

@@ -9,6 +9,7 @@ use Rattle.layout.specs.Records.{_!_}
 use Rattle.layout.specs.Tests.{all}
 use Rattle.layout.specs.declared.Found.{Found}
 use Rattle.layout.specs.declared.Found.the-variants.{Nothing, At}
+use Rattle.cells.proofs.Reading.{integer-in}
 use Rattle.program.specs.Places.{instrAt}
 use Rattle.program.specs.Program.{Program, Version, DUP, VEC}
 use Rattle.program.specs.Shapes.{listedRegisters}
@@ -19,7 +20,7 @@ use Rattle.machine.specs.declared.End.{End}
 use Rattle.machine.specs.declared.Value.{Value}
 use Rattle.machine.specs.declared.Vector.{Vector}
 use Rattle.memory.specs.Lists.{upTo}
-use Rattle.memory.specs.Memory.{Long, Memory, frameIn, stateOf, vectorIn}
+use Rattle.memory.specs.Memory.{Long, Memory, frameIn, stateOf, vectorIn, itemIn}
 use Rattle.memory.specs.Parts.{Does, endOf, withCells, withLive, withOpen, withVectors}
 use Rattle.memory.specs.Works.{Works, executed}
 use Rattle.memory.specs.declared.Did.{Did}
@@ -28,10 +29,9 @@ use Rattle.memory.proofs.Frames.{frame-live, register-none}
 use Rattle.memory.proofs.Heap.{vector-at, vector-outside}
 use Rattle.cells.specs.Operands as cells
 use Rattle.cells.proofs.Codes.{bound-got, bound-stuck, bound-stop}
-use Rattle.vectors.specs.Vectors.{Copied, Inside, Made, Renewed, Unused, freeOf, holdsInteger, integersFrom, itemIn, listedItem, withAll, withCalls}
+use Rattle.vectors.specs.Vectors.{Copied, Inside, Made, Renewed, Unused, freeOf, holdsInteger, integersFrom, listedItem, withAll, withCalls}
 use Rattle.vectors.proofs.Feeding.{to-vector}
 use Rattle.vectors.proofs.Listed.{each-got, each-same, each-stuck, from-all, items-listed, numbers-length, numbersOf}
-use Rattle.vectors.proofs.Operands.{integer-in}
 use Rattle.vectors.proofs.Replacing.{long-vectors}
 use Rattle.vectors.proofs.Renewing.{vector-assigned, vector-renewed}
 
@@ -91,7 +91,7 @@ module _ (P : Program) (W : Version) (M : Memory) (k d a : ℕ) where
 
       dup-done : (items : List ℤ) → Renewed (M .items) items n 16 (itemIn (M .items) v) → n < 64 → d < 16
           → executed P W M k (DUP d a) ≡ got (stateOf (withCells (withVectors M (set (M .lengths) n (M .lengths ! v)) items) (set (M .codes) (24 * k + d) (256 + n)) (M .numbers)))
-      unfolding executed execute _>>=_ vectorIn itemIn
+      unfolding executed execute _>>=_ vectorIn
       dup-done items r q b = to-vector M k a _ e ∙ bound-got _ (vector-at M v h) ∙ bound-got _ f ∙ assign-new M k d n long live l (M .lengths ! v) (itemIn (M .items) v) items r q b
 
 module _ (P : Program) (W : Version) (M : Memory) (k d : ℕ) (rs : List ℕ) where

@@ -15,12 +15,12 @@ use Rattle.machine.specs.States.{assign, withVector}
 use Rattle.machine.specs.declared.Value.{Value}
 use Rattle.machine.specs.declared.Vector.{Vector}
 use Rattle.memory.specs.Lists.{upTo}
-use Rattle.memory.specs.Memory.{Long, Memory, cellIn, stateOf, valueOf, vectorIn}
+use Rattle.memory.specs.Memory.{Long, Memory, cellIn, stateOf, valueOf, vectorIn, itemIn}
 use Rattle.memory.specs.Parts.{withCells, withVectors}
 use Rattle.memory.proofs.Frames.{assign-by, cell-coded}
 use Rattle.memory.proofs.Heap.{new-vector}
 use Rattle.memory.proofs.Lists.{upTo-same}
-use Rattle.vectors.specs.Vectors.{Renewed, itemIn}
+use Rattle.vectors.specs.Vectors.{Renewed}
 
 -- ---- one by one
 
@@ -42,7 +42,6 @@ module _ {items items′ : List ℤ} {v m : ℕ} {f : ℕ → ℤ} (r : Renewed 
 
   -- what is not yet written, of any vector
   pub still : (u : ℕ) → m < 16 → getD items′ (16 * u + m) (pos 0) ≡ itemIn items u m
-  unfolding itemIn
   still u b = go (ltb u v) refl
     where
       go : (t : Bool) → ltb u v ≡ t → getD items′ (16 * u + m) (pos 0) ≡ getD items (16 * u + m) (pos 0)

@@ -23,10 +23,9 @@ use Rattle.memory.proofs.Counts.{occurrences-emptied, vector-counts}
 use Rattle.memory.proofs.Frames.{assign-empty}
 use Rattle.memory.proofs.Heap.{set-item, vector-at, vector-outside}
 use Rattle.cells.specs.Operands as cells
-use Rattle.cells.proofs.Codes.{bound-got, bound-stuck, bound-stop}
+use Rattle.cells.proofs.Codes.{bound-got, bound-stuck, bound-stop, vector-held}
 use Rattle.vectors.specs.Vectors.{Replaced, shownOf, withAll, withCalls}
 use Rattle.vectors.proofs.Feeding.{index-below, items-shown, to-integer, to-vector}
-use Rattle.vectors.proofs.Operands.{vector-held}
 
 pub shown-most : (lengths : List ℕ) (v : ℕ) → shownOf lengths v ≤ 16
 unfolding shownOf

@@ -1,4 +1,4 @@
-//! Vectors: their items, copies and new ones. The loop of the engine calls these, with a frame `k` below 32.
+//! Vectors: LEN, GET, SET, DUP and VEC, and free places.
 //! Its functions serve the loop of the engine; what they require, the loop keeps.
 ghost use mathlib.Core.Path.{_≡_};
 ghost use mathlib.Core.Bool.{cond};
@@ -7,7 +7,8 @@ ghost use lib.Dec.{eqb};
 ghost use Rattle.program.specs.Places.{instrAt};
 ghost use Rattle.program.specs.Shapes.{listedRegisters};
 ghost use Rattle.memory.specs.Parts.{occurrences, liveCells};
-ghost use Rattle.vectors.specs.Vectors.{shownOf, Measured, Picked, Unused, Inside, Replaced, Renewed, itemIn, Copied, integersFrom, listedItem, Made};
+ghost use Rattle.memory.specs.Memory.{itemIn};
+ghost use Rattle.vectors.specs.Vectors.{shownOf, Measured, Picked, Unused, Inside, Replaced, Renewed, Copied, integersFrom, listedItem, Made};
 use integers::Indexed;
 use layout::Found;
 use memory::Did;

@@ -1,6 +1,6 @@
 -- Texts, numbers and buffers spelled out: what the definitions say of small cases.
 use mathlib.Core.Path.{_≡_, refl}
-use mathlib.Core.List.{List, [], _∷_}
+use mathlib.Core.List.{[], _∷_}
 use Rattle.writer.specs.Text.{text, digits, decimal, placed}
 
 -- a text is its ASCII codes

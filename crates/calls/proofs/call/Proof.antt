@@ -1,3 +1,4 @@
+-- `calls::call`: no version, no match, or a call that `enter` opens if there is a place for it.
 use mathlib.Core.Path.{sym, _∙_}
 use Rattle.kinds.proofs.Looking.{listed-found, listed-missing}
 use Rattle.calls.proofs.Places.{entered-within}
@@ -12,33 +13,26 @@ use Rattle.calls.proofs.enter.Reads as enter-reads
 use Rattle.calls.proofs.matching.Reads as matching-reads
 use Rattle.index.proofs.version.Reads as version-reads
 
--- src/lib.rt:385:24
 version-requires : tie.Need-version-requires
 version-requires c κs = (c .before) .pre .0
 
--- src/lib.rt:385:19
 enum-known-v : tie.Need-enum-known-v
 enum-known-v c = search needs
 
--- src/lib.rt:386:9
 enum-told : tie.Need-enum-told
 enum-told c = search needs
 
--- src/lib.rt:386:9
 returns : tie.Need-returns
 unfolding Within
 returns c =
     (called-missing _ _ _ _ _ _ _ _ _ _ _ (listed-missing _ _ _ _ ((c .before .before .version) .ensures) ((c .enum-told) .given .1)), tt)
 
--- src/lib.rt:388:8
 matching-requires : tie.Need-matching-requires
 matching-requires c κs = search needs
 
--- src/lib.rt:389:9
 enter-requires : tie.Need-enter-requires
 enter-requires c κs = search needs
 
--- src/lib.rt:365:1
 returns-2 : tie.Need-returns-2
 unfolding Within
 returns-2 c = (
@@ -46,7 +40,6 @@ returns-2 c = (
   entered-within _ _ _ _ _ _ _ _ _ _ (c .enter .ensures),
 )
 
--- src/lib.rt:365:1
 returns-3 : tie.Need-returns-3
 unfolding Within
 returns-3 c =

@@ -1,3 +1,4 @@
+-- `calls::clear`: after i turns the first i cells of the frame are empty.
 use mathlib.Core.Path.{_≡_, refl}
 use native.Mathlib.Omega.{arith}
 use Prim.Native.Nat.{_*_, _-_, _≤_}
@@ -15,42 +16,33 @@ Inv-loop codes₀ k i₀ codes i = (i ≤ 24) × (codes ≡ clearedTo codes₀ (
 abbrev μ-loop : tie.MeasureT-loop
 μ-loop codes₀ k i₀ codes i = 24 - i
 
--- src/lib.rt:262:5
 loop-holds : tie.Need-loop-holds Inv-loop μ-loop
 unfolding clearedTo
 loop-holds c =
     (omega arith, refl)
 
--- src/lib.rt:263:15
 mul-codes : tie.Need-mul-codes Inv-loop μ-loop
 mul-codes c = search needs
 
--- src/lib.rt:263:15
 add-codes : tie.Need-add-codes Inv-loop μ-loop
 add-codes c = search needs
 
--- src/lib.rt:263:9
 mul-codes-2 : tie.Need-mul-codes-2 Inv-loop μ-loop
 mul-codes-2 c = search needs
 
--- src/lib.rt:263:9
 element-write-codes : tie.Need-element-write-codes Inv-loop μ-loop
 element-write-codes c = search needs
 
--- src/lib.rt:264:9
 add-i : tie.Need-add-i Inv-loop μ-loop
 add-i c = search needs
 
--- src/lib.rt:262:5
 loop-less : tie.Need-loop-less Inv-loop μ-loop
 loop-less c = search needs
 
--- src/lib.rt:262:5
 loop-again : tie.Need-loop-again Inv-loop μ-loop
 loop-again c =
     (omega (arith, (c .loop-test) .taken), cleared-one _ _ _ ((c .before .loop) .inv .1))
 
--- src/lib.rt:257:1
 returns : tie.Need-returns Inv-loop μ-loop
 returns c =
     cleared-all _ _ _ ((c .before .loop) .inv .0) ((c .loop-test) .left) ((c .before .loop) .inv .1)

@@ -1,3 +1,4 @@
+-- `calls::dispatch`: a register without a kind, no version that passes, or a call that `enter` opens if there is a place for it.
 use mathlib.Core.Path.{sym, _∙_}
 use borrow.Author.Tests.{not-true, not-false}
 use Rattle.calls.proofs.Places.{entered-within}
@@ -12,39 +13,31 @@ use Rattle.calls.proofs.enter.Reads as enter-reads
 use Rattle.calls.proofs.known.Reads as known-reads
 use Rattle.calls.proofs.pick.Reads as pick-reads
 
--- src/lib.rt:553:9
 known-requires : tie.Need-known-requires
 known-requires c κs = search needs
 
--- src/lib.rt:554:9
 returns : tie.Need-returns
 unfolding Within
 returns c =
     (dispatched-unknown _ _ _ _ _ _ _ _ _ _ _ _ (sym ((c .before .known) .ensures) ∙ not-true ((c .before .known) .result) ((c .if1) .taken)), tt)
 
--- src/lib.rt:556:24
 pick-requires : tie.Need-pick-requires
 pick-requires c κs = search needs
 
--- src/lib.rt:556:19
 enum-known-v : tie.Need-enum-known-v
 enum-known-v c = search needs
 
--- src/lib.rt:559:26
 enum-told : tie.Need-enum-told
 enum-told c = search needs
 
--- src/lib.rt:559:9
 returns-2 : tie.Need-returns-2
 unfolding Within
 returns-2 c =
     (dispatched-undef _ _ _ _ _ _ _ _ _ _ _ _ (sym ((c .before .before .before .before .before .before .known) .ensures) ∙ not-false ((c .before .before .before .before .before .before .known) .result) ((c .before .before .before .before .before .if1) .left)) (sym ((c .before .before .pick) .ensures) ∙ (c .enum-told) .given .1), tt)
 
--- src/lib.rt:561:5
 enter-requires : tie.Need-enter-requires
 enter-requires c κs = search needs
 
--- src/lib.rt:532:1
 returns-3 : tie.Need-returns-3
 unfolding Within
 returns-3 c = (

@@ -1,3 +1,4 @@
+-- `calls::empty`: the loop goes along the listed registers, and what is left to empty is those from i on.
 use mathlib.Core.Path.{_≡_, sym, ap, _∙_}
 use native.Mathlib.Omega.{arith}
 use Prim.Native.Nat.{_-_, _≤_}
@@ -19,62 +20,48 @@ Inv-loop image at codes₀ k v n i₀ codes i = (i ≤ n) × (emptiedTo codes₀
 abbrev μ-loop : tie.MeasureT-loop
 μ-loop image at codes₀ k v n i₀ codes i = n - i
 
--- src/lib.rt:297:5
 loop-holds : tie.Need-loop-holds Inv-loop μ-loop
 loop-holds c =
     (omega arith, ap (emptiedTo _ _ _ _ 0) (sym (all-left _)))
 
--- src/lib.rt:298:12
 type-of-requires : tie.Need-type-of-requires Inv-loop μ-loop
 type-of-requires c κs = search needs
 
--- src/lib.rt:299:19
 mul-codes : tie.Need-mul-codes Inv-loop μ-loop
 mul-codes c = search needs
 
--- src/lib.rt:299:28
 listed-register-requires : tie.Need-listed-register-requires Inv-loop μ-loop
 listed-register-requires c κs = search needs
 
--- src/lib.rt:299:19
 add-codes : tie.Need-add-codes Inv-loop μ-loop
 add-codes c = search needs
 
--- src/lib.rt:299:13
 mul-codes-2 : tie.Need-mul-codes-2 Inv-loop μ-loop
 mul-codes-2 c = search needs
 
--- src/lib.rt:299:13
 element-write-codes : tie.Need-element-write-codes Inv-loop μ-loop
 element-write-codes c = search needs
 
--- src/lib.rt:300:13
 add-i : tie.Need-add-i Inv-loop μ-loop
 add-i c = search needs
 
--- src/lib.rt:297:5
 loop-less : tie.Need-loop-less Inv-loop μ-loop
 loop-less c = search needs
 
--- src/lib.rt:297:5
 loop-again : tie.Need-loop-again Inv-loop μ-loop
 loop-again c =
     (omega (arith, (c .before .before .before .loop-test) .taken), (c .before .before .before .before .loop) .inv .1 ∙ emptied-one _ _ _ _ _ _ ((c .before .before .before .loop-test) .taken) ((c .before .before .type-of) .ensures .0) ((c .before .if1) .taken) ((c .listed-register) .ensures .0))
 
--- src/lib.rt:302:13
 add-i-2 : tie.Need-add-i-2 Inv-loop μ-loop
 add-i-2 c = search needs
 
--- src/lib.rt:297:5
 loop-less-2 : tie.Need-loop-less-2 Inv-loop μ-loop
 loop-less-2 c = search needs
 
--- src/lib.rt:297:5
 loop-again-2 : tie.Need-loop-again-2 Inv-loop μ-loop
 loop-again-2 c =
     (omega (arith, (c .before .before .loop-test) .taken), (c .before .before .before .loop) .inv .1 ∙ emptied-kept _ _ _ _ _ _ ((c .before .before .loop-test) .taken) ((c .before .type-of) .ensures .0) ((c .if1) .left))
 
--- src/lib.rt:292:1
 returns : tie.Need-returns Inv-loop μ-loop
 returns c =
     sym ((c .before .loop) .inv .1 ∙ emptied-done _ _ _ _ _ _ ((c .loop-test) .left))

@@ -1,3 +1,4 @@
+-- `calls::enter`: DEEP, then stuck, by the two bounds; else array by array.
 use mathlib.Core.Path.{refl}
 use Rattle.calls.specs.Entering.{Entered}
 use Rattle.calls.proofs.Loops.{entered-on}
@@ -9,78 +10,61 @@ use Rattle.calls.proofs.enter.Lts as lts
 use Rattle.calls.proofs.clear.Reads as clear-reads
 use Rattle.calls.proofs.empty.Reads as empty-reads
 use Rattle.calls.proofs.pass.Reads as pass-reads
-use Rattle.calls.proofs.push.Reads as push-reads
+use Rattle.memory.proofs.push.Reads as push-reads
 use Rattle.layout.proofs.field.Reads as field-reads
 
--- src/lib.rt:350:9
 returns : tie.Need-returns
 unfolding Entered
 returns c =
     ((c .if1) .taken, refl, refl)
 
--- src/lib.rt:353:9
 returns-2 : tie.Need-returns-2
 unfolding Entered
 returns-2 c =
     ((c .before .if1) .left, (c .if2) .taken, refl)
 
--- src/lib.rt:355:5
 clear-requires : tie.Need-clear-requires
 clear-requires c κs = search needs
 
--- src/lib.rt:356:5
 pass-requires : tie.Need-pass-requires
 pass-requires c κs = search needs
 
--- src/lib.rt:357:5
 empty-requires : tie.Need-empty-requires
 empty-requires c κs = search needs
 
--- src/lib.rt:358:25
 field-requires : tie.Need-field-requires
 field-requires c κs = search needs
 
--- src/lib.rt:358:25
 cast-owners : tie.Need-cast-owners
 cast-owners c = search needs
 
--- src/lib.rt:358:12
 mul-owners : tie.Need-mul-owners
 mul-owners c = search needs
 
--- src/lib.rt:358:5
 element-write-owners : tie.Need-element-write-owners
 element-write-owners c = search needs
 
--- src/lib.rt:359:29
 field-requires-2 : tie.Need-field-requires-2
 field-requires-2 c κs = search needs
 
--- src/lib.rt:359:29
 cast-owners-2 : tie.Need-cast-owners-2
 cast-owners-2 c = search needs
 
--- src/lib.rt:359:12
 mul-owners-2 : tie.Need-mul-owners-2
 mul-owners-2 c = search needs
 
--- src/lib.rt:359:12
 add-owners : tie.Need-add-owners
 add-owners c = search needs
 
--- src/lib.rt:359:5
 element-write-owners-2 : tie.Need-element-write-owners-2
 element-write-owners-2 c = search needs
 
--- src/lib.rt:360:27
 cast-push : tie.Need-cast-push
 cast-push c = search needs
 
--- src/lib.rt:360:5
 push-requires : tie.Need-push-requires
 push-requires c κs = search needs
 
--- src/lib.rt:332:1
 returns-3 : tie.Need-returns-3
 unfolding Entered
 returns-3 c =

@@ -1,3 +1,4 @@
+-- `calls::fits`: 0 is no kind, and any other must be within that of the type.
 use Rattle.kinds.proofs.Kinded.{over-argument}
 use Rattle.calls.proofs.Loops.{fits-none, fits-some}
 use borrow.Author.Needs.{needs}
@@ -10,28 +11,22 @@ use Rattle.program.proofs.decode.listed_register.Reads as listed-register-reads
 use Rattle.program.proofs.lookup.type_of.Reads as type-of-reads
 use Rattle.typing.proofs.types.is_within.Reads as is-within-reads
 
--- src/lib.rt:218:9
 listed-register-requires : tie.Need-listed-register-requires
 listed-register-requires c κs = search needs
 
--- src/lib.rt:219:9
 argument-kind-requires : tie.Need-argument-kind-requires
 argument-kind-requires c κs = search needs
 
--- src/lib.rt:221:9
 returns : tie.Need-returns
 returns c =
     fits-none _ _ _ (over-argument _ _ _ _ _ _ _) (rw ((c .before .before .listed-register) .ensures .0) at ((c .before .argument-kind) .ensures)) ((c .if1) .taken)
 
--- src/lib.rt:223:25
 type-of-requires : tie.Need-type-of-requires
 type-of-requires c κs = search needs
 
--- src/lib.rt:223:5
 is-within-requires : tie.Need-is-within-requires
 is-within-requires c κs = search needs
 
--- src/lib.rt:203:1
 returns-2 : tie.Need-returns-2
 returns-2 c =
     fits-some _ _ _ (rw ((c .before .before .before .before .listed-register) .ensures .0) at ((c .before .before .before .argument-kind) .ensures)) ((c .before .before .if1) .left) ((c .before .type-of) .ensures .0) ((c .is-within) .ensures)

@@ -1,3 +1,4 @@
+-- `calls::known`: the loop goes along the listed registers, and what is left of the test is put to those from i on.
 use mathlib.Core.Path.{_≡_, sym, ap, _∙_}
 use native.Mathlib.Omega.{arith}
 use Prim.Native.Nat.{_-_, _≤_}
@@ -24,39 +25,31 @@ Inv-loop image table owners codes promises calls k at n i₀ i = (i ≤ n) × (a
 abbrev μ-loop : tie.MeasureT-loop
 μ-loop image table owners codes promises calls k at n i₀ i = n - i
 
--- src/lib.rt:411:5
 loop-holds : tie.Need-loop-holds Inv-loop μ-loop
 loop-holds c =
     (omega arith, ap (allTo _ 0) (sym (all-left _)))
 
--- src/lib.rt:412:13
 listed-register-requires : tie.Need-listed-register-requires Inv-loop μ-loop
 listed-register-requires c κs = search needs
 
--- src/lib.rt:413:12
 argument-kind-requires : tie.Need-argument-kind-requires Inv-loop μ-loop
 argument-kind-requires c κs = search needs
 
--- src/lib.rt:414:13
 returns : tie.Need-returns Inv-loop μ-loop
 unfolding knownIn
 returns c =
     sym ((c .before .before .before .before .loop) .inv .1 ∙ all-failed _ _ _ ((c .before .before .before .loop-test) .taken) (there-none _ _ (over-argument _ _ _ _ _ _ _) (rw ((c .before .before .listed-register) .ensures .0) at ((c .before .argument-kind) .ensures)) ((c .if1) .taken)))
 
--- src/lib.rt:416:9
 add-i : tie.Need-add-i Inv-loop μ-loop
 add-i c = search needs
 
--- src/lib.rt:411:5
 loop-less : tie.Need-loop-less Inv-loop μ-loop
 loop-less c = search needs
 
--- src/lib.rt:411:5
 loop-again : tie.Need-loop-again Inv-loop μ-loop
 loop-again c =
     (omega (arith, (c .before .before .before .loop-test) .taken), (c .before .before .before .before .loop) .inv .1 ∙ all-passed _ _ _ ((c .before .before .before .loop-test) .taken) (there-some _ _ (rw ((c .before .before .listed-register) .ensures .0) at ((c .before .argument-kind) .ensures)) ((c .if1) .left)))
 
--- src/lib.rt:396:1
 returns-2 : tie.Need-returns-2 Inv-loop μ-loop
 unfolding knownIn
 returns-2 c =

@@ -1,3 +1,4 @@
+-- `calls::matching`: as many as there are parameters; what is left of the test is put to the registers from i on.
 use mathlib.Core.Path.{_≡_, sym, ap, _∙_}
 use native.Mathlib.Omega.{arith}
 use Prim.Native.Nat.{_-_, _≤_}
@@ -22,43 +23,34 @@ Inv-loop image table owners codes promises calls k at v n i₀ i = (i ≤ n) × 
 abbrev μ-loop : tie.MeasureT-loop
 μ-loop image table owners codes promises calls k at v n i₀ i = n - i
 
--- src/lib.rt:242:13
 parameters-of-requires : tie.Need-parameters-of-requires Inv-loop μ-loop
 parameters-of-requires c κs = search needs
 
--- src/lib.rt:243:9
 returns : tie.Need-returns Inv-loop μ-loop
 returns c =
     matches-off _ _ _ _ _ _ _ _ _ ((c .before .parameters-of) .ensures) ((c .if1) .taken)
 
--- src/lib.rt:246:5
 loop-holds : tie.Need-loop-holds Inv-loop μ-loop
 loop-holds c =
     (omega arith, ap (allTo _ 0) (sym (all-left _)))
 
--- src/lib.rt:247:12
 fits-requires : tie.Need-fits-requires Inv-loop μ-loop
 fits-requires c κs = search needs
 
--- src/lib.rt:248:13
 add-i : tie.Need-add-i Inv-loop μ-loop
 add-i c = search needs
 
--- src/lib.rt:246:5
 loop-less : tie.Need-loop-less Inv-loop μ-loop
 loop-less c = search needs
 
--- src/lib.rt:246:5
 loop-again : tie.Need-loop-again Inv-loop μ-loop
 loop-again c =
     (omega (arith, (c .before .before .loop-test) .taken), (c .before .before .before .loop) .inv .1 ∙ all-passed _ _ _ ((c .before .before .loop-test) .taken) (sym ((c .before .fits2) .ensures) ∙ (c .if2) .taken))
 
--- src/lib.rt:250:13
 returns-2 : tie.Need-returns-2 Inv-loop μ-loop
 returns-2 c =
     sym (matches-on _ _ _ _ _ _ _ _ _ ((c .before .before .before .before .before .parameters-of) .ensures) ((c .before .before .before .before .if1) .left) ∙ (c .before .before .before .loop) .inv .1 ∙ all-failed _ _ _ ((c .before .before .loop-test) .taken) (sym ((c .before .fits2) .ensures) ∙ (c .if2) .left))
 
--- src/lib.rt:227:1
 returns-3 : tie.Need-returns-3 Inv-loop μ-loop
 returns-3 c =
     sym (matches-on _ _ _ _ _ _ _ _ _ ((c .before .before .before .parameters-of) .ensures) ((c .before .before .if1) .left) ∙ (c .before .loop) .inv .1 ∙ all-done _ _ _ ((c .loop-test) .left))

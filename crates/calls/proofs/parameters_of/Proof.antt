@@ -1,3 +1,4 @@
+-- `calls::parameters_of`: by the test.
 use Rattle.calls.proofs.Loops.{fewer, enough}
 use borrow.Author.Needs.{needs}
 use Rattle.calls.proofs.parameters_of.Statement.{statement}
@@ -7,20 +8,16 @@ use Rattle.calls.proofs.parameters_of.Lts as lts
 use Rattle.program.proofs.lookup.parameters.Reads as parameters-reads
 use Rattle.program.proofs.lookup.registers.Reads as registers-reads
 
--- src/lib.rt:193:9
 parameters-requires : tie.Need-parameters-requires
 parameters-requires c κs = search needs
 
--- src/lib.rt:194:9
 registers-requires : tie.Need-registers-requires
 registers-requires c κs = search needs
 
--- src/lib.rt:190:1
 returns : tie.Need-returns
 returns c =
     fewer _ ((c .before .before .parameters) .ensures .0) ((c .before .registers) .ensures .0) ((c .if1) .taken)
 
--- src/lib.rt:190:1
 returns-2 : tie.Need-returns-2
 returns-2 c =
     enough _ ((c .before .before .parameters) .ensures .0) ((c .before .registers) .ensures .0) ((c .if1) .left)

@@ -1,3 +1,4 @@
+-- `calls::pass`: after i turns the first i cells of the frame `to` are written, codes and integers alike.
 use mir.Facts.{toZ-ofZ}
 use mir.Syntax.{w32}
 use mir.Val.{SFits}
@@ -24,99 +25,76 @@ Inv-loop image at codes₀ numbers₀ k to n m i₀ codes numbers i = (i ≤ m) 
 abbrev μ-loop : tie.MeasureT-loop
 μ-loop image at codes₀ numbers₀ k to n m i₀ codes numbers i = m - i
 
--- src/lib.rt:292:9
 at-most-requires : tie.Need-at-most-requires Inv-loop μ-loop
 at-most-requires c κs = search needs
 
--- src/lib.rt:294:5
 loop-holds : tie.Need-loop-holds Inv-loop μ-loop
 unfolding passedTo
 loop-holds c =
     (omega arith, refl, refl)
 
--- src/lib.rt:295:17
 listed-register-requires : tie.Need-listed-register-requires Inv-loop μ-loop
 listed-register-requires c κs = search needs
 
--- src/lib.rt:296:36
 mul-codes : tie.Need-mul-codes Inv-loop μ-loop
 mul-codes c = search needs
 
--- src/lib.rt:296:36
 add-codes : tie.Need-add-codes Inv-loop μ-loop
 add-codes c = search needs
 
--- src/lib.rt:296:30
 mul-codes-2 : tie.Need-mul-codes-2 Inv-loop μ-loop
 mul-codes-2 c = search needs
 
--- src/lib.rt:296:30
 element-copy-out-codes : tie.Need-element-copy-out-codes Inv-loop μ-loop
 element-copy-out-codes c = search needs
 
--- src/lib.rt:296:15
 mul-codes-3 : tie.Need-mul-codes-3 Inv-loop μ-loop
 mul-codes-3 c = search needs
 
--- src/lib.rt:296:15
 add-codes-2 : tie.Need-add-codes-2 Inv-loop μ-loop
 add-codes-2 c = search needs
 
--- src/lib.rt:296:9
 mul-codes-4 : tie.Need-mul-codes-4 Inv-loop μ-loop
 mul-codes-4 c = search needs
 
--- src/lib.rt:296:9
 element-write-codes : tie.Need-element-write-codes Inv-loop μ-loop
 element-write-codes c = search needs
 
--- src/lib.rt:297:40
 mul-numbers : tie.Need-mul-numbers Inv-loop μ-loop
 mul-numbers c = search needs
 
--- src/lib.rt:297:40
 add-numbers : tie.Need-add-numbers Inv-loop μ-loop
 add-numbers c = search needs
 
--- src/lib.rt:297:32
 mul-numbers-2 : tie.Need-mul-numbers-2 Inv-loop μ-loop
 mul-numbers-2 c = search needs
 
--- src/lib.rt:297:32
 element-copy-out-numbers : tie.Need-element-copy-out-numbers Inv-loop μ-loop
 element-copy-out-numbers c = search needs
 
--- src/lib.rt:297:17
 mul-t18 : tie.Need-mul-t18 Inv-loop μ-loop
 mul-t18 c = search needs
 
--- src/lib.rt:297:17
 add-t13 : tie.Need-add-t13 Inv-loop μ-loop
 add-t13 c = search needs
 
--- src/lib.rt:297:9
 mul-t14 : tie.Need-mul-t14 Inv-loop μ-loop
 mul-t14 c = search needs
 
--- src/lib.rt:297:9
 element-set-from-numbers : tie.Need-element-set-from-numbers Inv-loop μ-loop
 element-set-from-numbers c = search needs
 
--- src/lib.rt:298:9
 add-i : tie.Need-add-i Inv-loop μ-loop
 add-i c = search needs
 
--- src/lib.rt:294:5
 loop-less : tie.Need-loop-less Inv-loop μ-loop
 loop-less c = search needs
 
--- src/lib.rt:294:5
 loop-again : tie.Need-loop-again Inv-loop μ-loop
 loop-again c =
     let s : SFits w32 (getD (c .before .before .before .before .loop .numbers) (24 * c .before .before .before .before .before .before .before .args .k + (c .before .before .listed-register .result) % 16) (pos 0)) = search needs in
     (omega (arith, (c .before .before .before .loop-test) .taken), passed-one _ _ _ _ _ _ ((c .before .before .before .before .loop) .inv .1) ((c .before .before .listed-register) .ensures .0), rw (toZ-ofZ s) (passed-one _ _ _ _ _ _ ((c .before .before .before .before .loop) .inv .2) ((c .before .before .listed-register) .ensures .0)))
 
--- src/lib.rt:280:1
 returns : tie.Need-returns Inv-loop μ-loop
 returns c =
     (passed-all _ _ _ _ _ _ _ ((c .before .before .at-most) .ensures .0) ((c .before .loop) .inv .0) ((c .loop-test) .left) ((c .before .loop) .inv .1), passed-all _ _ _ _ _ _ _ ((c .before .before .at-most) .ensures .0) ((c .before .loop) .inv .0) ((c .loop-test) .left) ((c .before .loop) .inv .2))

@@ -1,3 +1,4 @@
+-- `calls::passes`: the tests of the definition, one after the other.
 use mathlib.Core.Path.{sym, _∙_}
 use borrow.Author.Tests.{not-true, not-false}
 use Rattle.calls.proofs.Picking.{passes-unlike, passes-other, passes-outside, passes-marked, passes-on}
@@ -12,47 +13,37 @@ use Rattle.layout.proofs.field.Reads as field-reads
 use Rattle.program.proofs.lookup.mark.Reads as mark-reads
 use Rattle.typing.proofs.types.is_within.Reads as is-within-reads
 
--- src/lib.rt:457:9
 same-ownerships-requires : tie.Need-same-ownerships-requires
 same-ownerships-requires c κs = search needs
 
--- src/lib.rt:458:9
 returns : tie.Need-returns
 returns c =
     passes-unlike _ _ _ _ _ _ _ _ _ _ _ _ _ (sym ((c .before .same-ownerships) .ensures) ∙ not-true ((c .before .same-ownerships) .result) ((c .if1) .taken))
 
--- src/lib.rt:460:9
 field-requires : tie.Need-field-requires
 field-requires c κs = search needs
 
--- src/lib.rt:463:9
 returns-2 : tie.Need-returns-2
 returns-2 c =
     passes-other _ _ _ _ _ _ _ _ _ _ _ _ _ (sym ((c .before .before .before .same-ownerships) .ensures) ∙ not-false ((c .before .before .before .same-ownerships) .result) ((c .before .before .if1) .left)) _ ((c .before .field) .ensures .0) ((c .if2) .taken)
 
--- src/lib.rt:465:9
 is-within-requires : tie.Need-is-within-requires
 is-within-requires c κs = search needs
 
--- src/lib.rt:466:9
 returns-3 : tie.Need-returns-3
 returns-3 c =
     passes-outside _ _ _ _ _ _ _ _ _ _ _ _ _ (sym ((c .before .before .before .before .before .same-ownerships) .ensures) ∙ not-false ((c .before .before .before .before .before .same-ownerships) .result) ((c .before .before .before .before .if1) .left)) _ ((c .before .before .before .field) .ensures .0) ((c .before .before .if2) .left) (sym ((c .before .is-within) .ensures) ∙ not-true ((c .before .is-within) .result) ((c .if3) .taken))
 
--- src/lib.rt:468:26
 mark-requires : tie.Need-mark-requires
 mark-requires c κs = search needs
 
--- src/lib.rt:469:9
 returns-4 : tie.Need-returns-4
 returns-4 c =
     passes-marked _ _ _ _ _ _ _ _ _ _ _ _ _ (sym ((c .before .before .before .before .before .before .before .same-ownerships) .ensures) ∙ not-false ((c .before .before .before .before .before .before .before .same-ownerships) .result) ((c .before .before .before .before .before .before .if1) .left)) _ ((c .before .before .before .before .before .field) .ensures .0) ((c .before .before .before .before .if2) .left) (sym ((c .before .before .before .is-within) .ensures) ∙ not-false ((c .before .before .before .is-within) .result) ((c .before .before .if3) .left)) _ ((c .before .mark) .ensures .0) ((c .if4) .taken)
 
--- src/lib.rt:471:5
 matching-requires : tie.Need-matching-requires
 matching-requires c κs = search needs
 
--- src/lib.rt:440:1
 returns-5 : tie.Need-returns-5
 returns-5 c =
     passes-on _ _ _ _ _ _ _ _ _ _ _ _ _ (sym ((c .before .before .before .before .before .before .before .before .same-ownerships) .ensures) ∙ not-false ((c .before .before .before .before .before .before .before .before .same-ownerships) .result) ((c .before .before .before .before .before .before .before .if1) .left)) _ ((c .before .before .before .before .before .before .field) .ensures .0) ((c .before .before .before .before .before .if2) .left) (sym ((c .before .before .before .before .is-within) .ensures) ∙ not-false ((c .before .before .before .before .is-within) .result) ((c .before .before .before .if3) .left)) _ ((c .before .before .mark) .ensures .0) ((c .before .if4) .left) ((c .matching) .ensures)

@@ -1,3 +1,4 @@
+-- `calls::pick`: what is left of the search is put to the versions from w on.
 use mathlib.Core.Path.{_≡_, refl, sym, _∙_}
 use native.Mathlib.Omega.{arith}
 use Prim.Native.Nat.{_-_, _≤_}
@@ -19,42 +20,33 @@ Inv-loop image table owners codes promises calls k at f mark returns n w₀ w = 
 abbrev μ-loop : tie.MeasureT-loop
 μ-loop image table owners codes promises calls k at f mark returns n w₀ w = 4 - w
 
--- src/lib.rt:522:5
 loop-holds : tie.Need-loop-holds Inv-loop μ-loop
 loop-holds c =
     (omega arith, refl)
 
--- src/lib.rt:523:15
 passed-requires : tie.Need-passed-requires Inv-loop μ-loop
 passed-requires c κs = search needs
 
--- src/lib.rt:524:23
 enum-known-v : tie.Need-enum-known-v Inv-loop μ-loop
 enum-known-v c = search needs
 
--- src/lib.rt:524:29
 returns : tie.Need-returns Inv-loop μ-loop
 returns c =
     sym ((c .before .before .before .before .before .loop) .inv .1 ∙ pick-met _ _ _ _ _ ((c .before .before .before .before .loop-test) .taken) (sym ((c .before .before .before .passed) .ensures) ∙ (c .before .v) .given .1))
 
--- src/lib.rt:525:31
 enum-told : tie.Need-enum-told Inv-loop μ-loop
 enum-told c = search needs
 
--- src/lib.rt:525:31
 add-w : tie.Need-add-w Inv-loop μ-loop
 add-w c = search needs
 
--- src/lib.rt:522:5
 loop-less : tie.Need-loop-less Inv-loop μ-loop
 loop-less c = search needs
 
--- src/lib.rt:522:5
 loop-again : tie.Need-loop-again Inv-loop μ-loop
 loop-again c =
     (omega (arith, (c .before .before .before .loop-test) .taken), (c .before .before .before .before .loop) .inv .1 ∙ pick-next _ _ _ _ ((c .before .before .before .loop-test) .taken) (sym ((c .before .before .passed) .ensures) ∙ (c .enum-told) .given .1))
 
--- src/lib.rt:504:1
 returns-2 : tie.Need-returns-2 Inv-loop μ-loop
 returns-2 c =
     sym ((c .before .loop) .inv .1 ∙ pick-none _ _ _ _ ((c .loop-test) .left))

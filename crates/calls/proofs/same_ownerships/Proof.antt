@@ -1,3 +1,4 @@
+-- `calls::same_ownerships`: as many as there are parameters; what is left of the test is put to the types from i on.
 use mathlib.Core.Path.{_≡_, sym, ap, _∙_}
 use native.Mathlib.Omega.{arith}
 use Prim.Native.Nat.{_-_, _≤_}
@@ -24,47 +25,37 @@ Inv-loop image at v n i₀ i = (i ≤ n) × (allTo (λ j. eqb (ownershipOf (list
 abbrev μ-loop : tie.MeasureT-loop
 μ-loop image at v n i₀ i = n - i
 
--- src/lib.rt:425:13
 parameters-of-requires : tie.Need-parameters-of-requires Inv-loop μ-loop
 parameters-of-requires c κs = search needs
 
--- src/lib.rt:426:9
 returns : tie.Need-returns Inv-loop μ-loop
 returns c =
     same-off _ _ _ ((c .before .parameters-of) .ensures) ((c .if1) .taken)
 
--- src/lib.rt:429:5
 loop-holds : tie.Need-loop-holds Inv-loop μ-loop
 loop-holds c =
     (omega arith, ap (allTo _ 0) (sym (all-left _)))
 
--- src/lib.rt:430:13
 listed-type-requires : tie.Need-listed-type-requires Inv-loop μ-loop
 listed-type-requires c κs = search needs
 
--- src/lib.rt:431:22
 type-of-requires : tie.Need-type-of-requires Inv-loop μ-loop
 type-of-requires c κs = search needs
 
--- src/lib.rt:432:13
 returns-2 : tie.Need-returns-2 Inv-loop μ-loop
 returns-2 c =
     sym (same-on _ _ _ ((c .before .before .before .before .before .before .parameters-of) .ensures) ((c .before .before .before .before .before .if1) .left) ∙ (c .before .before .before .before .loop) .inv .1 ∙ all-failed _ _ _ ((c .before .before .before .loop-test) .taken) (owners-differ _ _ ((c .before .before .listed-type) .ensures .0) ((c .before .type-of) .ensures .0) ((c .if2) .taken)))
 
--- src/lib.rt:434:9
 add-i : tie.Need-add-i Inv-loop μ-loop
 add-i c = search needs
 
--- src/lib.rt:429:5
 loop-less : tie.Need-loop-less Inv-loop μ-loop
 loop-less c = search needs
 
--- src/lib.rt:429:5
 loop-again : tie.Need-loop-again Inv-loop μ-loop
 loop-again c =
     (omega (arith, (c .before .before .before .loop-test) .taken), (c .before .before .before .before .loop) .inv .1 ∙ all-passed _ _ _ ((c .before .before .before .loop-test) .taken) (owners-same _ _ ((c .before .before .listed-type) .ensures .0) ((c .before .type-of) .ensures .0) ((c .if2) .left)))
 
--- src/lib.rt:422:1
 returns-3 : tie.Need-returns-3 Inv-loop μ-loop
 returns-3 c =
     sym (same-on _ _ _ ((c .before .before .before .parameters-of) .ensures) ((c .before .before .if1) .left) ∙ (c .before .loop) .inv .1 ∙ all-done _ _ _ ((c .loop-test) .left))

@@ -1,3 +1,4 @@
+-- `cells::arith`: the two operands, one after the other, then each answer of `integers::arith` by its own branch.
 use Rattle.cells.proofs.Given.{whole-is, whole-stuck, arith-left, arith-right, arith-done}
 use Rattle.cells.proofs.Undef.{arith-undef, computed-got, computed-stuck}
 use Rattle.memory.specs.Parts.{endOf, givesOf}
@@ -6,7 +7,7 @@ use Rattle.machine.specs.Try.{_>>=_}
 use mir.Val.{SFits}
 use mir.Syntax.{w32}
 use mir.Facts.{toZ-ofZ}
-use mathlib.Core.Path.{_≡_, refl, sym, ap, _∙_}
+use mathlib.Core.Path.{sym, ap, _∙_}
 use Rattle.machine.specs.declared.Value.{Value}
 use Rattle.machine.specs.Try.{got}
 use lib.IntN.{ℤ}
@@ -18,59 +19,46 @@ use Rattle.cells.proofs.arith.Lts as lts
 use Rattle.cells.proofs.integer.Reads as integer-reads
 use Rattle.integers.proofs.arith.Reads as arith-reads
 
--- src/lib.rt:161:24
 integer-requires : tie.Need-integer-requires
 integer-requires c κs = search needs
 
--- src/lib.rt:161:19
 enum-known-x : tie.Need-enum-known-x
 enum-known-x c = search needs
 
--- src/lib.rt:162:9
 enum-told : tie.Need-enum-told
 enum-told c = search needs
 
--- src/lib.rt:162:9
 returns : tie.Need-returns
 unfolding givesOf endOf
 returns c =
     arith-left _ _ _ _ _ _ (whole-stuck ((c .before .before .integer) .ensures) ((c .enum-told) .given .1))
 
--- src/lib.rt:164:24
 integer-requires-2 : tie.Need-integer-requires-2
 integer-requires-2 c κs = search needs
 
--- src/lib.rt:164:19
 enum-known-y : tie.Need-enum-known-y
 enum-known-y c = search needs
 
--- src/lib.rt:165:9
 enum-told-2 : tie.Need-enum-told-2
 enum-told-2 c = search needs
 
--- src/lib.rt:165:9
 returns-2 : tie.Need-returns-2
 unfolding givesOf endOf
 returns-2 c =
     arith-right _ _ _ _ _ _ (whole-is ((c .before .before .before .before .before .before .integer) .ensures) ((c .before .before .before .before .x) .given .1)) (whole-stuck ((c .before .before .integer2) .ensures) ((c .enum-told2) .given .1))
 
--- src/lib.rt:167:11
 arith-requires : tie.Need-arith-requires
 arith-requires c κs = search needs
 
--- src/lib.rt:168:27
 enum-known-z : tie.Need-enum-known-z
 enum-known-z c = search needs
 
--- src/lib.rt:169:40
 enum-told-3 : tie.Need-enum-told-3
 enum-told-3 c = search needs
 
--- src/lib.rt:170:28
 enum-told-4 : tie.Need-enum-told-4
 enum-told-4 c = search needs
 
--- src/lib.rt:157:1
 returns-3 : tie.Need-returns-3
 unfolding givesOf valueOf _>>=_ endOf
 returns-3 c =
@@ -80,7 +68,6 @@ returns-3 c =
     let sz : SFits w32 ((c .before .z) .given .0 .0) = search needs in
     ap (λ (v : ℤ). got (Value.Integer v)) (toZ-ofZ sz) ∙ arith-done _ _ _ _ _ _ (whole-is ((c .before .before .before .before .before .before .before .before .before .before .before .integer) .ensures) ((c .before .before .before .before .before .before .before .before .before .x) .given .1)) (whole-is ((c .before .before .before .before .before .before .before .integer2) .ensures) ((c .before .before .before .before .before .y) .given .1)) (computed-got _ _ (sym e ∙ (c .before .z) .given .1))
 
--- src/lib.rt:157:1
 returns-4 : tie.Need-returns-4
 unfolding givesOf _>>=_ endOf
 returns-4 c =
@@ -89,7 +76,6 @@ returns-4 c =
     let e = rw (toZ-ofZ sx, toZ-ofZ sy) at ((c .before .before .arith) .ensures) in
     arith-done _ _ _ _ _ _ (whole-is ((c .before .before .before .before .before .before .before .before .before .before .integer) .ensures) ((c .before .before .before .before .before .before .before .before .x) .given .1)) (whole-is ((c .before .before .before .before .before .before .integer2) .ensures) ((c .before .before .before .before .y) .given .1)) (arith-undef _ _ _ (sym e ∙ (c .enum-told3) .given .1))
 
--- src/lib.rt:157:1
 returns-5 : tie.Need-returns-5
 unfolding givesOf _>>=_ endOf
 returns-5 c =

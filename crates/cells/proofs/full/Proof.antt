@@ -1,7 +1,8 @@
+-- `cells::full`: by the bound of the registers, then by the code of the cell.
 use Rattle.cells.proofs.Codes.{cell-outside, cell-met, cell-unmet}
 use Rattle.cells.specs.Operands.{isFull}
 use Rattle.memory.specs.Parts.{foundOf}
-use mathlib.Core.Path.{_≡_, refl, sym, ap, _∙_}
+use mathlib.Core.Path.{sym, _∙_}
 use borrow.Author.Needs.{needs}
 use Rattle.cells.proofs.full.Statement.{statement}
 use Rattle.cells.proofs.full.Tie as tie
@@ -9,47 +10,37 @@ use Rattle.cells.proofs.full.Reads as reads
 use Rattle.cells.proofs.full.Lts as lts
 use Rattle.cells.proofs.is_full.Reads as is-full-reads
 
--- src/lib.rt:111:9
 returns : tie.Need-returns
 unfolding foundOf
 returns c =
     sym (cell-outside isFull _ _ _ ((c .if1) .taken))
 
--- src/lib.rt:113:22
 mul-is-full : tie.Need-mul-is-full
 mul-is-full c = search needs
 
--- src/lib.rt:113:22
 add-is-full : tie.Need-add-is-full
 add-is-full c = search needs
 
--- src/lib.rt:113:16
 mul-is-full-2 : tie.Need-mul-is-full-2
 mul-is-full-2 c = search needs
 
--- src/lib.rt:113:16
 element-copy-out-is-full : tie.Need-element-copy-out-is-full
 element-copy-out-is-full c = search needs
 
--- src/lib.rt:113:8
 is-full-requires : tie.Need-is-full-requires
 is-full-requires c κs = search needs
 
--- src/lib.rt:114:19
 mul-t14 : tie.Need-mul-t14
 mul-t14 c = search needs
 
--- src/lib.rt:114:19
 add-t15 : tie.Need-add-t15
 add-t15 c = search needs
 
--- src/lib.rt:105:1
 returns-2 : tie.Need-returns-2
 unfolding foundOf
 returns-2 c =
     sym (cell-met isFull _ _ _ ((c .before .before .before .if1) .left) (sym ((c .before .is-full) .ensures) ∙ (c .if2) .taken))
 
--- src/lib.rt:105:1
 returns-3 : tie.Need-returns-3
 unfolding foundOf
 returns-3 c =

@@ -1,8 +1,9 @@
+-- `cells::give`: a cell is put where the register is there; all else is handed on.
 use Rattle.cells.proofs.Giving.{gave-cell, gave-outside, gave-stuck, gave-stop}
 use mir.Val.{SFits}
 use mir.Syntax.{w32}
 use mir.Facts.{toZ-ofZ}
-use mathlib.Core.Path.{_≡_, refl, sym, ap, _∙_}
+use mathlib.Core.Path.{sym, _∙_}
 use borrow.Author.Needs.{needs}
 use Rattle.cells.proofs.give.Statement.{statement}
 use Rattle.cells.proofs.give.Tie as tie
@@ -10,42 +11,34 @@ use Rattle.cells.proofs.give.Reads as reads
 use Rattle.cells.proofs.give.Lts as lts
 use Rattle.cells.proofs.put.Reads as put-reads
 
--- src/lib.rt:226:21
 enum-known-gives : tie.Need-enum-known-gives
 enum-known-gives c = search needs
 
--- src/lib.rt:227:16
 put-requires : tie.Need-put-requires
 put-requires c κs = search needs
 
--- src/lib.rt:233:25
 enum-told : tie.Need-enum-told
 enum-told c = search needs
 
--- src/lib.rt:234:21
 enum-known-gives-2 : tie.Need-enum-known-gives-2
 enum-known-gives-2 c = search needs
 
--- src/lib.rt:221:1
 returns : tie.Need-returns
 returns c =
     let s : SFits w32 ((c .before .before .before .before .before .gives) .given .0 .1 .0) = search needs in
     let e = rw (toZ-ofZ s) at ((c .before .put) .ensures) in
     gave-cell _ _ _ _ (search needs) ((c .before .before .before .before .before .gives) .given .1) (sym ((c .if1) .taken) ∙ e .0) (e .1) (e .2)
 
--- src/lib.rt:221:1
 returns-2 : tie.Need-returns-2
 returns-2 c =
     let s : SFits w32 ((c .before .before .before .before .before .gives) .given .0 .1 .0) = search needs in
     let e = rw (toZ-ofZ s) at ((c .before .put) .ensures) in
     gave-outside _ _ _ _ (search needs) ((c .before .before .before .before .before .gives) .given .1) (sym ((c .if1) .left) ∙ e .0) (e .1) (e .2)
 
--- src/lib.rt:221:1
 returns-3 : tie.Need-returns-3
 returns-3 c =
     gave-stuck _ _ _ _ ((c .enum-told) .given .1)
 
--- src/lib.rt:221:1
 returns-4 : tie.Need-returns-4
 returns-4 c =
     gave-stop _ _ _ _ ((c .before .gives2) .given .1)

@@ -1,6 +1,6 @@
+-- `cells::is_full`: plain, or else a promise.
 use Rattle.cells.proofs.Codes.{full-plain, full-else}
-use mathlib.Core.Path.{_≡_, refl, sym, ap, _∙_}
-use Rattle.cells.specs.Operands.{isFull}
+use mathlib.Core.Path.{sym, _∙_}
 use borrow.Author.Needs.{needs}
 use Rattle.cells.proofs.is_full.Statement.{statement}
 use Rattle.cells.proofs.is_full.Tie as tie
@@ -9,20 +9,16 @@ use Rattle.cells.proofs.is_full.Lts as lts
 use Rattle.cells.proofs.is_plain.Reads as is-plain-reads
 use Rattle.cells.proofs.is_promise.Reads as is-promise-reads
 
--- src/lib.rt:48:8
 is-plain-requires : tie.Need-is-plain-requires
 is-plain-requires c κs = search needs
 
--- src/lib.rt:49:9
 returns : tie.Need-returns
 returns c =
     sym (full-plain _ (sym ((c .before .is-plain) .ensures) ∙ (c .if1) .taken))
 
--- src/lib.rt:51:5
 is-promise-requires : tie.Need-is-promise-requires
 is-promise-requires c κs = search needs
 
--- src/lib.rt:45:1
 returns-2 : tie.Need-returns-2
 returns-2 c =
     (c .is-promise) .ensures ∙ sym (full-else _ (sym ((c .before .before .is-plain) .ensures) ∙ (c .before .if1) .left))

@@ -1,3 +1,4 @@
+-- `cells::is_plain`: an integer, or else a vector.
 use Rattle.cells.specs.Operands.{isPlain, isInteger}
 use borrow.Author.Tests.{eq-eqb, ne-eqb}
 use borrow.Author.Needs.{needs}
@@ -7,17 +8,14 @@ use Rattle.cells.proofs.is_plain.Reads as reads
 use Rattle.cells.proofs.is_plain.Lts as lts
 use Rattle.cells.proofs.is_vector.Reads as is-vector-reads
 
--- src/lib.rt:39:9
 returns : tie.Need-returns
 unfolding isPlain isInteger
 returns c =
     simp (eq-eqb _ _ ((c .if1) .taken))
 
--- src/lib.rt:41:5
 is-vector-requires : tie.Need-is-vector-requires
 is-vector-requires c κs = search needs
 
--- src/lib.rt:35:1
 returns-2 : tie.Need-returns-2
 unfolding isPlain isInteger
 returns-2 c =

@@ -1,7 +1,8 @@
+-- `cells::plain`: by the bound of the registers, then by the code of the cell.
 use Rattle.cells.proofs.Codes.{cell-outside, cell-met, cell-unmet}
 use Rattle.cells.specs.Operands.{isPlain}
 use Rattle.memory.specs.Parts.{foundOf}
-use mathlib.Core.Path.{_≡_, refl, sym, ap, _∙_}
+use mathlib.Core.Path.{sym, _∙_}
 use borrow.Author.Needs.{needs}
 use Rattle.cells.proofs.plain.Statement.{statement}
 use Rattle.cells.proofs.plain.Tie as tie
@@ -9,47 +10,37 @@ use Rattle.cells.proofs.plain.Reads as reads
 use Rattle.cells.proofs.plain.Lts as lts
 use Rattle.cells.proofs.is_plain.Reads as is-plain-reads
 
--- src/lib.rt:127:9
 returns : tie.Need-returns
 unfolding foundOf
 returns c =
     sym (cell-outside isPlain _ _ _ ((c .if1) .taken))
 
--- src/lib.rt:129:23
 mul-is-plain : tie.Need-mul-is-plain
 mul-is-plain c = search needs
 
--- src/lib.rt:129:23
 add-is-plain : tie.Need-add-is-plain
 add-is-plain c = search needs
 
--- src/lib.rt:129:17
 mul-is-plain-2 : tie.Need-mul-is-plain-2
 mul-is-plain-2 c = search needs
 
--- src/lib.rt:129:17
 element-copy-out-is-plain : tie.Need-element-copy-out-is-plain
 element-copy-out-is-plain c = search needs
 
--- src/lib.rt:129:8
 is-plain-requires : tie.Need-is-plain-requires
 is-plain-requires c κs = search needs
 
--- src/lib.rt:130:19
 mul-t14 : tie.Need-mul-t14
 mul-t14 c = search needs
 
--- src/lib.rt:130:19
 add-t15 : tie.Need-add-t15
 add-t15 c = search needs
 
--- src/lib.rt:121:1
 returns-2 : tie.Need-returns-2
 unfolding foundOf
 returns-2 c =
     sym (cell-met isPlain _ _ _ ((c .before .before .before .if1) .left) (sym ((c .before .is-plain) .ensures) ∙ (c .if2) .taken))
 
--- src/lib.rt:121:1
 returns-3 : tie.Need-returns-3
 unfolding foundOf
 returns-3 c =

@@ -1,10 +1,11 @@
+-- `cells::select`: the three operands, one after the other, then `integers::select`.
 use Rattle.cells.proofs.Given.{whole-is, whole-stuck, select-first, select-second, select-third, select-done}
 use Rattle.memory.specs.Parts.{endOf, givesOf}
 use Rattle.memory.specs.Memory.{valueOf}
 use mir.Val.{SFits}
 use mir.Syntax.{w32}
 use mir.Facts.{toZ-ofZ}
-use mathlib.Core.Path.{_≡_, refl, sym, ap, _∙_}
+use mathlib.Core.Path.{ap, _∙_}
 use Rattle.machine.specs.declared.Value.{Value}
 use Rattle.machine.specs.Try.{got}
 use lib.IntN.{ℤ}
@@ -16,65 +17,51 @@ use Rattle.cells.proofs.select.Lts as lts
 use Rattle.cells.proofs.integer.Reads as integer-reads
 use Rattle.integers.proofs.select.Reads as select-reads
 
--- src/lib.rt:180:24
 integer-requires : tie.Need-integer-requires
 integer-requires c κs = search needs
 
--- src/lib.rt:180:19
 enum-known-w : tie.Need-enum-known-w
 enum-known-w c = search needs
 
--- src/lib.rt:181:9
 enum-told : tie.Need-enum-told
 enum-told c = search needs
 
--- src/lib.rt:181:9
 returns : tie.Need-returns
 unfolding givesOf endOf
 returns c =
     select-first _ _ _ _ _ _ (whole-stuck ((c .before .before .integer) .ensures) ((c .enum-told) .given .1))
 
--- src/lib.rt:183:24
 integer-requires-2 : tie.Need-integer-requires-2
 integer-requires-2 c κs = search needs
 
--- src/lib.rt:183:19
 enum-known-x : tie.Need-enum-known-x
 enum-known-x c = search needs
 
--- src/lib.rt:184:9
 enum-told-2 : tie.Need-enum-told-2
 enum-told-2 c = search needs
 
--- src/lib.rt:184:9
 returns-2 : tie.Need-returns-2
 unfolding givesOf endOf
 returns-2 c =
     select-second _ _ _ _ _ _ (whole-is ((c .before .before .before .before .before .before .integer) .ensures) ((c .before .before .before .before .w) .given .1)) (whole-stuck ((c .before .before .integer2) .ensures) ((c .enum-told2) .given .1))
 
--- src/lib.rt:186:24
 integer-requires-3 : tie.Need-integer-requires-3
 integer-requires-3 c κs = search needs
 
--- src/lib.rt:186:19
 enum-known-y : tie.Need-enum-known-y
 enum-known-y c = search needs
 
--- src/lib.rt:187:9
 enum-told-3 : tie.Need-enum-told-3
 enum-told-3 c = search needs
 
--- src/lib.rt:187:9
 returns-3 : tie.Need-returns-3
 unfolding givesOf endOf
 returns-3 c =
     select-third _ _ _ _ _ _ (whole-is ((c .before .before .before .before .before .before .before .before .before .before .integer) .ensures) ((c .before .before .before .before .before .before .before .before .w) .given .1)) (whole-is ((c .before .before .before .before .before .before .integer2) .ensures) ((c .before .before .before .before .x) .given .1)) (whole-stuck ((c .before .before .integer3) .ensures) ((c .enum-told3) .given .1))
 
--- src/lib.rt:189:20
 select-requires : tie.Need-select-requires
 select-requires c κs = search needs
 
--- src/lib.rt:176:1
 returns-4 : tie.Need-returns-4
 unfolding givesOf valueOf endOf
 returns-4 c =

@@ -2,7 +2,7 @@
 use mathlib.Core.Path.{refl, ap, _∙_}
 use borrow.Author.Needs.{needs}
 use Rattle.machine.specs.declared.Answer.{Answer}
-use Rattle.delivery.specs.Delivered.{delivered}
+use Rattle.machine.specs.Runs.{written}
 use Rattle.delivery.proofs.Laws.{silent, vector-delivered}
 use Rattle.delivery.proofs.deliver.Statement.{statement}
 use Rattle.delivery.proofs.deliver.Tie as tie
@@ -44,15 +44,15 @@ enum-told-8 : tie.Need-enum-told-8
 enum-told-8 c = search needs
 
 returns : tie.Need-returns
-unfolding delivered
+unfolding written
 returns c = silent _ _ (c .enum-told .given .1) refl
 
 returns-2 : tie.Need-returns-2
-unfolding delivered
+unfolding written
 returns-2 c = silent _ _ (c .enum-told2 .given .1) refl
 
 returns-3 : tie.Need-returns-3
-unfolding delivered
+unfolding written
 returns-3 c = silent _ _ (c .before .before .before .answer .given .1 ∙ ap Answer.Ended (c .enum-told3 .given .1)) refl
 
 same-length : tie.Need-same-length
@@ -62,23 +62,23 @@ returns-4 : tie.Need-returns-4
 returns-4 c = vector-delivered _ _ (c .before .before .before .before .before .before .before .answer .given .1) (c .before .before .before .before .end .given .1) (c .before .put-items .ensures)
 
 returns-5 : tie.Need-returns-5
-unfolding delivered
+unfolding written
 returns-5 c = silent _ _ (c .before .before .before .answer .given .1 ∙ ap Answer.Ended (c .enum-told4 .given .1)) refl
 
 returns-6 : tie.Need-returns-6
-unfolding delivered
+unfolding written
 returns-6 c = silent _ _ (c .before .before .before .answer .given .1 ∙ ap Answer.Ended (c .enum-told5 .given .1)) refl
 
 returns-7 : tie.Need-returns-7
-unfolding delivered
+unfolding written
 returns-7 c = silent _ _ (c .before .before .before .answer .given .1 ∙ ap Answer.Ended (c .enum-told6 .given .1)) refl
 
 returns-8 : tie.Need-returns-8
-unfolding delivered
+unfolding written
 returns-8 c = silent _ _ (c .before .before .before .answer .given .1 ∙ ap Answer.Ended (c .enum-told7 .given .1)) refl
 
 returns-9 : tie.Need-returns-9
-unfolding delivered
+unfolding written
 returns-9 c = silent _ _ (c .enum-told8 .given .1) refl
 
 pub deliver-spec : {M : Type 1} → statement M

@@ -1,51 +1,41 @@
+-- `ends::back`: an activation below, its frame live and in bounds, one test after the other; then a put.
 use Rattle.ends.proofs.Backs.{back-low, back-dead, back-past, back-put}
 use mir.Facts.{toZ-ofZ}
-use native.Mathlib.Omega.{arith}
-use mathlib.Core.Path.{_≡_, refl, sym, ap, _∙_}
 use borrow.Author.Needs.{needs}
 use Rattle.ends.proofs.back.Statement.{statement}
 use Rattle.ends.proofs.back.Tie as tie
 use Rattle.ends.proofs.back.Reads as reads
 use Rattle.ends.proofs.back.Lts as lts
 use Rattle.cells.proofs.put.Reads as put-reads
-use Rattle.ends.proofs.wide.Reads as wide-reads
+use Rattle.layout.proofs.wide.Reads as wide-reads
 
--- src/lib.rt:28:9
 returns : tie.Need-returns
 returns c =
     back-low _ _ _ _ _ _ _ _ ((c .if1) .taken)
 
--- src/lib.rt:30:24
 mul-wide : tie.Need-mul-wide
 mul-wide c = search needs
 
--- src/lib.rt:30:24
 add-wide : tie.Need-add-wide
 add-wide c = search needs
 
--- src/lib.rt:30:18
 element-copy-out-wide : tie.Need-element-copy-out-wide
 element-copy-out-wide c = search needs
 
--- src/lib.rt:30:9
 wide-requires : tie.Need-wide-requires
 wide-requires c κs = search needs
 
--- src/lib.rt:32:9
 returns-2 : tie.Need-returns-2
 returns-2 c =
     back-dead _ _ _ _ _ _ _ _ ((c .before .before .before .if1) .left) (rw ((c .before .wide) .ensures .0) at ((c .if2) .taken))
 
--- src/lib.rt:35:9
 returns-3 : tie.Need-returns-3
 returns-3 c =
     back-past _ _ _ _ _ _ _ _ ((c .before .before .before .before .if1) .left) (rw ((c .before .before .wide) .ensures .0) at ((c .if3) .taken))
 
--- src/lib.rt:37:5
 put-requires : tie.Need-put-requires
 put-requires c κs = search needs
 
--- src/lib.rt:23:1
 returns-4 : tie.Need-returns-4
 returns-4 c =
     let e = rw (toZ-ofZ ((c .before .before .before .before .before .before .before .before) .fits .z)) at ((c .put) .ensures) in

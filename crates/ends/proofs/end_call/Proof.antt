@@ -1,3 +1,4 @@
+-- `ends::end_call`: one test after the other; then the run is finished, or the value goes back.
 use Rattle.ends.specs.Closing.{Fewer}
 use Rattle.ends.proofs.Finishes.{call-unkind, call-unfit, call-inner, call-old, call-done, call-back, call-unback, fewer-finished}
 use native.Mathlib.Omega.{arith}
@@ -8,7 +9,7 @@ use mir.Syntax.{w32}
 use mir.Facts.{toZ-ofZ}
 use lib.ListN.{getD}
 use lib.IntN.{pos}
-use mathlib.Core.Path.{_≡_, refl, sym, ap, _∙_}
+use mathlib.Core.Path.{sym, _∙_}
 use borrow.Author.Needs.{needs}
 use Rattle.ends.proofs.end_call.Statement.{statement}
 use Rattle.ends.proofs.end_call.Tie as tie
@@ -20,117 +21,92 @@ use Rattle.kinds.proofs.kind_of.Reads as kind-of-reads
 use Rattle.layout.proofs.field.Reads as field-reads
 use Rattle.typing.proofs.types.is_within.Reads as is-within-reads
 
--- src/lib.rt:87:13
 mul-c : tie.Need-mul-c
 mul-c c = search needs
 
--- src/lib.rt:87:13
 element-copy-out-c : tie.Need-element-copy-out-c
 element-copy-out-c c = search needs
 
--- src/lib.rt:88:13
 mul-z : tie.Need-mul-z
 mul-z c = search needs
 
--- src/lib.rt:88:13
 element-copy-out-z : tie.Need-element-copy-out-z
 element-copy-out-z c = search needs
 
--- src/lib.rt:89:9
 kind-of-requires : tie.Need-kind-of-requires
 kind-of-requires c κs = search needs
 
--- src/lib.rt:91:9
 returns : tie.Need-returns
 unfolding Fewer
 returns c =
     (call-unkind _ _ _ _ _ _ _ _ _ _ _ _ ((c .before .kind-of) .ensures) ((c .if1) .taken), tt)
 
--- src/lib.rt:93:29
 field-requires : tie.Need-field-requires
 field-requires c κs = search needs
 
--- src/lib.rt:93:9
 is-within-requires : tie.Need-is-within-requires
 is-within-requires c κs = search needs
 
--- src/lib.rt:94:9
 returns-2 : tie.Need-returns-2
 unfolding Fewer
 returns-2 c =
     (call-unfit _ _ _ _ _ _ _ _ _ _ _ _ ((c .before .before .before .before .kind-of) .ensures) ((c .before .before .before .if1) .left) _ ((c .before .before .field) .ensures .0) (sym (not-true _ ((c .if2) .taken)) ∙ (c .before .is-within) .ensures), tt)
 
--- src/lib.rt:96:19
 sub-if3 : tie.Need-sub-if3
 sub-if3 c = search needs
 
--- src/lib.rt:96:14
 mul-if3 : tie.Need-mul-if3
 mul-if3 c = search needs
 
--- src/lib.rt:96:14
 add-if3 : tie.Need-add-if3
 add-if3 c = search needs
 
--- src/lib.rt:96:8
 element-copy-out-if3 : tie.Need-element-copy-out-if3
 element-copy-out-if3 c = search needs
 
--- src/lib.rt:97:9
 returns-3 : tie.Need-returns-3
 unfolding Fewer
 returns-3 c =
     (call-inner _ _ _ _ _ _ _ _ _ _ _ _ ((c .before .before .before .before .before .before .kind-of) .ensures) ((c .before .before .before .before .before .if1) .left) _ ((c .before .before .before .before .field) .ensures .0) (sym (not-false _ ((c .before .before .if2) .left)) ∙ (c .before .before .before .is-within) .ensures) ((c .if3) .taken), tt)
 
--- src/lib.rt:99:8
 add-if4 : tie.Need-add-if4
 add-if4 c = search needs
 
--- src/lib.rt:100:9
 returns-4 : tie.Need-returns-4
 unfolding Fewer
 returns-4 c =
     (call-old _ _ _ _ _ _ _ _ _ _ _ _ ((c .before .before .before .before .before .before .before .kind-of) .ensures) ((c .before .before .before .before .before .before .if1) .left) _ ((c .before .before .before .before .before .field) .ensures .0) (sym (not-false _ ((c .before .before .before .if2) .left)) ∙ (c .before .before .before .before .is-within) .ensures) ((c .before .if3) .left) ((c .if4) .taken), tt)
 
--- src/lib.rt:103:9
 finished-requires : tie.Need-finished-requires
 finished-requires c κs = search needs
 
--- src/lib.rt:103:9
 returns-5 : tie.Need-returns-5
 unfolding Fewer
 returns-5 c =
     let s : SFits w32 (getD ((c .before .before .before .before .before .before .before .before .before .before .before .before .before) .args .numbers .now) ((c .before .before .before .before .before .before .before .before .before .before .before .before .before) .args .i) (pos 0)) = search needs in
     (call-done _ _ _ _ _ _ _ _ _ _ _ _ ((c .before .before .before .before .before .before .before .before .before .kind-of) .ensures) ((c .before .before .before .before .before .before .before .before .if1) .left) _ ((c .before .before .before .before .before .before .before .field) .ensures .0) (sym (not-false _ ((c .before .before .before .before .before .if2) .left)) ∙ (c .before .before .before .before .before .before .is-within) .ensures) ((c .before .before .before .if3) .left) ((c .before .before .if4) .left) _ ((c .before .if5) .taken) (toZ-ofZ s) ((c .finished) .ensures), fewer-finished _ _ _ ((c .finished) .ensures))
 
--- src/lib.rt:105:57
 sub-back : tie.Need-sub-back
 sub-back c = search needs
 
--- src/lib.rt:105:52
 mul-back : tie.Need-mul-back
 mul-back c = search needs
 
--- src/lib.rt:105:52
 add-back : tie.Need-add-back
 add-back c = search needs
 
--- src/lib.rt:105:46
 element-copy-out-back : tie.Need-element-copy-out-back
 element-copy-out-back c = search needs
 
--- src/lib.rt:105:8
 back-requires : tie.Need-back-requires
 back-requires c κs = search needs
 
--- src/lib.rt:83:1
 returns-6 : tie.Need-returns-6
 unfolding Fewer
 returns-6 c =
     let s : SFits w32 (getD ((c .before .before .before .before .before .before .before .before .before .before .before .before .before .before .before .before .before) .args .numbers .now) ((c .before .before .before .before .before .before .before .before .before .before .before .before .before .before .before .before .before) .args .i) (pos 0)) = search needs in
     (call-back _ _ _ _ _ _ _ _ _ _ _ _ ((c .before .before .before .before .before .before .before .before .before .before .before .before .before .kind-of) .ensures) ((c .before .before .before .before .before .before .before .before .before .before .before .before .if1) .left) _ ((c .before .before .before .before .before .before .before .before .before .before .before .field) .ensures .0) (sym (not-false _ ((c .before .before .before .before .before .before .before .before .before .if2) .left)) ∙ (c .before .before .before .before .before .before .before .before .before .before .is-within) .ensures) ((c .before .before .before .before .before .before .before .if3) .left) ((c .before .before .before .before .before .before .if4) .left) ((c .before .before .before .before .before .if5) .left) (search needs) _ _ _ (toZ-ofZ s) (rw ((c .if6) .taken) at ((c .before .back) .ensures)), omega (arith, (c .before .before .before .before .before .before .before .before .before .before .before .before .before .before .before .before .before) .pre .3))
 
--- src/lib.rt:83:1
 returns-7 : tie.Need-returns-7
 unfolding Fewer
 returns-7 c =

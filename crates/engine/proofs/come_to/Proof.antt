@@ -1,3 +1,4 @@
+-- `engine::come_to`: each turn by its own branch.
 use mir.Facts.{toZ-ofZ}
 use mir.Syntax.{w32}
 use mir.Val.{SFits}
@@ -10,104 +11,81 @@ use Rattle.engine.proofs.come_to.Lts as lts
 use Rattle.engine.proofs.ended.Reads as ended-reads
 use Rattle.engine.proofs.going.Reads as going-reads
 use Rattle.engine.proofs.shown.Reads as shown-reads
-use Rattle.flat.proofs.vector.Reads as vector-reads
+use Rattle.flat.proofs.heap.vector.Reads as vector-reads
 use Rattle.memory.proofs.end_of.Reads as end-of-reads
 
--- src/lib.rt:112:17
 cast-calls : tie.Need-cast-calls
 cast-calls c = search needs
 
--- src/lib.rt:113:17
 cast-depth : tie.Need-cast-depth
 cast-depth c = search needs
 
--- src/lib.rt:116:49
 enum-told : tie.Need-enum-told
 enum-told c = search needs
 
--- src/lib.rt:116:21
 going-requires : tie.Need-going-requires
 going-requires c κs = search needs
 
--- src/lib.rt:117:58
 enum-told-2 : tie.Need-enum-told-2
 enum-told-2 c = search needs
 
--- src/lib.rt:117:30
 going-requires-2 : tie.Need-going-requires-2
 going-requires-2 c κs = search needs
 
--- src/lib.rt:118:23
 enum-known-turn : tie.Need-enum-known-turn
 enum-known-turn c = search needs
 
--- src/lib.rt:118:29
 ended-requires : tie.Need-ended-requires
 ended-requires c κs = search needs
 
--- src/lib.rt:119:22
 enum-known-turn-2 : tie.Need-enum-known-turn-2
 enum-known-turn-2 c = search needs
 
--- src/lib.rt:120:17
 vector-requires : tie.Need-vector-requires
 vector-requires c κs =
     placed-vector ((c .before .before .before .before .before) .pre .2) ((c .before .turn2) .given .1)
 
--- src/lib.rt:122:17
 shown-requires : tie.Need-shown-requires
 shown-requires c κs = search needs
 
--- src/lib.rt:123:13
 ended-requires-2 : tie.Need-ended-requires-2
 ended-requires-2 c κs = search needs
 
--- src/lib.rt:125:52
 enum-told-3 : tie.Need-enum-told-3
 enum-told-3 c = search needs
 
--- src/lib.rt:125:24
 going-requires-3 : tie.Need-going-requires-3
 going-requires-3 c κs = search needs
 
--- src/lib.rt:126:20
 enum-known-turn-3 : tie.Need-enum-known-turn-3
 enum-known-turn-3 c = search needs
 
--- src/lib.rt:126:54
 end-of-requires : tie.Need-end-of-requires
 end-of-requires c κs = search needs
 
--- src/lib.rt:126:26
 ended-requires-3 : tie.Need-ended-requires-3
 ended-requires-3 c κs = search needs
 
--- src/lib.rt:103:1
 returns : tie.Need-returns
 returns c =
     out-on _ _ _ _ _ ((c .before .enum-told) .given .1) ((c .going) .ensures)
 
--- src/lib.rt:103:1
 returns-2 : tie.Need-returns-2
 returns-2 c =
     out-stack _ _ _ _ _ _ _ ((c .before .enum-told2) .given .1) ((c .going2) .ensures)
 
--- src/lib.rt:103:1
 returns-3 : tie.Need-returns-3
 returns-3 c =
     let s : SFits w32 ((c .before .before .turn) .given .0 .0) = search needs in out-integer _ _ _ _ _ _ ((c .before .before .turn) .given .1) (rw (toZ-ofZ s) at ((c .ended) .ensures))
 
--- src/lib.rt:103:1
 returns-4 : tie.Need-returns-4
 returns-4 c =
     out-vector _ _ _ _ _ _ _ _ ((c .before .before .before .before .before .turn2) .given .1) ((c .before .before .before .vector) .ensures) ((c .before .shown) .ensures) ((c .ended2) .ensures)
 
--- src/lib.rt:103:1
 returns-5 : tie.Need-returns-5
 returns-5 c =
     out-stuck _ _ _ _ _ ((c .before .enum-told3) .given .1) ((c .going3) .ensures)
 
--- src/lib.rt:103:1
 returns-6 : tie.Need-returns-6
 returns-6 c =
     out-stop _ _ _ _ _ _ _ ((c .before .before .before .turn3) .given .1) ((c .before .end-of) .ensures) ((c .ended3) .ensures)

@@ -1,3 +1,4 @@
+-- `engine::ended`: by computation.
 use mathlib.Core.Path.{refl}
 use Rattle.engine.specs.Parts.{endedWith}
 use Rattle.engine.proofs.ended.Statement.{statement}
@@ -5,7 +6,6 @@ use Rattle.engine.proofs.ended.Tie as tie
 use Rattle.engine.proofs.ended.Reads as reads
 use Rattle.engine.proofs.ended.Lts as lts
 
--- src/lib.rt:90:1
 returns : tie.Need-returns
 unfolding endedWith
 returns c = refl

@@ -1,3 +1,4 @@
+-- `engine::going`: by computation.
 use mathlib.Core.Path.{refl}
 use Rattle.engine.specs.Parts.{goingWith}
 use Rattle.engine.proofs.going.Statement.{statement}
@@ -5,7 +6,6 @@ use Rattle.engine.proofs.going.Tie as tie
 use Rattle.engine.proofs.going.Reads as reads
 use Rattle.engine.proofs.going.Lts as lts
 
--- src/lib.rt:77:1
 returns : tie.Need-returns
 unfolding goingWith
 returns c = refl

@@ -1,8 +1,5 @@
-use Rattle.stepping.proofs.Running.{sized}
-use Rattle.machine.specs.declared.State.{State}
-use Rattle.machine.specs.declared.Ran.{Ran}
+-- `engine::resumed`: the loaded arrays stand for the state, the steps go over them, and what they come to is read back.
 use Rattle.engine.proofs.Resuming.{come, resumed}
-use mathlib.Core.Path.{_≡_, refl, sym, ap, _∙_}
 use borrow.Author.Needs.{needs}
 use Rattle.engine.proofs.resumed.Statement.{statement}
 use Rattle.engine.proofs.resumed.Tie as tie
@@ -10,43 +7,34 @@ use Rattle.engine.proofs.resumed.Reads as reads
 use Rattle.engine.proofs.resumed.Lts as lts
 use Rattle.engine.proofs.come_to.Reads as come-to-reads
 use Rattle.engine.proofs.standing.Reads as standing-reads
-use Rattle.flat.proofs.load_activations.Reads as load-activations-reads
-use Rattle.flat.proofs.load_frames.Reads as load-frames-reads
-use Rattle.flat.proofs.load_promises.Reads as load-promises-reads
-use Rattle.flat.proofs.load_vectors.Reads as load-vectors-reads
+use Rattle.flat.proofs.stack.load_activations.Reads as load-activations-reads
+use Rattle.flat.proofs.frames.load_frames.Reads as load-frames-reads
+use Rattle.flat.proofs.delays.load_promises.Reads as load-promises-reads
+use Rattle.flat.proofs.heap.load_vectors.Reads as load-vectors-reads
 use Rattle.stepping.proofs.resume.Reads as resume-reads
 
--- src/lib.rt:144:5
 load-frames-requires : tie.Need-load-frames-requires
 load-frames-requires c κs = search needs
 
--- src/lib.rt:146:5
 load-activations-requires : tie.Need-load-activations-requires
 load-activations-requires c κs = search needs
 
--- src/lib.rt:148:5
 load-vectors-requires : tie.Need-load-vectors-requires
 load-vectors-requires c κs = search needs
 
--- src/lib.rt:150:5
 load-promises-requires : tie.Need-load-promises-requires
 load-promises-requires c κs = search needs
 
--- src/lib.rt:151:9
 resume-requires : tie.Need-resume-requires
-resume-requires c κs =
-    sized _ _ _ _ _ _ _ _ ((c .before .before .before .before .before .before .before .before .before .before .before .before .before .before .before .before .before .before .before .load-frames) .ensures .1) ((c .before .before .before .before .before .before .before .before .before .before .before .before .before .before .before .before .before .before .before .load-frames) .ensures .2) ((c .before .before .before .before .before .before .before .before .before .before .before .before .before .before .before .before .before .before .before .load-frames) .ensures .3) ((c .before .before .before .before .before .before .before .before .before .before .before .before .before .before .before .before .load-activations) .ensures .1) ((c .before .before .before .before .before .before .before .before .before .before .before .before .load-vectors) .ensures .1) ((c .before .before .before .before .before .before .before .before .before .before .before .before .load-vectors) .ensures .2) ((c .before .before .before .before .before .before .before .before .load-promises) .ensures .1) ((c .before .before .before .before .before .before .before .before .load-promises) .ensures .2)
+resume-requires c κs = search needs
 
--- src/lib.rt:166:9
 come-to-requires : tie.Need-come-to-requires
 come-to-requires c κs =
     ((c .before .before .before .resume) .ensures .few, (c .before .before .before .resume) .ensures .shallow, (c .before .before .before .resume) .ensures .placed)
 
--- src/lib.rt:169:16
 standing-requires : tie.Need-standing-requires
 standing-requires c κs = search needs
 
--- src/lib.rt:131:1
 returns : tie.Need-returns
 returns c =
     resumed _ _ _ _ _ _ _ _ _ _ ((c .before .before .before .before .before .before .before .before .before .before .before .before .before .before .before .before .before .before .before .before .before .before .before .before .before .before .before .before .before .before .before .before .before .load-frames) .ensures .0) ((c .before .before .before .before .before .before .before .before .before .before .before .before .before .before .before .before .before .before .before .before .before .before .before .before .before .before .before .before .before .before .load-activations) .ensures .0) ((c .before .before .before .before .before .before .before .before .before .before .before .before .before .before .before .before .before .before .before .before .before .before .before .before .before .before .load-vectors) .ensures .0) ((c .before .before .before .before .before .before .before .before .before .before .before .before .before .before .before .before .before .before .before .before .before .before .load-promises) .ensures .0) ((c .before .before .before .before .before .before .before .before .before .before .before .before .before .before .before .before .before .before .before .before .before .before .before .before .before .before .before .before .before .before .before .before .before .before .before .before .before .before .before) .pre) _ _ _ ((c .before .before .before .before .before .before .before .before .before .before .before .before .before .resume) .ensures) (rw ((c .standing) .ensures) (come _ _ _ _ _ _ _ _ _ _ _ _ _ _ ((c .before .before .before .before .before .before .before .before .before .come-to) .ensures)))

@@ -1,3 +1,4 @@
+-- `engine::run`: a refusal, or the budget after the beginning.
 use Rattle.engine.proofs.Driving.{run-refused, run-begun, leaves}
 use borrow.Author.Needs.{needs}
 use Rattle.engine.proofs.run.Statement.{statement}
@@ -7,36 +8,28 @@ use Rattle.engine.proofs.run.Lts as lts
 use Rattle.begin.proofs.begin.Reads as begin-reads
 use Rattle.engine.proofs.State.budget.Reads as budget-reads
 
--- src/lib.rt:256:9
 begin-requires : tie.Need-begin-requires
 begin-requires c κs = search needs
 
--- src/lib.rt:260:24
 enum-known-entry : tie.Need-enum-known-entry
 enum-known-entry c = search needs
 
--- src/lib.rt:266:17
 enum-told : tie.Need-enum-told
 enum-told c = search needs
 
--- src/lib.rt:267:13
 budget-requires : tie.Need-budget-requires
 budget-requires c κs = search needs
 
--- src/lib.rt:253:1
 same-length : tie.Need-same-length
 same-length c = search needs
 
--- src/lib.rt:253:1
 returns : tie.Need-returns
 returns c =
     (run-refused _ _ _ _ _ _ _ ((c .before .before .before .before .begin) .ensures) _ _ ((c .before .entry) .given .1), leaves _ _ _ _ _)
 
--- src/lib.rt:253:1
 same-length-2 : tie.Need-same-length-2
 same-length-2 c = search needs
 
--- src/lib.rt:253:1
 returns-2 : tie.Need-returns-2
 returns-2 c =
     (run-begun _ _ _ _ _ _ _ ((c .before .before .before .before .before .before .begin) .ensures) ((c .before .before .before .enum-told) .given .1) ((c .before .budget) .ensures .0), (c .before .budget) .ensures .1)

@@ -1,3 +1,4 @@
+-- `engine::said`: each answer by its own branch.
 use Rattle.engine.specs.Parts.{saidOf}
 use borrow.Author.Needs.{needs}
 use Rattle.engine.proofs.said.Statement.{statement}
@@ -5,41 +6,33 @@ use Rattle.engine.proofs.said.Tie as tie
 use Rattle.engine.proofs.said.Reads as reads
 use Rattle.engine.proofs.said.Lts as lts
 
--- src/lib.rt:186:34
 enum-told : tie.Need-enum-told
 enum-told c = search needs
 
--- src/lib.rt:187:26
 enum-told-2 : tie.Need-enum-told-2
 enum-told-2 c = search needs
 
--- src/lib.rt:188:23
 enum-known-answer : tie.Need-enum-known-answer
 enum-known-answer c = search needs
 
--- src/lib.rt:189:26
 enum-told-3 : tie.Need-enum-told-3
 enum-told-3 c = search needs
 
--- src/lib.rt:182:1
 returns : tie.Need-returns
 unfolding saidOf
 returns c =
     rw ((c .enum-told) .given .1)
 
--- src/lib.rt:182:1
 returns-2 : tie.Need-returns-2
 unfolding saidOf
 returns-2 c =
     rw ((c .enum-told2) .given .1)
 
--- src/lib.rt:182:1
 returns-3 : tie.Need-returns-3
 unfolding saidOf
 returns-3 c =
     rw ((c .before .answer) .given .1)
 
--- src/lib.rt:182:1
 returns-4 : tie.Need-returns-4
 unfolding saidOf
 returns-4 c =

@@ -1,15 +1,14 @@
+-- `engine::shown`: by the test.
 use borrow.Author.Tests.{lt-ltb, le-ltb}
 use Rattle.engine.proofs.shown.Statement.{statement}
 use Rattle.engine.proofs.shown.Tie as tie
 use Rattle.engine.proofs.shown.Reads as reads
 use Rattle.engine.proofs.shown.Lts as lts
 
--- src/lib.rt:99:1
 returns : tie.Need-returns
 returns c =
     simp (lt-ltb _ _ ((c .if1) .taken))
 
--- src/lib.rt:99:1
 returns-2 : tie.Need-returns-2
 returns-2 c =
     simp (le-ltb _ _ ((c .if1) .left))

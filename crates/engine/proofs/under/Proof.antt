@@ -1,3 +1,4 @@
+-- `engine::under`: by the run's status.
 use Rattle.engine.proofs.Driving.{under-running, under-ended}
 use borrow.Author.Needs.{needs}
 use Rattle.engine.proofs.under.Statement.{statement}
@@ -6,24 +7,19 @@ use Rattle.engine.proofs.under.Reads as reads
 use Rattle.engine.proofs.under.Lts as lts
 use Rattle.engine.proofs.resumed.Reads as resumed-reads
 
--- src/lib.rt:199:28
 enum-told : tie.Need-enum-told
 enum-told c = search needs
 
--- src/lib.rt:199:28
 resumed-requires : tie.Need-resumed-requires
 resumed-requires c κs = search needs
 
--- src/lib.rt:200:23
 enum-known-status : tie.Need-enum-known-status
 enum-known-status c = search needs
 
--- src/lib.rt:194:1
 returns : tie.Need-returns
 returns c =
     under-running _ _ _ ((c .before .enum-told) .given .1) ((c .resumed) .ensures)
 
--- src/lib.rt:194:1
 returns-2 : tie.Need-returns-2
 returns-2 c =
     under-ended _ _ _ _ ((c .before .status) .given .1)

@@ -4,8 +4,7 @@ use Rattle.checker.proofs.Puts.{written-fits}
 use Rattle.writer.proofs.Placed.{placed-length}
 use lib.Seq.{length-take-le}
 use lib.ListN.{length}
-use mathlib.Core.Path.{_≡_, sym, ap, _∙_}
-use native.Mathlib.Omega.{arith}
+use mathlib.Core.Path.{sym, ap, _∙_}
 use borrow.Author.Needs.{needs}
 use Rattle.fir_check.proofs.main.Statement.{statement}
 use Rattle.fir_check.proofs.main.Tie as tie

@@ -1,3 +1,4 @@
+-- `index::block`: by the entry where the index says that the version stands at v, else by the look-up.
 use Rattle.index.proofs.Entries.{stands-at}
 use native.Mathlib.Omega.{arith}
 use borrow.Author.Needs.{needs}
@@ -10,40 +11,31 @@ use Rattle.index.proofs.is_at.Reads as is-at-reads
 use Rattle.layout.proofs.field.Reads as field-reads
 use Rattle.program.proofs.lookup.block.Reads as block-reads
 
--- src/lib.rt:161:9
 block-requires : tie.Need-block-requires
 block-requires c κs = search needs
 
--- src/lib.rt:161:9
 returns : tie.Need-returns
 returns c = search needs
 
--- src/lib.rt:163:9
 field-requires : tie.Need-field-requires
 field-requires c κs = search needs
 
--- src/lib.rt:164:9
 field-requires-2 : tie.Need-field-requires-2
 field-requires-2 c κs = search needs
 
--- src/lib.rt:165:8
 is-at-requires : tie.Need-is-at-requires
 is-at-requires c κs = search needs
 
--- src/lib.rt:166:9
 entered-requires : tie.Need-entered-requires
 entered-requires c κs =
     let h = stands-at _ _ _ _ _ ((c .before .is-at) .ensures) ((c .if2) .taken) in ((c .before .before .before .before .before .before) .pre, omega (arith, (c .before .before .before .before .if1) .left), h .0, h .1, h .2)
 
--- src/lib.rt:166:9
 returns-2 : tie.Need-returns-2
 returns-2 c = search needs
 
--- src/lib.rt:168:5
 block-requires-2 : tie.Need-block-requires-2
 block-requires-2 c κs = search needs
 
--- src/lib.rt:156:1
 returns-3 : tie.Need-returns-3
 returns-3 c = search needs
 

@@ -1,3 +1,4 @@
+-- `index::enter_blocks`: the loop goes along the records; the index stays right, and the blocks from b on are those from p on.
 use Rattle.index.proofs.Entries.{block-entered}
 use Rattle.index.proofs.Blocks.{Left, left-first, left-here, left-later, left-behind}
 use Rattle.index.specs.Indexed.{Indexed}
@@ -6,9 +7,9 @@ use Rattle.layout.proofs.Walk.{size-room, size-in}
 use borrow.Author.Needs.{needs}
 use native.Mathlib.Omega.{arith}
 use denote.Ref.{now}
-use mathlib.Core.Path.{_≡_, refl, sym, ap, _∙_}
-use lib.ListN.{length, length-set}
-use Prim.Native.Nat.{ℕ, _+_, _-_, _≤_}
+use mathlib.Core.Path.{_≡_, ap}
+use lib.ListN.{length}
+use Prim.Native.Nat.{_+_, _-_, _≤_}
 use Rattle.program.proofs.Views.{Whole}
 use Rattle.index.proofs.enter_blocks.Statement.{statement}
 use Rattle.index.proofs.enter_blocks.Tie as tie
@@ -24,122 +25,98 @@ Inv-loop image f w v index₀ p₀ b₀ index p b = (p ≤ length image) × Inde
 abbrev μ-loop : tie.MeasureT-loop
 μ-loop image f w v index₀ p₀ b₀ index p b = length image - p
 
--- src/lib.rt:34:21
 size-at-requires : tie.Need-size-at-requires Inv-loop μ-loop
 size-at-requires c κs =
     search needs
 
--- src/lib.rt:34:17
 add-p : tie.Need-add-p Inv-loop μ-loop
 add-p c =
     let h = version-found _ _ _ _ ((c .before .before) .pre .2) .1 in omega (arith, (c .size-at) .ensures, size-room (now ((c .before .before) .args .image)) ((c .before .before) .args .v) (omega (arith, h)))
 
--- src/lib.rt:36:5
 loop-holds : tie.Need-loop-holds Inv-loop μ-loop
 loop-holds c =
     let h = version-found _ _ _ _ ((c .before .before) .pre .2) .1 in (omega (arith, (c .size-at) .ensures, size-room (now ((c .before .before) .args .image)) ((c .before .before) .args .v) (omega (arith, h))), (c .before .before) .pre .3, (c .before .before) .pre .4, omega arith, left-first _ _ _ (ap (λ m. (c .before .before) .args .v + m) ((c .size-at) .ensures)))
 
--- src/lib.rt:37:13
 size-at-requires-2 : tie.Need-size-at-requires-2 Inv-loop μ-loop
 size-at-requires-2 c κs =
     search needs
 
--- src/lib.rt:39:13
 returns : tie.Need-returns Inv-loop μ-loop
 returns c =
     ((c .before .before .before .loop) .inv .1, (c .before .before .before .loop) .inv .2)
 
--- src/lib.rt:41:13
 kind-at-requires : tie.Need-kind-at-requires Inv-loop μ-loop
 kind-at-requires c κs =
     search needs
 
--- src/lib.rt:43:13
 returns-2 : tie.Need-returns-2 Inv-loop μ-loop
 returns-2 c =
     ((c .before .before .before .before .before .loop) .inv .1, (c .before .before .before .before .before .loop) .inv .2)
 
--- src/lib.rt:47:17
 returns-3 : tie.Need-returns-3 Inv-loop μ-loop
 returns-3 c =
     ((c .before .before .before .before .before .before .before .loop) .inv .1, (c .before .before .before .before .before .before .before .loop) .inv .2)
 
--- src/lib.rt:49:47
 entry-requires : tie.Need-entry-requires Inv-loop μ-loop
 entry-requires c κs =
     search needs
 
--- src/lib.rt:49:25
 mul-index : tie.Need-mul-index Inv-loop μ-loop
 mul-index c =
     omega (arith, (c .before .before .before .before .before .before .before .before .before .before .before) .pre .0)
 
--- src/lib.rt:49:19
 add-index : tie.Need-add-index Inv-loop μ-loop
 add-index c =
     omega (arith, (c .before .before .before .before .before .before .before .before .before .before .before) .pre .0)
 
--- src/lib.rt:49:34
 mul-index-2 : tie.Need-mul-index-2 Inv-loop μ-loop
 mul-index-2 c =
     omega (arith, (c .before .before .before .before .before .before .before .before .before .before .before) .pre .0, (c .before .before .before .before .before .before .before .before .before .before .before) .pre .1)
 
--- src/lib.rt:49:19
 add-index-2 : tie.Need-add-index-2 Inv-loop μ-loop
 add-index-2 c =
     omega (arith, (c .before .before .before .before .before .before .before .before .before .before .before) .pre .0, (c .before .before .before .before .before .before .before .before .before .before .before) .pre .1)
 
--- src/lib.rt:49:19
 add-index-3 : tie.Need-add-index-3 Inv-loop μ-loop
 add-index-3 c =
     omega (arith, (c .before .before .before .before .before .before .before .before .before .before .before) .pre .0, (c .before .before .before .before .before .before .before .before .before .before .before) .pre .1, (c .before .if4) .left)
 
--- src/lib.rt:49:13
 mul-index-3 : tie.Need-mul-index-3 Inv-loop μ-loop
 mul-index-3 c =
     omega (arith, (c .before .before .before .before .before .before .before .before .before .before .before) .pre .0, (c .before .before .before .before .before .before .before .before .before .before .before) .pre .1, (c .before .if4) .left)
 
--- src/lib.rt:49:13
 element-write-index : tie.Need-element-write-index Inv-loop μ-loop
 element-write-index c =
     omega (arith, (c .before .before .before .before .before .before .before .before .before .before .before) .pre .0, (c .before .before .before .before .before .before .before .before .before .before .before) .pre .1, (c .before .if4) .left, (c .before .before .before .before .before .before .before .before .loop) .inv .2)
 
--- src/lib.rt:50:13
 add-b : tie.Need-add-b Inv-loop μ-loop
 add-b c =
     omega (arith, (c .before .if4) .left)
 
--- src/lib.rt:51:13
 add-p-2 : tie.Need-add-p-2 Inv-loop μ-loop
 add-p-2 c =
     omega (arith, size-in _ _ ((c .before .before .before .before .before .before .size-at2) .ensures) ((c .before .before .before .before .before .if1) .left))
 
--- src/lib.rt:36:5
 loop-less : tie.Need-loop-less Inv-loop μ-loop
 loop-less c =
     omega (arith, (c .before .before .before .before .before .if1) .left, (c .before .before .before .before .before .before .before .loop-test) .taken)
 
--- src/lib.rt:36:5
 loop-again : tie.Need-loop-again Inv-loop μ-loop
 loop-again c =
     let m : Whole _ _ _ _ = record { inside = (c .before .before .before .before .before .before .before .loop-test) .taken; size = (c .before .before .before .before .before .before .size-at2) .ensures; whole = (c .before .before .before .before .before .if1) .left; kind = (c .before .before .before .before .kind-at) .ensures } in (omega (arith, size-in _ _ ((c .before .before .before .before .before .before .size-at2) .ensures) ((c .before .before .before .before .before .if1) .left)), block-entered _ _ ((c .before .before .before .before .before .before .before .before .loop) .inv .1) ((c .before .before .before .before .before .before .before .before .loop) .inv .2) _ _ _ _ _ _ ((c .before .before .before .before .before .before .before .before .before .before .before) .pre .0) ((c .before .before .before .before .before .before .before .before .before .before .before) .pre .1) (omega (arith, (c .before .if4) .left)) ((c .before .before .before .before .before .before .before .before .before .before .before) .pre .2) ((c .entry) .ensures) (left-here m _ _ ((c .before .before .before .before .before .before .before .before .loop) .inv .4) ((c .before .before .if3) .taken)), search (needs, (c .before .before .before .before .before .before .before .before .loop) .inv .2), omega (arith, (c .before .if4) .left), left-later m _ _ ((c .before .before .before .before .before .before .before .before .loop) .inv .4) ((c .before .before .if3) .taken))
 
--- src/lib.rt:53:13
 add-p-3 : tie.Need-add-p-3 Inv-loop μ-loop
 add-p-3 c =
     omega (arith, size-in _ _ ((c .before .before .before .before .size-at2) .ensures) ((c .before .before .before .if1) .left))
 
--- src/lib.rt:36:5
 loop-less-2 : tie.Need-loop-less-2 Inv-loop μ-loop
 loop-less-2 c =
     omega (arith, (c .before .before .before .if1) .left, (c .before .before .before .before .before .loop-test) .taken)
 
--- src/lib.rt:36:5
 loop-again-2 : tie.Need-loop-again-2 Inv-loop μ-loop
 loop-again-2 c =
     (omega (arith, size-in _ _ ((c .before .before .before .before .size-at2) .ensures) ((c .before .before .before .if1) .left)), (c .before .before .before .before .before .before .loop) .inv .1, (c .before .before .before .before .before .before .loop) .inv .2, (c .before .before .before .before .before .before .loop) .inv .3, left-behind (record { inside = (c .before .before .before .before .before .loop-test) .taken; size = (c .before .before .before .before .size-at2) .ensures; whole = (c .before .before .before .if1) .left; kind = (c .before .before .kind-at) .ensures }) _ _ ((c .before .before .before .before .before .before .loop) .inv .4) ((c .before .if2) .left) ((c .if3) .left))
 
--- src/lib.rt:30:1
 returns-4 : tie.Need-returns-4 Inv-loop μ-loop
 returns-4 c =
     ((c .before .loop) .inv .1, (c .before .loop) .inv .2)

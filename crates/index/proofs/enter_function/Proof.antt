@@ -1,3 +1,4 @@
+-- `index::enter_function`: each turn enters one version, and the index stays right.
 use Rattle.index.specs.Indexed.{Indexed}
 use native.Mathlib.Omega.{arith}
 use mathlib.Core.Path.{_≡_}
@@ -15,32 +16,26 @@ Inv-loop image table f index₀ w₀ index w = (w ≤ 4) × Indexed image index 
 abbrev μ-loop : tie.MeasureT-loop
 μ-loop image table f index₀ w₀ index w = 4 - w
 
--- src/lib.rt:80:5
 loop-holds : tie.Need-loop-holds Inv-loop μ-loop
 loop-holds c =
     (omega arith, (c .before) .pre .2, (c .before) .pre .3)
 
--- src/lib.rt:81:9
 enter-version-requires : tie.Need-enter-version-requires Inv-loop μ-loop
 enter-version-requires c κs =
     ((c .before .before .before .before) .pre .0, (c .before .before .before .before) .pre .1, (c .before .loop-test) .taken, (c .before .before .loop) .inv .1, (c .before .before .loop) .inv .2)
 
--- src/lib.rt:82:9
 add-w : tie.Need-add-w Inv-loop μ-loop
 add-w c =
     omega (arith, (c .before .before .loop-test) .taken)
 
--- src/lib.rt:80:5
 loop-less : tie.Need-loop-less Inv-loop μ-loop
 loop-less c =
     omega (arith, (c .before .before .loop-test) .taken)
 
--- src/lib.rt:80:5
 loop-again : tie.Need-loop-again Inv-loop μ-loop
 loop-again c =
     (omega (arith, (c .before .before .loop-test) .taken), (c .enter-version) .ensures .0, (c .enter-version) .ensures .1)
 
--- src/lib.rt:75:1
 returns : tie.Need-returns Inv-loop μ-loop
 returns c =
     ((c .before .loop) .inv .1, (c .before .loop) .inv .2)

@@ -1,9 +1,8 @@
-use Prim.Native.Nat.{ℕ}
+-- `index::enter_version`: the entry says what the look-up found, and the blocks of a version that is there are entered.
 use Rattle.index.proofs.Entries.{version-entered, none-said, one-said}
 use Rattle.program.proofs.Tables.{listed-right}
 use Rattle.program.proofs.Lookups.{version-found}
-use lib.ListN.{length-set}
-use mathlib.Core.Path.{_≡_, refl, sym, ap, _∙_}
+use mathlib.Core.Path.{refl, sym, _∙_}
 use borrow.Author.Needs.{needs}
 use Rattle.index.proofs.enter_version.Statement.{statement}
 use Rattle.index.proofs.enter_version.Tie as tie
@@ -13,69 +12,53 @@ use Rattle.index.proofs.enter_blocks.Reads as enter-blocks-reads
 use Rattle.index.proofs.entry.Reads as entry-reads
 use Rattle.program.proofs.lookup.listed.Reads as listed-reads
 
--- src/lib.rt:63:11
 listed-requires : tie.Need-listed-requires
 listed-requires c κs = search needs
 
--- src/lib.rt:65:38
 enum-told : tie.Need-enum-told
 enum-told c = search needs
 
--- src/lib.rt:65:32
 entry-requires : tie.Need-entry-requires
 entry-requires c κs = search needs
 
--- src/lib.rt:65:19
 mul-index : tie.Need-mul-index
 mul-index c = search needs
 
--- src/lib.rt:65:19
 add-index : tie.Need-add-index
 add-index c = search needs
 
--- src/lib.rt:65:13
 mul-index-2 : tie.Need-mul-index-2
 mul-index-2 c = search needs
 
--- src/lib.rt:65:13
 element-write-index : tie.Need-element-write-index
 element-write-index c = search needs
 
--- src/lib.rt:67:19
 enum-known-v : tie.Need-enum-known-v
 enum-known-v c = search needs
 
--- src/lib.rt:68:32
 entry-requires-2 : tie.Need-entry-requires-2
 entry-requires-2 c κs = search needs
 
--- src/lib.rt:68:19
 mul-index-3 : tie.Need-mul-index-3
 mul-index-3 c = search needs
 
--- src/lib.rt:68:19
 add-index-2 : tie.Need-add-index-2
 add-index-2 c = search needs
 
--- src/lib.rt:68:13
 mul-index-4 : tie.Need-mul-index-4
 mul-index-4 c = search needs
 
--- src/lib.rt:68:13
 element-write-index-2 : tie.Need-element-write-index-2
 element-write-index-2 c = search needs
 
--- src/lib.rt:69:13
 enter-blocks-requires : tie.Need-enter-blocks-requires
 enter-blocks-requires c κs =
     let e = sym (listed-right _ _ _ _ ((c .before .before .before .before .before .before .before) .pre .0)) ∙ sym ((c .before .before .before .before .before .listed) .ensures) ∙ (c .before .before .before .v) .given .1 in ((c .before .before .before .before .before .before .before) .pre .1, (c .before .before .before .before .before .before .before) .pre .2, e, version-entered _ _ ((c .before .before .before .before .before .before .before) .pre .3) ((c .before .before .before .before .before .before .before) .pre .4) _ _ _ _ ((c .before .before .before .before .before .before .before) .pre .1) ((c .before .before .before .before .before .before .before) .pre .2) ((c .before .entry2) .ensures) (one-said _ _ _ _ (version-found _ _ _ _ e .1) e), search (needs, (c .before .before .before .before .before .before .before) .pre .4))
 
--- src/lib.rt:59:1
 returns : tie.Need-returns
 returns c =
     (version-entered _ _ ((c .before .before .before .before .before) .pre .3) ((c .before .before .before .before .before) .pre .4) _ _ _ _ ((c .before .before .before .before .before) .pre .1) ((c .before .before .before .before .before) .pre .2) ((c .entry) .ensures) (none-said _ _ _ refl (sym (listed-right _ _ _ _ ((c .before .before .before .before .before) .pre .0)) ∙ sym ((c .before .before .before .listed) .ensures) ∙ (c .before .enum-told) .given .1)), search (needs, (c .before .before .before .before .before) .pre .4))
 
--- src/lib.rt:59:1
 returns-2 : tie.Need-returns-2
 returns-2 c = search needs
 

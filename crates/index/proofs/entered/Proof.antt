@@ -1,3 +1,4 @@
+-- `index::entered`: what an entry says is right; where it says nothing, the look-up.
 use Rattle.index.proofs.Entries.{said-block}
 use native.Mathlib.Omega.{arith}
 use borrow.Author.Needs.{needs}
@@ -8,47 +9,36 @@ use Rattle.index.proofs.entered.Lts as lts
 use Rattle.index.proofs.wide.Reads as wide-reads
 use Rattle.program.proofs.lookup.block.Reads as block-reads
 
--- src/lib.rt:148:30
 mul-wide : tie.Need-mul-wide
 mul-wide c = search needs
 
--- src/lib.rt:148:24
 add-wide : tie.Need-add-wide
 add-wide c = search needs
 
--- src/lib.rt:148:39
 mul-wide-2 : tie.Need-mul-wide-2
 mul-wide-2 c = search needs
 
--- src/lib.rt:148:24
 add-wide-2 : tie.Need-add-wide-2
 add-wide-2 c = search needs
 
--- src/lib.rt:148:24
 add-wide-3 : tie.Need-add-wide-3
 add-wide-3 c = search needs
 
--- src/lib.rt:148:18
 mul-wide-3 : tie.Need-mul-wide-3
 mul-wide-3 c = search needs
 
--- src/lib.rt:148:18
 element-copy-out-wide : tie.Need-element-copy-out-wide
 element-copy-out-wide c = search needs
 
--- src/lib.rt:148:9
 wide-requires : tie.Need-wide-requires
 wide-requires c κs = search needs
 
--- src/lib.rt:150:9
 block-requires : tie.Need-block-requires
 block-requires c κs = search needs
 
--- src/lib.rt:150:9
 returns : tie.Need-returns
 returns c = search needs
 
--- src/lib.rt:144:1
 returns-2 : tie.Need-returns-2
 returns-2 c =
     said-block _ _ ((c .before .before .before .before) .pre .0) _ _ _ _ _ ((c .before .wide) .ensures .0) ((c .before .before .before .before) .pre .2) ((c .before .before .before .before) .pre .3) ((c .before .before .before .before) .pre .1) (omega (arith, (c .if1) .left, (c .before .wide) .ensures .1)) ((c .before .before .before .before) .pre .4)

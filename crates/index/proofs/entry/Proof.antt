@@ -1,3 +1,4 @@
+-- `index::entry`: by the test.
 use Rattle.index.specs.Indexed.{Says}
 use native.Mathlib.Omega.{arith}
 use mathlib.Core.Path.{refl}
@@ -7,17 +8,14 @@ use Rattle.index.proofs.entry.Tie as tie
 use Rattle.index.proofs.entry.Reads as reads
 use Rattle.index.proofs.entry.Lts as lts
 
--- src/lib.rt:26:20
 cast-result : tie.Need-cast-result
 cast-result c = search needs
 
--- src/lib.rt:23:1
 returns : tie.Need-returns
 unfolding Says
 returns c =
     λ h. refl
 
--- src/lib.rt:23:1
 returns-2 : tie.Need-returns-2
 unfolding Says
 returns-2 c =

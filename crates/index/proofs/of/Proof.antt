@@ -1,3 +1,4 @@
+-- `index::of`: entries that say nothing are right, and each turn enters one function, so that they stay right.
 use Rattle.index.proofs.Entries.{unknown-all}
 use Rattle.index.specs.Indexed.{Indexed}
 use borrow.Author.Needs.{needs}
@@ -18,37 +19,30 @@ Inv-loop image table index₀ f₀ index f = (f ≤ 32) × Indexed image index �
 abbrev μ-loop : tie.MeasureT-loop
 μ-loop image table index₀ f₀ index f = 32 - f
 
--- src/lib.rt:90:17
 versions-requires : tie.Need-versions-requires Inv-loop μ-loop
 versions-requires c κs =
     search needs
 
--- src/lib.rt:93:5
 loop-holds : tie.Need-loop-holds Inv-loop μ-loop
 loop-holds c =
     (omega arith, unknown-all _, length-replicate {A = ℕ} 1152 65535)
 
--- src/lib.rt:94:9
 enter-function-requires : tie.Need-enter-function-requires Inv-loop μ-loop
 enter-function-requires c κs =
     ((c .before .before .before .before .versions) .ensures, (c .before .before .loop-test) .taken, (c .before .before .before .loop) .inv .1, (c .before .before .before .loop) .inv .2)
 
--- src/lib.rt:95:9
 add-f : tie.Need-add-f Inv-loop μ-loop
 add-f c =
     omega (arith, (c .before .before .before .loop-test) .taken)
 
--- src/lib.rt:93:5
 loop-less : tie.Need-loop-less Inv-loop μ-loop
 loop-less c =
     omega (arith, (c .before .before .before .loop-test) .taken)
 
--- src/lib.rt:93:5
 loop-again : tie.Need-loop-again Inv-loop μ-loop
 loop-again c =
     (omega (arith, (c .before .before .before .loop-test) .taken), (c .enter-function) .ensures .0, (c .enter-function) .ensures .1)
 
--- src/lib.rt:87:1
 returns : tie.Need-returns Inv-loop μ-loop
 returns c =
     (c .before .loop) .inv .1

@@ -1,3 +1,4 @@
+-- `instructions::opened`: by what was done.
 use Rattle.instructions.specs.Turns.{openedOf}
 use borrow.Author.Needs.{needs}
 use Rattle.instructions.proofs.opened.Statement.{statement}
@@ -5,31 +6,25 @@ use Rattle.instructions.proofs.opened.Tie as tie
 use Rattle.instructions.proofs.opened.Reads as reads
 use Rattle.instructions.proofs.opened.Lts as lts
 
--- src/lib.rt:41:20
 enum-told : tie.Need-enum-told
 enum-told c = search needs
 
--- src/lib.rt:42:23
 enum-told-2 : tie.Need-enum-told-2
 enum-told-2 c = search needs
 
--- src/lib.rt:43:19
 enum-known-did : tie.Need-enum-known-did
 enum-known-did c = search needs
 
--- src/lib.rt:37:1
 returns : tie.Need-returns
 unfolding openedOf
 returns c =
     rw ((c .enum-told) .given .1)
 
--- src/lib.rt:37:1
 returns-2 : tie.Need-returns-2
 unfolding openedOf
 returns-2 c =
     rw ((c .enum-told2) .given .1)
 
--- src/lib.rt:37:1
 returns-3 : tie.Need-returns-3
 unfolding openedOf
 returns-3 c =

@@ -1,3 +1,4 @@
+-- `instructions::turned`: by what was done.
 use Rattle.instructions.specs.Turns.{turnOf}
 use borrow.Author.Needs.{needs}
 use Rattle.instructions.proofs.turned.Statement.{statement}
@@ -5,31 +6,25 @@ use Rattle.instructions.proofs.turned.Tie as tie
 use Rattle.instructions.proofs.turned.Reads as reads
 use Rattle.instructions.proofs.turned.Lts as lts
 
--- src/lib.rt:30:20
 enum-told : tie.Need-enum-told
 enum-told c = search needs
 
--- src/lib.rt:31:23
 enum-told-2 : tie.Need-enum-told-2
 enum-told-2 c = search needs
 
--- src/lib.rt:32:19
 enum-known-did : tie.Need-enum-known-did
 enum-known-did c = search needs
 
--- src/lib.rt:26:1
 returns : tie.Need-returns
 unfolding turnOf
 returns c =
     rw ((c .enum-told) .given .1)
 
--- src/lib.rt:26:1
 returns-2 : tie.Need-returns-2
 unfolding turnOf
 returns-2 c =
     rw ((c .enum-told2) .given .1)
 
--- src/lib.rt:26:1
 returns-3 : tie.Need-returns-3
 unfolding turnOf
 returns-3 c =

@@ -1,3 +1,4 @@
+-- `kinds::argument_kind`: by the bound of the registers, then the kind of the cell's code.
 use mathlib.Core.Path.{sym, ap, _∙_}
 use Rattle.kinds.specs.Kinds.{kindOr}
 use Rattle.kinds.proofs.Kinded.{kinded-or}
@@ -9,33 +10,26 @@ use Rattle.kinds.proofs.argument_kind.Reads as reads
 use Rattle.kinds.proofs.argument_kind.Lts as lts
 use Rattle.kinds.proofs.kind_of.Reads as kind-of-reads
 
--- src/lib.rt:97:9
 returns : tie.Need-returns
 unfolding kindOr
 returns c =
     ap kindOr (sym (argument-outside _ _ _ _ _ _ _ ((c .if1) .taken)))
 
--- src/lib.rt:99:58
 mul-kind-of : tie.Need-mul-kind-of
 mul-kind-of c = search needs
 
--- src/lib.rt:99:58
 add-kind-of : tie.Need-add-kind-of
 add-kind-of c = search needs
 
--- src/lib.rt:99:52
 mul-kind-of-2 : tie.Need-mul-kind-of-2
 mul-kind-of-2 c = search needs
 
--- src/lib.rt:99:52
 element-copy-out-kind-of : tie.Need-element-copy-out-kind-of
 element-copy-out-kind-of c = search needs
 
--- src/lib.rt:99:5
 kind-of-requires : tie.Need-kind-of-requires
 kind-of-requires c κs = search needs
 
--- src/lib.rt:83:1
 returns-2 : tie.Need-returns-2
 returns-2 c =
     kinded-or _ _ _ _ _ ((c .kind-of) .ensures) ∙ ap kindOr (sym (argument-inside _ _ _ _ _ _ _ ((c .before .before .if1) .left)))

@@ -1,3 +1,4 @@
+-- `kinds::cast`: `typed`, with UNDEF where the value does not fit.
 use Rattle.kinds.proofs.Moving.{cast-fed}
 use borrow.Author.Needs.{needs}
 use Rattle.kinds.proofs.cast.Statement.{statement}
@@ -6,11 +7,9 @@ use Rattle.kinds.proofs.cast.Reads as reads
 use Rattle.kinds.proofs.cast.Lts as lts
 use Rattle.kinds.proofs.typed.Reads as typed-reads
 
--- src/lib.rt:176:5
 typed-requires : tie.Need-typed-requires
 typed-requires c κs = search needs
 
--- src/lib.rt:160:1
 returns : tie.Need-returns
 returns c =
     cast-fed _ _ _ _ _ _ _ _ _ _ _ ((c .typed) .ensures)

@@ -1,3 +1,4 @@
+-- `kinds::moved`: `typed`, with stuck where the value does not fit.
 use Rattle.kinds.proofs.Moving.{move-fed}
 use borrow.Author.Needs.{needs}
 use Rattle.kinds.proofs.moved.Statement.{statement}
@@ -6,11 +7,9 @@ use Rattle.kinds.proofs.moved.Reads as reads
 use Rattle.kinds.proofs.moved.Lts as lts
 use Rattle.kinds.proofs.typed.Reads as typed-reads
 
--- src/lib.rt:156:5
 typed-requires : tie.Need-typed-requires
 typed-requires c κs = search needs
 
--- src/lib.rt:140:1
 returns : tie.Need-returns
 returns c =
     move-fed _ _ _ _ _ _ _ _ _ _ _ ((c .typed) .ensures)

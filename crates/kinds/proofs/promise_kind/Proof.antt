@@ -1,3 +1,4 @@
+-- `kinds::promise_kind`: the frame, its version and its block, one look-up behind the other; the kind is by the block's mark.
 use mathlib.Core.Path.{sym, _∙_}
 use Rattle.kinds.proofs.Looking.{listed-found, listed-missing, held-dead, held-outside, held-unknown, held-unblocked, held-there}
 use borrow.Author.Needs.{needs}
@@ -5,120 +6,93 @@ use Rattle.kinds.proofs.promise_kind.Statement.{statement}
 use Rattle.kinds.proofs.promise_kind.Tie as tie
 use Rattle.kinds.proofs.promise_kind.Reads as reads
 use Rattle.kinds.proofs.promise_kind.Lts as lts
-use Rattle.kinds.proofs.wide.Reads as wide-reads
+use Rattle.layout.proofs.wide.Reads as wide-reads
 use Rattle.layout.proofs.field.Reads as field-reads
 use Rattle.index.proofs.block.Reads as block-reads
 use Rattle.index.proofs.version.Reads as version-reads
 
--- src/lib.rt:34:27
 mul-wide : tie.Need-mul-wide
 mul-wide c = search needs
 
--- src/lib.rt:34:18
 element-copy-out-wide : tie.Need-element-copy-out-wide
 element-copy-out-wide c = search needs
 
--- src/lib.rt:34:9
 wide-requires : tie.Need-wide-requires
 wide-requires c κs = search needs
 
--- src/lib.rt:36:9
 returns : tie.Need-returns
 returns c =
     held-dead _ _ _ _ _ _ ((c .before .before .before .before) .pre .1) ((c .before .wide) .ensures .0) ((c .if1) .taken)
 
--- src/lib.rt:39:9
 returns-2 : tie.Need-returns-2
 returns-2 c =
     held-outside _ _ _ _ _ _ ((c .before .before .before .before .before) .pre .1) ((c .before .before .wide) .ensures .0) ((c .before .if1) .left) ((c .if2) .taken)
 
--- src/lib.rt:41:65
 mul-wide-2 : tie.Need-mul-wide-2
 mul-wide-2 c = search needs
 
--- src/lib.rt:41:58
 element-copy-out-wide-2 : tie.Need-element-copy-out-wide-2
 element-copy-out-wide-2 c = search needs
 
--- src/lib.rt:41:53
 wide-requires-2 : tie.Need-wide-requires-2
 wide-requires-2 c κs = search needs
 
--- src/lib.rt:41:86
 mul-wide-3 : tie.Need-mul-wide-3
 mul-wide-3 c = search needs
 
--- src/lib.rt:41:86
 add-wide : tie.Need-add-wide
 add-wide c = search needs
 
--- src/lib.rt:41:79
 element-copy-out-wide-3 : tie.Need-element-copy-out-wide-3
 element-copy-out-wide-3 c = search needs
 
--- src/lib.rt:41:74
 wide-requires-3 : tie.Need-wide-requires-3
 wide-requires-3 c κs = search needs
 
--- src/lib.rt:41:24
 version-requires : tie.Need-version-requires
 version-requires c κs = (c .before .before .before .before .before .before .before .before .before) .pre .0
 
--- src/lib.rt:41:19
 enum-known-v : tie.Need-enum-known-v
 enum-known-v c = search needs
 
--- src/lib.rt:43:9
 enum-told : tie.Need-enum-told
 enum-told c = search needs
 
--- src/lib.rt:43:9
 returns-3 : tie.Need-returns-3
 returns-3 c =
     held-unknown _ _ _ _ _ _ ((c .before .before .before .before .before .before .before .before .before .before .before .before) .pre .1) ((c .before .before .before .before .before .before .before .before .before .wide) .ensures .0) ((c .before .before .before .before .before .before .before .before .if1) .left) ((c .before .before .before .before .before .before .before .if2) .left) (rw ((c .before .before .before .before .before .wide2) .ensures .0, (c .before .before .before .wide3) .ensures .0) at (listed-missing _ _ _ _ ((c .before .before .version) .ensures) ((c .enum-told) .given .1)))
 
--- src/lib.rt:45:62
 mul-wide-4 : tie.Need-mul-wide-4
 mul-wide-4 c = search needs
 
--- src/lib.rt:45:62
 add-wide-2 : tie.Need-add-wide-2
 add-wide-2 c = search needs
 
--- src/lib.rt:45:53
 element-copy-out-wide-4 : tie.Need-element-copy-out-wide-4
 element-copy-out-wide-4 c = search needs
 
--- src/lib.rt:45:48
 wide-requires-4 : tie.Need-wide-requires-4
 wide-requires-4 c κs = search needs
 
--- src/lib.rt:45:24
 block-requires : tie.Need-block-requires
 block-requires c κs = (c .before .before .before .before .before .before .before .before .before .before .before .before .before .before .before) .pre .0
 
--- src/lib.rt:45:19
 enum-known-b : tie.Need-enum-known-b
 enum-known-b c = search needs
 
--- src/lib.rt:46:9
 enum-told-2 : tie.Need-enum-told-2
 enum-told-2 c = search needs
 
--- src/lib.rt:46:9
 returns-4 : tie.Need-returns-4
 returns-4 c =
     held-unblocked _ _ _ _ _ _ ((c .before .before .before .before .before .before .before .before .before .before .before .before .before .before .before .before .before .before) .pre .1) ((c .before .before .before .before .before .before .before .before .before .before .before .before .before .before .before .wide) .ensures .0) ((c .before .before .before .before .before .before .before .before .before .before .before .before .before .before .if1) .left) ((c .before .before .before .before .before .before .before .before .before .before .before .before .before .if2) .left) _ (rw ((c .before .before .before .before .before .before .before .before .before .before .before .wide2) .ensures .0, (c .before .before .before .before .before .before .before .before .before .wide3) .ensures .0) at (listed-found _ _ _ _ ((c .before .before .before .before .before .before .before .before .version) .ensures) _ ((c .before .before .before .before .before .before .v) .given .1))) _ ((c .before .before .before .wide4) .ensures .0) (sym ((c .before .before .block) .ensures) ∙ (c .enum-told2) .given .1)
 
--- src/lib.rt:48:9
 field-requires : tie.Need-field-requires
 field-requires c κs = search needs
 
--- src/lib.rt:48:5
 add-result : tie.Need-add-result
 add-result c = search needs
 
--- src/lib.rt:23:1
 returns-5 : tie.Need-returns-5
 returns-5 c =
     held-there _ _ _ _ _ _ ((c .before .before .before .before .before .before .before .before .before .before .before .before .before .before .before .before .before .before .before .before) .pre .1) ((c .before .before .before .before .before .before .before .before .before .before .before .before .before .before .before .before .before .wide) .ensures .0) ((c .before .before .before .before .before .before .before .before .before .before .before .before .before .before .before .before .if1) .left) ((c .before .before .before .before .before .before .before .before .before .before .before .before .before .before .before .if2) .left) _ (rw ((c .before .before .before .before .before .before .before .before .before .before .before .before .before .wide2) .ensures .0, (c .before .before .before .before .before .before .before .before .before .before .before .wide3) .ensures .0) at (listed-found _ _ _ _ ((c .before .before .before .before .before .before .before .before .before .before .version) .ensures) _ ((c .before .before .before .before .before .before .before .before .v) .given .1))) _ ((c .before .before .before .before .before .wide4) .ensures .0) _ _ (sym ((c .before .before .before .before .block) .ensures) ∙ (c .before .before .b) .given .1) ((c .field) .ensures .0)

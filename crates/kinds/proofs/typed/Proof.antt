@@ -1,3 +1,4 @@
+-- `kinds::typed`: one test after the other; a value that does not fit is UNDEF or stuck by the flag.
 use borrow.Author.Needs.{needs}
 use mir.Facts.{toZ-ofZ}
 use Prim.Native.Nat.{_+_, _*_}
@@ -18,102 +19,80 @@ use Rattle.program.proofs.lookup.registers.Reads as registers-reads
 use Rattle.program.proofs.lookup.type_of.Reads as type-of-reads
 use Rattle.typing.proofs.types.is_within.Reads as is-within-reads
 
--- src/lib.rt:122:9
 returns : tie.Need-returns
 unfolding givesOf endOf
 returns c =
     typed-outside _ _ _ _ _ _ _ _ _ _ _ ((c .if1) .taken)
 
--- src/lib.rt:124:66
 mul-kind-of : tie.Need-mul-kind-of
 mul-kind-of c = search needs
 
--- src/lib.rt:124:66
 add-kind-of : tie.Need-add-kind-of
 add-kind-of c = search needs
 
--- src/lib.rt:124:60
 mul-kind-of-2 : tie.Need-mul-kind-of-2
 mul-kind-of-2 c = search needs
 
--- src/lib.rt:124:60
 element-copy-out-kind-of : tie.Need-element-copy-out-kind-of
 element-copy-out-kind-of c = search needs
 
--- src/lib.rt:124:9
 kind-of-requires : tie.Need-kind-of-requires
 kind-of-requires c κs = search needs
 
--- src/lib.rt:126:9
 returns-2 : tie.Need-returns-2
 unfolding givesOf endOf
 returns-2 c =
     typed-empty _ _ _ _ _ _ _ _ _ _ _ ((c .before .before .before .if1) .left) _ (kinded-or _ _ _ _ _ ((c .before .kind-of) .ensures)) ((c .if2) .taken)
 
--- src/lib.rt:129:8
 registers-requires : tie.Need-registers-requires
 registers-requires c κs = search needs
 
--- src/lib.rt:130:9
 returns-3 : tie.Need-returns-3
 unfolding givesOf endOf
 returns-3 c =
     typed-lost-in _ _ _ _ _ _ _ _ _ _ _ ((c .before .before .before .before .before .if1) .left) _ (kinded-or _ _ _ _ _ ((c .before .before .before .kind-of) .ensures)) ((c .before .before .if2) .left) _ ((c .before .registers) .ensures .0) ((c .if3) .taken)
 
--- src/lib.rt:132:28
 type-of-requires : tie.Need-type-of-requires
 type-of-requires c κs = search needs
 
--- src/lib.rt:132:8
 is-within-requires : tie.Need-is-within-requires
 is-within-requires c κs = search needs
 
--- src/lib.rt:133:34
 mul-t24 : tie.Need-mul-t24
 mul-t24 c = search needs
 
--- src/lib.rt:133:34
 add-t25 : tie.Need-add-t25
 add-t25 c = search needs
 
--- src/lib.rt:133:28
 mul-t26 : tie.Need-mul-t26
 mul-t26 c = search needs
 
--- src/lib.rt:133:28
 element-copy-out-t29 : tie.Need-element-copy-out-t29
 element-copy-out-t29 c = search needs
 
--- src/lib.rt:133:55
 mul-t30 : tie.Need-mul-t30
 mul-t30 c = search needs
 
--- src/lib.rt:133:55
 add-t31 : tie.Need-add-t31
 add-t31 c = search needs
 
--- src/lib.rt:133:47
 mul-t32 : tie.Need-mul-t32
 mul-t32 c = search needs
 
--- src/lib.rt:133:47
 element-copy-out-t35 : tie.Need-element-copy-out-t35
 element-copy-out-t35 c = search needs
 
--- src/lib.rt:133:9
 returns-4 : tie.Need-returns-4
 unfolding givesOf endOf
 returns-4 c =
     let s : SFits w32 (getD ((c .before .before .before .before .before .before .before .before .before .before .before .before) .args .numbers .now) (24 * (c .before .before .before .before .before .before .before .before .before .before .before .before) .args .k + (c .before .before .before .before .before .before .before .before .before .before .before .before) .args .a) (pos 0)) = search needs in
     rw (toZ-ofZ s) (typed-fits-in _ _ _ _ _ _ _ _ _ _ _ ((c .before .before .before .before .before .before .before .before .before .before .if1) .left) _ (kinded-or _ _ _ _ _ ((c .before .before .before .before .before .before .before .before .kind-of) .ensures)) ((c .before .before .before .before .before .before .before .if2) .left) _ ((c .before .before .before .before .before .before .registers) .ensures .0) ((c .before .before .before .before .before .if3) .left) _ ((c .before .before .before .before .type-of) .ensures .0) (sym ((c .before .before .before .is-within) .ensures) ∙ (c .before .before .if4) .taken))
 
--- src/lib.rt:103:1
 returns-5 : tie.Need-returns-5
 unfolding givesOf endOf
 returns-5 c =
     typed-undef _ _ _ _ _ _ _ _ _ _ _ ((c .before .before .before .before .before .before .before .before .before .if1) .left) _ (kinded-or _ _ _ _ _ ((c .before .before .before .before .before .before .before .kind-of) .ensures)) ((c .before .before .before .before .before .before .if2) .left) _ ((c .before .before .before .before .before .registers) .ensures .0) ((c .before .before .before .before .if3) .left) _ ((c .before .before .before .type-of) .ensures .0) (sym ((c .before .before .is-within) .ensures) ∙ (c .before .if4) .left) ((c .if5) .taken)
 
--- src/lib.rt:103:1
 returns-6 : tie.Need-returns-6
 unfolding givesOf endOf
 returns-6 c =

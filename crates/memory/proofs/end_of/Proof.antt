@@ -1,3 +1,4 @@
+-- `memory::end_of`: each halt by its own branch.
 use Rattle.memory.specs.Parts.{endOf}
 use borrow.Author.Needs.{needs}
 use Rattle.memory.proofs.end_of.Statement.{statement}
@@ -5,38 +6,30 @@ use Rattle.memory.proofs.end_of.Tie as tie
 use Rattle.memory.proofs.end_of.Reads as reads
 use Rattle.memory.proofs.end_of.Lts as lts
 
--- src/lib.rt:39:24
 enum-told : tie.Need-enum-told
 enum-told c = search needs
 
--- src/lib.rt:40:23
 enum-told-2 : tie.Need-enum-told-2
 enum-told-2 c = search needs
 
--- src/lib.rt:41:26
 enum-told-3 : tie.Need-enum-told-3
 enum-told-3 c = search needs
 
--- src/lib.rt:42:27
 enum-told-4 : tie.Need-enum-told-4
 enum-told-4 c = search needs
 
--- src/lib.rt:35:1
 returns : tie.Need-returns
 unfolding endOf
 returns c = rw (c .enum-told .given .1)
 
--- src/lib.rt:35:1
 returns-2 : tie.Need-returns-2
 unfolding endOf
 returns-2 c = rw (c .enum-told2 .given .1)
 
--- src/lib.rt:35:1
 returns-3 : tie.Need-returns-3
 unfolding endOf
 returns-3 c = rw (c .enum-told3 .given .1)
 
--- src/lib.rt:35:1
 returns-4 : tie.Need-returns-4
 unfolding endOf
 returns-4 c = rw (c .enum-told4 .given .1)

@@ -1,6 +1,7 @@
 -- `places::skip`: what is left of the skip is put to the records from p on.
 use Rattle.layout.proofs.Walk.{size-in}
-use Rattle.places.proofs.Standings.{is-lined, skip-on, skip-off, skip-done}
+use Rattle.program.proofs.Views.{is-lined}
+use Rattle.places.proofs.Standings.{skip-on, skip-off, skip-done}
 use Rattle.places.proofs.skip.Statement.{statement}
 use Rattle.places.proofs.skip.Tie as tie
 use Rattle.places.specs.Standing.{skipped}

@@ -1,16 +1,15 @@
+-- `promises::cached`: by the test.
 use Rattle.promises.specs.Changes.{cachedBy}
 use Rattle.promises.proofs.cached.Statement.{statement}
 use Rattle.promises.proofs.cached.Tie as tie
 use Rattle.promises.proofs.cached.Reads as reads
 use Rattle.promises.proofs.cached.Lts as lts
 
--- src/lib.rt:192:9
 returns : tie.Need-returns
 unfolding cachedBy
 returns c =
     rw ((c .if1) .taken)
 
--- src/lib.rt:188:1
 returns-2 : tie.Need-returns-2
 unfolding cachedBy
 returns-2 c =

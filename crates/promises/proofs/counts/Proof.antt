@@ -1,3 +1,4 @@
+-- `promises::counts`: a live cell holds it, or else a pending force refers to it.
 use Rattle.promises.proofs.Making.{counts-held, counts-else}
 use borrow.Author.Needs.{needs}
 use Rattle.promises.proofs.counts.Statement.{statement}
@@ -8,32 +9,25 @@ use Rattle.promises.proofs.pending.Reads as pending-reads
 use Rattle.vectors.proofs.count.Reads as count-reads
 use Rattle.vectors.proofs.live_cells.Reads as live-cells-reads
 
--- src/lib.rt:222:30
 live-cells-requires : tie.Need-live-cells-requires
 live-cells-requires c κs = search needs
 
--- src/lib.rt:222:59
 add-count : tie.Need-add-count
 add-count c = search needs
 
--- src/lib.rt:222:58
 cast-count : tie.Need-cast-count
 cast-count c = search needs
 
--- src/lib.rt:222:8
 count-requires : tie.Need-count-requires
 count-requires c κs = search needs
 
--- src/lib.rt:223:9
 returns : tie.Need-returns
 returns c =
     counts-held _ _ _ _ _ _ _ (search needs) ((c .before .count) .ensures) ((c .before .before .live-cells) .ensures .0) ((c .if1) .taken)
 
--- src/lib.rt:225:5
 pending-requires : tie.Need-pending-requires
 pending-requires c κs = search needs
 
--- src/lib.rt:218:1
 returns-2 : tie.Need-returns-2
 returns-2 c =
     counts-else _ _ _ _ _ _ _ (search needs) ((c .before .before .count) .ensures) ((c .before .before .before .live-cells) .ensures .0) _ ((c .before .if1) .left) ((c .pending) .ensures)

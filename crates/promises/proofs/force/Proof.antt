@@ -1,3 +1,4 @@
+-- `promises::force`: one test after the other: no promise, out of bounds, cached, pending, too deep, or opened.
 use lib.IntN.{pos}
 use lib.ListN.{getD}
 use mir.Facts.{toZ-ofZ}
@@ -14,108 +15,84 @@ use Rattle.cells.proofs.promise.Reads as promise-reads
 use Rattle.cells.proofs.put.Reads as put-reads
 use Rattle.promises.proofs.cached.Reads as cached-reads
 use Rattle.promises.proofs.pending.Reads as pending-reads
-use Rattle.promises.proofs.push.Reads as push-reads
+use Rattle.memory.proofs.push.Reads as push-reads
 
--- src/lib.rt:212:24
 promise-requires : tie.Need-promise-requires
 promise-requires c κs = search needs
 
--- src/lib.rt:212:19
 enum-known-p : tie.Need-enum-known-p
 enum-known-p c = search needs
 
--- src/lib.rt:213:9
 enum-told : tie.Need-enum-told
 enum-told c = search needs
 
--- src/lib.rt:213:9
 returns : tie.Need-returns
 returns c =
     force-stuck _ _ _ _ _ _ _ _ _ (found-stuck ((c .before .before .promise) .ensures) ((c .enum-told) .given .1))
 
--- src/lib.rt:216:9
 returns-2 : tie.Need-returns-2
 returns-2 c =
     force-outside _ _ _ _ _ _ _ _ _ (found-is ((c .before .before .before .before .promise) .ensures) ((c .before .before .p) .given .1)) ((c .if1) .taken)
 
--- src/lib.rt:218:17
 mul-if2 : tie.Need-mul-if2
 mul-if2 c = search needs
 
--- src/lib.rt:218:17
 add-if2 : tie.Need-add-if2
 add-if2 c = search needs
 
--- src/lib.rt:218:8
 element-copy-out-if2 : tie.Need-element-copy-out-if2
 element-copy-out-if2 c = search needs
 
--- src/lib.rt:219:59
 mul-put : tie.Need-mul-put
 mul-put c = search needs
 
--- src/lib.rt:219:59
 element-copy-out-put : tie.Need-element-copy-out-put
 element-copy-out-put c = search needs
 
--- src/lib.rt:219:23
 put-requires : tie.Need-put-requires
 put-requires c κs = search needs
 
--- src/lib.rt:219:9
 cached-requires : tie.Need-cached-requires
 cached-requires c κs = search needs
 
--- src/lib.rt:219:9
 returns-3 : tie.Need-returns-3
 returns-3 c =
     let s : SFits w32 (getD ((c .before .before .before .before .before .before .before .before .before .before .before .before .before) .args .caches .now) ((c .before .before .before .before .before .before .before .before .before .p) .given .0 .0) (pos 0)) = search needs in
     let e = rw (toZ-ofZ s) at ((c .before .put) .ensures) in
     force-by _ _ _ _ _ _ _ _ _ _ (found-is ((c .before .before .before .before .before .before .before .before .before .before .before .promise) .ensures) ((c .before .before .before .before .before .before .before .before .before .p) .given .1)) ((c .before .before .before .before .before .before .before .if1) .left) _ _ ((c .before .before .before .before .before .if2) .taken) (e .0) ((c .cached) .ensures) (e .1) (e .2)
 
--- src/lib.rt:221:8
 pending-requires : tie.Need-pending-requires
 pending-requires c κs = search needs
 
--- src/lib.rt:222:9
 returns-4 : tie.Need-returns-4
 returns-4 c =
     force-again _ _ _ _ _ _ _ _ _ _ (found-is ((c .before .before .before .before .before .before .before .before .before .promise) .ensures) ((c .before .before .before .before .before .before .before .p) .given .1)) ((c .before .before .before .before .before .if1) .left) ((c .before .before .before .if2) .left) ((c .before .pending) .ensures) ((c .if3) .taken)
 
--- src/lib.rt:225:9
 returns-5 : tie.Need-returns-5
 returns-5 c =
     force-deep _ _ _ _ _ _ _ _ _ _ (found-is ((c .before .before .before .before .before .before .before .before .before .before .promise) .ensures) ((c .before .before .before .before .before .before .before .before .p) .given .1)) ((c .before .before .before .before .before .before .if1) .left) ((c .before .before .before .before .if2) .left) ((c .before .before .pending) .ensures) ((c .before .if3) .left) ((c .if4) .taken)
 
--- src/lib.rt:227:26
 mul-frame : tie.Need-mul-frame
 mul-frame c = search needs
 
--- src/lib.rt:227:17
 element-copy-out-frame : tie.Need-element-copy-out-frame
 element-copy-out-frame c = search needs
 
--- src/lib.rt:228:26
 mul-block : tie.Need-mul-block
 mul-block c = search needs
 
--- src/lib.rt:228:26
 add-block : tie.Need-add-block
 add-block c = search needs
 
--- src/lib.rt:228:17
 element-copy-out-block : tie.Need-element-copy-out-block
 element-copy-out-block c = search needs
 
--- src/lib.rt:229:27
 cast-push : tie.Need-cast-push
 cast-push c = search needs
 
--- src/lib.rt:229:5
 push-requires : tie.Need-push-requires
 push-requires c κs = search needs
 
--- src/lib.rt:198:1
 returns-6 : tie.Need-returns-6
 returns-6 c =
     force-opened _ _ _ _ _ _ _ _ _ _ (found-is ((c .before .before .before .before .before .before .before .before .before .before .before .before .before .before .promise) .ensures) ((c .before .before .before .before .before .before .before .before .before .before .before .before .p) .given .1)) ((c .before .before .before .before .before .before .before .before .before .before .if1) .left) ((c .before .before .before .before .before .before .before .before .if2) .left) ((c .before .before .before .before .before .before .pending) .ensures) ((c .before .before .before .before .before .if3) .left) ((c .before .before .before .before .if4) .left) ((c .push) .ensures)

@@ -1,3 +1,4 @@
+-- `promises::free_promise`: what is left of the search is put to the promises from p on.
 use borrow.Author.Needs.{needs}
 use native.Mathlib.Omega.{arith}
 use Prim.Native.Nat.{_≤_, _-_}
@@ -14,37 +15,30 @@ Inv-loop codes stack calls depth p₀ p = (p ≤ 64) × Through codes stack call
 abbrev μ-loop : tie.MeasureT-loop
 μ-loop codes stack calls depth p₀ p = 64 - p
 
--- src/lib.rt:233:5
 loop-holds : tie.Need-loop-holds Inv-loop μ-loop
 loop-holds c =
     (omega arith, through-none _ _ _ _)
 
--- src/lib.rt:234:13
 counts-requires : tie.Need-counts-requires Inv-loop μ-loop
 counts-requires c κs =
     search needs
 
--- src/lib.rt:235:13
 returns : tie.Need-returns Inv-loop μ-loop
 returns c =
     through-found _ _ _ _ _ _ ((c .before .before .loop-test) .taken) ((c .before .before .before .loop) .inv .1) ((c .before .counts) .ensures) ((c .if1) .taken)
 
--- src/lib.rt:237:9
 add-p : tie.Need-add-p Inv-loop μ-loop
 add-p c =
     search needs
 
--- src/lib.rt:233:5
 loop-less : tie.Need-loop-less Inv-loop μ-loop
 loop-less c =
     search needs
 
--- src/lib.rt:233:5
 loop-again : tie.Need-loop-again Inv-loop μ-loop
 loop-again c =
     (omega arith, through-on _ _ _ _ _ _ ((c .before .before .loop-test) .taken) ((c .before .before .before .loop) .inv .1) ((c .before .counts) .ensures) ((c .if1) .left))
 
--- src/lib.rt:229:1
 returns-2 : tie.Need-returns-2 Inv-loop μ-loop
 returns-2 c =
     through-end _ _ _ _ _ ((c .loop-test) .left) ((c .before .loop) .inv .1)

@@ -1,3 +1,4 @@
+-- `promises::is_force`: one test after the other.
 use Rattle.layout.specs.Tests.{_and_}
 use borrow.Author.Tests.{eq-eqb, ne-eqb}
 use mathlib.Core.Path.{refl}
@@ -6,19 +7,16 @@ use Rattle.promises.proofs.is_force.Statement.{statement}
 use Rattle.promises.proofs.is_force.Tie as tie
 use Rattle.promises.proofs.is_force.Reads as reads
 use Rattle.promises.proofs.is_force.Lts as lts
-use Rattle.promises.proofs.wide.Reads as wide-reads
+use Rattle.layout.proofs.wide.Reads as wide-reads
 
--- src/lib.rt:136:9
 returns : tie.Need-returns
 unfolding _and_
 returns c =
     rw (eq-eqb _ 0 ((c .if1) .taken)) refl
 
--- src/lib.rt:138:10
 wide-requires : tie.Need-wide-requires
 wide-requires c κs = search needs
 
--- src/lib.rt:132:1
 returns-2 : tie.Need-returns-2
 unfolding _and_
 returns-2 c =

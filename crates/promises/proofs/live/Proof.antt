@@ -1,3 +1,4 @@
+-- `promises::live`: by the test.
 use native.Mathlib.Omega.{arith}
 use borrow.Author.Tests.{lt-ltb, le-ltb}
 use mathlib.Core.Path.{refl}
@@ -6,12 +7,10 @@ use Rattle.promises.proofs.live.Tie as tie
 use Rattle.promises.proofs.live.Reads as reads
 use Rattle.promises.proofs.live.Lts as lts
 
--- src/lib.rt:146:9
 returns : tie.Need-returns
 returns c =
     let h = c .if1 .taken in (rw (lt-ltb _ 32 h) refl, omega arith)
 
--- src/lib.rt:142:1
 returns-2 : tie.Need-returns-2
 returns-2 c =
     (rw (le-ltb _ 32 (c .if1 .left)) refl, omega arith)

@@ -1,3 +1,4 @@
+-- `promises::peek`: no live frame of a promise, or what `named` gives in that frame.
 use Rattle.promises.proofs.Naming.{peek-stuck, peeked, frame-few}
 use borrow.Author.Needs.{needs}
 use Rattle.promises.proofs.peek.Statement.{statement}
@@ -7,29 +8,23 @@ use Rattle.promises.proofs.peek.Lts as lts
 use Rattle.cells.proofs.named.Reads as named-reads
 use Rattle.promises.proofs.frame_of.Reads as frame-of-reads
 
--- src/lib.rt:125:24
 frame-of-requires : tie.Need-frame-of-requires
 frame-of-requires c κs = search needs
 
--- src/lib.rt:125:19
 enum-known-f : tie.Need-enum-known-f
 enum-known-f c = search needs
 
--- src/lib.rt:126:9
 enum-told : tie.Need-enum-told
 enum-told c = search needs
 
--- src/lib.rt:126:9
 returns : tie.Need-returns
 returns c =
     peek-stuck _ _ _ _ _ _ _ ((c .before .before .frame-of) .ensures) ((c .enum-told) .given .1)
 
--- src/lib.rt:128:5
 named-requires : tie.Need-named-requires
 named-requires c κs =
     frame-few _ _ _ _ _ ((c .before .before .before .frame-of) .ensures) ((c .before .f) .given .1)
 
--- src/lib.rt:113:1
 returns-2 : tie.Need-returns-2
 returns-2 c =
     peeked _ _ _ _ _ _ _ _ ((c .before .before .before .before .frame-of) .ensures) ((c .before .before .f) .given .1) ((c .named) .ensures)

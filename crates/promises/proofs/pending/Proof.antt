@@ -1,3 +1,4 @@
+-- `promises::pending`: after i turns none of the first i activations is a force of p.
 use mathlib.Core.Bool.{false}
 use mathlib.Core.Path.{_≡_}
 use borrow.Author.Needs.{needs}
@@ -18,67 +19,54 @@ Inv-loop stack depth p n i₀ i = (i ≤ n) × (pendingIn stack p i ≡ false)
 abbrev μ-loop : tie.MeasureT-loop
 μ-loop stack depth p n i₀ i = n - i
 
--- src/lib.rt:155:9
 live-requires : tie.Need-live-requires Inv-loop μ-loop
 live-requires c κs =
     search needs
 
--- src/lib.rt:157:5
 loop-holds : tie.Need-loop-holds Inv-loop μ-loop
 loop-holds c =
     (omega arith, pending-none _ _)
 
--- src/lib.rt:158:27
 mul-is-force : tie.Need-mul-is-force Inv-loop μ-loop
 mul-is-force c =
     search needs
 
--- src/lib.rt:158:21
 element-copy-out-is-force : tie.Need-element-copy-out-is-force Inv-loop μ-loop
 element-copy-out-is-force c =
     search needs
 
--- src/lib.rt:158:41
 mul-is-force-2 : tie.Need-mul-is-force-2 Inv-loop μ-loop
 mul-is-force-2 c =
     search needs
 
--- src/lib.rt:158:41
 add-is-force : tie.Need-add-is-force Inv-loop μ-loop
 add-is-force c =
     search needs
 
--- src/lib.rt:158:35
 element-copy-out-is-force-2 : tie.Need-element-copy-out-is-force-2 Inv-loop μ-loop
 element-copy-out-is-force-2 c =
     search needs
 
--- src/lib.rt:158:12
 is-force-requires : tie.Need-is-force-requires Inv-loop μ-loop
 is-force-requires c κs =
     search needs
 
--- src/lib.rt:159:13
 returns : tie.Need-returns Inv-loop μ-loop
 returns c =
     pends-met _ _ _ _ ((c .before .before .before .before .before .before .live) .ensures .0) _ ((c .before .before .before .before .loop-test) .taken) ((c .before .is-force) .ensures) ((c .if1) .taken)
 
--- src/lib.rt:161:9
 add-i : tie.Need-add-i Inv-loop μ-loop
 add-i c =
     search needs
 
--- src/lib.rt:157:5
 loop-less : tie.Need-loop-less Inv-loop μ-loop
 loop-less c =
     search needs
 
--- src/lib.rt:157:5
 loop-again : tie.Need-loop-again Inv-loop μ-loop
 loop-again c =
     (omega arith, pends-on _ _ _ ((c .before .before .before .before .before .loop) .inv .1) ((c .before .is-force) .ensures) ((c .if1) .left))
 
--- src/lib.rt:152:1
 returns-2 : tie.Need-returns-2 Inv-loop μ-loop
 returns-2 c =
     pends-none _ _ _ _ ((c .before .before .live) .ensures .0) _ ((c .before .loop) .inv .0) ((c .loop-test) .left) ((c .before .loop) .inv .1)

@@ -1,3 +1,4 @@
+-- `promises::poke`: no live frame of a promise, or what `set_name` does in that frame.
 use Rattle.promises.proofs.Naming.{poke-stuck, poked, frame-few}
 use borrow.Author.Needs.{needs}
 use Rattle.promises.proofs.poke.Statement.{statement}
@@ -7,29 +8,23 @@ use Rattle.promises.proofs.poke.Lts as lts
 use Rattle.promises.proofs.frame_of.Reads as frame-of-reads
 use Rattle.promises.proofs.set_name.Reads as set-name-reads
 
--- src/lib.rt:107:24
 frame-of-requires : tie.Need-frame-of-requires
 frame-of-requires c κs = search needs
 
--- src/lib.rt:107:19
 enum-known-f : tie.Need-enum-known-f
 enum-known-f c = search needs
 
--- src/lib.rt:108:9
 enum-told : tie.Need-enum-told
 enum-told c = search needs
 
--- src/lib.rt:108:9
 returns : tie.Need-returns
 returns c =
     poke-stuck _ _ _ _ _ _ _ _ ((c .before .before .frame-of) .ensures) ((c .enum-told) .given .1)
 
--- src/lib.rt:110:5
 set-name-requires : tie.Need-set-name-requires
 set-name-requires c κs =
     (search needs, frame-few _ _ _ _ _ ((c .before .before .before .before .before .frame-of) .ensures) ((c .before .before .before .f) .given .1))
 
--- src/lib.rt:94:1
 returns-2 : tie.Need-returns-2
 returns-2 c =
     poked _ _ _ _ _ _ _ _ _ _ _ ((c .before .before .before .before .before .before .frame-of) .ensures) ((c .before .before .before .before .f) .given .1) ((c .set-name) .ensures)

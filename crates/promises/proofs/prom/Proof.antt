@@ -1,3 +1,4 @@
+-- `promises::prom`: no block, no free place, no such register, or the new promise and its cell are written.
 use native.Mathlib.Omega.{arith}
 use Rattle.promises.proofs.Making.{below-at, prom-missing, prom-full, prom-outside, prom-made}
 use borrow.Author.Needs.{needs}
@@ -8,110 +9,87 @@ use Rattle.promises.proofs.prom.Lts as lts
 use Rattle.cells.proofs.put.Reads as put-reads
 use Rattle.index.proofs.block.Reads as block-reads
 use Rattle.promises.proofs.free_promise.Reads as free-promise-reads
-use Rattle.promises.proofs.wide.Reads as wide-reads
+use Rattle.layout.proofs.wide.Reads as wide-reads
 
--- src/lib.rt:259:49
 wide-requires : tie.Need-wide-requires
 wide-requires c κs = search needs
 
--- src/lib.rt:259:25
 block-requires : tie.Need-block-requires
 block-requires c κs = (c .before .before) .pre .0
 
--- src/lib.rt:259:19
 enum-known--b : tie.Need-enum-known--b
 enum-known--b c = search needs
 
--- src/lib.rt:260:9
 enum-told : tie.Need-enum-told
 enum-told c = search needs
 
--- src/lib.rt:260:9
 returns : tie.Need-returns
 returns c =
     prom-missing _ _ _ _ _ _ _ _ _ _ _ ((c .before .before .block) .ensures) ((c .before .before .before .wide) .ensures .0) ((c .enum-told) .given .1)
 
--- src/lib.rt:262:24
 free-promise-requires : tie.Need-free-promise-requires
 free-promise-requires c κs = search needs
 
--- src/lib.rt:262:19
 enum-known-n : tie.Need-enum-known-n
 enum-known-n c = search needs
 
--- src/lib.rt:263:26
 enum-told-2 : tie.Need-enum-told-2
 enum-told-2 c = search needs
 
--- src/lib.rt:263:9
 returns-2 : tie.Need-returns-2
 returns-2 c =
     prom-full _ _ _ _ _ _ _ _ _ _ _ ((c .before .before .before .before .before .before .before .block) .ensures) ((c .before .before .before .before .before .before .before .before .wide) .ensures .0) ((c .before .before .before .before .before .-b) .given .1) _ ((c .before .before .free-promise) .ensures .0) ((c .enum-told2) .given .1)
 
--- src/lib.rt:266:9
 returns-3 : tie.Need-returns-3
 returns-3 c =
     prom-outside _ _ _ _ _ _ _ _ _ _ _ ((c .before .before .before .before .before .before .before .before .before .block) .ensures) ((c .before .before .before .before .before .before .before .before .before .before .wide) .ensures .0) ((c .before .before .before .before .before .before .before .-b) .given .1) _ ((c .before .before .before .before .free-promise) .ensures .0) _ ((c .before .before .n) .given .1) (below-at _ 64 ((c .before .before .before .before .free-promise) .ensures .1) ((c .before .before .n) .given .1)) ((c .if1) .taken)
 
--- src/lib.rt:268:23
 cast-promises : tie.Need-cast-promises
 cast-promises c = search needs
 
--- src/lib.rt:268:14
 mul-promises : tie.Need-mul-promises
 mul-promises c =
     let h = below-at _ 64 ((c .before .before .before .before .free-promise) .ensures .1) ((c .before .before .n) .given .1) in omega (arith, h)
 
--- src/lib.rt:268:5
 element-write-promises : tie.Need-element-write-promises
 element-write-promises c =
     let h = below-at _ 64 ((c .before .before .before .before .free-promise) .ensures .1) ((c .before .before .n) .given .1) in omega (arith, h)
 
--- src/lib.rt:269:14
 mul-promises-2 : tie.Need-mul-promises-2
 mul-promises-2 c =
     let h = below-at _ 64 ((c .before .before .before .before .free-promise) .ensures .1) ((c .before .before .n) .given .1) in omega (arith, h)
 
--- src/lib.rt:269:14
 add-promises : tie.Need-add-promises
 add-promises c =
     let h = below-at _ 64 ((c .before .before .before .before .free-promise) .ensures .1) ((c .before .before .n) .given .1) in omega (arith, h)
 
--- src/lib.rt:269:5
 element-write-promises-2 : tie.Need-element-write-promises-2
 element-write-promises-2 c =
     let h = below-at _ 64 ((c .before .before .before .before .free-promise) .ensures .1) ((c .before .before .n) .given .1) in omega (arith, h)
 
--- src/lib.rt:270:14
 mul-promises-3 : tie.Need-mul-promises-3
 mul-promises-3 c =
     let h = below-at _ 64 ((c .before .before .before .before .free-promise) .ensures .1) ((c .before .before .n) .given .1) in omega (arith, h)
 
--- src/lib.rt:270:14
 add-promises-2 : tie.Need-add-promises-2
 add-promises-2 c =
     let h = below-at _ 64 ((c .before .before .before .before .free-promise) .ensures .1) ((c .before .before .n) .given .1) in omega (arith, h)
 
--- src/lib.rt:270:5
 element-write-promises-3 : tie.Need-element-write-promises-3
 element-write-promises-3 c =
     let h = below-at _ 64 ((c .before .before .before .before .free-promise) .ensures .1) ((c .before .before .n) .given .1) in omega (arith, h)
 
--- src/lib.rt:271:39
 add-put : tie.Need-add-put
 add-put c =
     let h = below-at _ 64 ((c .before .before .before .before .before .before .free-promise) .ensures .1) ((c .before .before .before .before .n) .given .1) in omega (arith, h)
 
--- src/lib.rt:271:38
 cast-put : tie.Need-cast-put
 cast-put c =
     let h = below-at _ 64 ((c .before .before .before .before .before .before .free-promise) .ensures .1) ((c .before .before .before .before .n) .given .1) in omega (arith, h)
 
--- src/lib.rt:271:5
 put-requires : tie.Need-put-requires
 put-requires c κs = search needs
 
--- src/lib.rt:243:1
 returns-4 : tie.Need-returns-4
 returns-4 c =
     prom-made _ _ _ _ _ _ _ _ _ _ _ ((c .before .before .before .before .before .before .before .before .before .before .before .before .block) .ensures) ((c .before .before .before .before .before .before .before .before .before .before .before .before .before .wide) .ensures .0) ((c .before .before .before .before .before .before .before .before .before .before .-b) .given .1) _ ((c .before .before .before .before .before .before .before .free-promise) .ensures .0) _ ((c .before .before .before .before .before .n) .given .1) (below-at _ 64 ((c .before .before .before .before .before .before .before .free-promise) .ensures .1) ((c .before .before .before .before .before .n) .given .1)) _ ((c .before .before .before .if1) .left) ((c .put) .ensures .1) ((c .put) .ensures .2)

@@ -1,3 +1,4 @@
+-- `promises::set_name`: no plain value, no such name, or the cell is copied.
 use mathlib.Core.Path.{sym, _∙_}
 use lib.IntN.{pos}
 use lib.ListN.{getD}
@@ -17,55 +18,44 @@ use Rattle.promises.proofs.set_name.Lts as lts
 use Rattle.cells.proofs.plain.Reads as plain-reads
 use Rattle.cells.proofs.put_name.Reads as put-name-reads
 
--- src/lib.rt:52:24
 plain-requires : tie.Need-plain-requires
 plain-requires c κs = search needs
 
--- src/lib.rt:52:19
 enum-known-i : tie.Need-enum-known-i
 enum-known-i c = search needs
 
--- src/lib.rt:53:9
 enum-told : tie.Need-enum-told
 enum-told c = search needs
 
--- src/lib.rt:53:9
 returns : tie.Need-returns
 returns c =
     name-stuck _ _ _ _ _ _ (found-stuck ((c .before .before .plain) .ensures) ((c .enum-told) .given .1))
 
--- src/lib.rt:55:13
 mul-c : tie.Need-mul-c
 mul-c c =
     let h = cell-found isPlain _ _ _ (found-is ((c .before .before .before .plain) .ensures) ((c .before .i) .given .1)) in omega (arith, h .0, h .1)
 
--- src/lib.rt:55:13
 element-copy-out-c : tie.Need-element-copy-out-c
 element-copy-out-c c =
     let h = cell-found isPlain _ _ _ (found-is ((c .before .before .before .plain) .ensures) ((c .before .i) .given .1)) in omega (arith, h .0, h .1)
 
--- src/lib.rt:56:13
 mul-z : tie.Need-mul-z
 mul-z c =
     let h = cell-found isPlain _ _ _ (found-is ((c .before .before .before .before .plain) .ensures) ((c .before .before .i) .given .1)) in omega (arith, h .0, h .1)
 
--- src/lib.rt:56:13
 element-copy-out-z : tie.Need-element-copy-out-z
 element-copy-out-z c =
     let h = cell-found isPlain _ _ _ (found-is ((c .before .before .before .before .plain) .ensures) ((c .before .before .i) .given .1)) in omega (arith, h .0, h .1)
 
--- src/lib.rt:57:8
 put-name-requires : tie.Need-put-name-requires
 put-name-requires c κs = search needs
 
--- src/lib.rt:48:1
 returns-2 : tie.Need-returns-2
 returns-2 c =
     let s : SFits w32 (getD ((c .before .before .before .before .before .before .before .before .before .before .before) .args .numbers .now) ((c .before .before .before .before .before .before .before .i) .given .0 .0) (pos 0)) = search needs in
     let e = rw (toZ-ofZ s) at ((c .before .put-name) .ensures) in
     name-set _ _ _ _ _ _ (search needs) (found-is ((c .before .before .before .before .before .before .before .before .before .plain) .ensures) ((c .before .before .before .before .before .before .before .i) .given .1)) (sym ((c .if1) .taken) ∙ e .0) (e .1) (e .2)
 
--- src/lib.rt:48:1
 returns-3 : tie.Need-returns-3
 returns-3 c =
     let s : SFits w32 (getD ((c .before .before .before .before .before .before .before .before .before .before .before) .args .numbers .now) ((c .before .before .before .before .before .before .before .i) .given .0 .0) (pos 0)) = search needs in

@@ -1,3 +1,4 @@
+-- `promises::store`: `set_name` within one frame.
 use Rattle.promises.proofs.Naming.{stored}
 use borrow.Author.Needs.{needs}
 use Rattle.promises.proofs.store.Statement.{statement}
@@ -6,11 +7,9 @@ use Rattle.promises.proofs.store.Reads as reads
 use Rattle.promises.proofs.store.Lts as lts
 use Rattle.promises.proofs.set_name.Reads as set-name-reads
 
--- src/lib.rt:69:5
 set-name-requires : tie.Need-set-name-requires
 set-name-requires c κs = search needs
 
--- src/lib.rt:65:1
 returns : tie.Need-returns
 returns c =
     stored _ _ _ _ _ _ _ _ ((c .set-name) .ensures)

@@ -1,6 +1,8 @@
+-- `promises::use_up`: no vector, no such register, or the one register is emptied and then the other written.
 use native.Mathlib.Omega.{arith}
 use Rattle.cells.proofs.Given.{found-is, found-stuck}
-use Rattle.promises.proofs.Operands.{use-stuck, use-outside, used, vector-fits}
+use Rattle.cells.proofs.Codes.{vector-held}
+use Rattle.promises.proofs.Operands.{use-stuck, use-outside, used}
 use borrow.Author.Needs.{needs}
 use Rattle.promises.proofs.use_up.Statement.{statement}
 use Rattle.promises.proofs.use_up.Tie as tie
@@ -9,47 +11,37 @@ use Rattle.promises.proofs.use_up.Lts as lts
 use Rattle.cells.proofs.put.Reads as put-reads
 use Rattle.cells.proofs.vector.Reads as vector-reads
 
--- src/lib.rt:37:24
 vector-requires : tie.Need-vector-requires
 vector-requires c κs = search needs
 
--- src/lib.rt:37:19
 enum-known-v : tie.Need-enum-known-v
 enum-known-v c = search needs
 
--- src/lib.rt:38:9
 enum-told : tie.Need-enum-told
 enum-told c = search needs
 
--- src/lib.rt:38:9
 returns : tie.Need-returns
 returns c =
     use-stuck _ _ _ _ _ (found-stuck ((c .before .before .vector) .ensures) ((c .enum-told) .given .1))
 
--- src/lib.rt:41:9
 returns-2 : tie.Need-returns-2
 returns-2 c =
     use-outside _ _ _ _ _ (found-is ((c .before .before .before .before .vector) .ensures) ((c .before .before .v) .given .1)) ((c .if1) .taken)
 
--- src/lib.rt:43:5
 put-requires : tie.Need-put-requires
 put-requires c κs = search needs
 
--- src/lib.rt:44:39
 add-put : tie.Need-add-put
 add-put c =
-    let h = vector-fits _ _ _ (found-is ((c .before .before .before .before .before .before .before .before .before .vector) .ensures) ((c .before .before .before .before .before .before .before .v) .given .1)) in omega (arith, h .1)
+    let h = vector-held _ _ _ _ (found-is ((c .before .before .before .before .before .before .before .before .before .vector) .ensures) ((c .before .before .before .before .before .before .before .v) .given .1)) in omega (arith, h .2)
 
--- src/lib.rt:44:38
 cast-put : tie.Need-cast-put
 cast-put c =
-    let h = vector-fits _ _ _ (found-is ((c .before .before .before .before .before .before .before .before .before .vector) .ensures) ((c .before .before .before .before .before .before .before .v) .given .1)) in omega (arith, h .1)
+    let h = vector-held _ _ _ _ (found-is ((c .before .before .before .before .before .before .before .before .before .vector) .ensures) ((c .before .before .before .before .before .before .before .v) .given .1)) in omega (arith, h .2)
 
--- src/lib.rt:44:5
 put-requires-2 : tie.Need-put-requires-2
 put-requires-2 c κs = search needs
 
--- src/lib.rt:33:1
 returns-3 : tie.Need-returns-3
 returns-3 c =
     used _ _ _ _ _ _ _ (found-is ((c .before .before .before .before .before .before .before .before .before .before .vector) .ensures) ((c .before .before .before .before .before .before .before .before .v) .given .1)) ((c .before .before .before .before .before .before .if1) .left) ((c .before .before .before .put) .ensures .1) ((c .put2) .ensures .1) ((c .before .before .before .put) .ensures .2) ((c .put2) .ensures .2)

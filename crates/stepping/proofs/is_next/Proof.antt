@@ -1,23 +1,21 @@
+-- `stepping::is_next`: one test after the other.
 use Rattle.layout.proofs.Bools.{and-on, and-off}
 use borrow.Author.Tests.{lt-ltb, le-ltb}
-use mathlib.Core.Path.{_≡_, refl, sym, ap, _∙_}
+use mathlib.Core.Path.{sym, _∙_}
 use borrow.Author.Needs.{needs}
 use Rattle.stepping.proofs.is_next.Statement.{statement}
 use Rattle.stepping.proofs.is_next.Tie as tie
 use Rattle.stepping.proofs.is_next.Reads as reads
 use Rattle.stepping.proofs.is_next.Lts as lts
-use Rattle.places.proofs.is_line.Reads as is-line-reads
+use Rattle.program.proofs.lookup.is_line.Reads as is-line-reads
 
--- src/lib.rt:44:9
 is-line-requires : tie.Need-is-line-requires
 is-line-requires c κs = search needs
 
--- src/lib.rt:40:1
 returns : tie.Need-returns
 returns c =
     (c .is-line) .ensures ∙ sym (and-on _ (lt-ltb _ _ ((c .before .if1) .taken)))
 
--- src/lib.rt:40:1
 returns-2 : tie.Need-returns-2
 returns-2 c =
     sym (and-off _ (le-ltb _ _ ((c .if1) .left)))

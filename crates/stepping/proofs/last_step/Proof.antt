@@ -1,3 +1,4 @@
+-- `stepping::last_step`: each halt by its own branch.
 use Rattle.memory.specs.Parts.{endOf}
 use native.Mathlib.Omega.{arith}
 use Rattle.machine.specs.Runs.{lastStep}
@@ -7,41 +8,33 @@ use Rattle.stepping.proofs.last_step.Tie as tie
 use Rattle.stepping.proofs.last_step.Reads as reads
 use Rattle.stepping.proofs.last_step.Lts as lts
 
--- src/lib.rt:25:28
 enum-told : tie.Need-enum-told
 enum-told c = search needs
 
--- src/lib.rt:26:27
 enum-told-2 : tie.Need-enum-told-2
 enum-told-2 c = search needs
 
--- src/lib.rt:27:23
 enum-told-3 : tie.Need-enum-told-3
 enum-told-3 c = search needs
 
--- src/lib.rt:28:22
 enum-told-4 : tie.Need-enum-told-4
 enum-told-4 c = search needs
 
--- src/lib.rt:21:1
 returns : tie.Need-returns
 unfolding lastStep endOf
 returns c =
     (rw ((c .enum-told) .given .1), omega arith)
 
--- src/lib.rt:21:1
 returns-2 : tie.Need-returns-2
 unfolding lastStep endOf
 returns-2 c =
     (rw ((c .enum-told2) .given .1), omega arith)
 
--- src/lib.rt:21:1
 returns-3 : tie.Need-returns-3
 unfolding lastStep endOf
 returns-3 c =
     (rw ((c .enum-told3) .given .1), omega arith)
 
--- src/lib.rt:21:1
 returns-4 : tie.Need-returns-4
 unfolding lastStep endOf
 returns-4 c =

@@ -1,7 +1,8 @@
+-- `stepping::step`: stuck where it stands nowhere, an instruction where one is next, else the end of the block.
 use Rattle.stepping.proofs.Stepping.{small, step-nowhere, step-end}
 use Rattle.layout.proofs.Bools.{and-both}
 use borrow.Author.Tests.{not-true, not-false, ltb-true}
-use mathlib.Core.Path.{_≡_, refl, sym, ap, _∙_}
+use mathlib.Core.Path.{sym, _∙_}
 use borrow.Author.Needs.{needs}
 use Rattle.stepping.proofs.step.Statement.{statement}
 use Rattle.stepping.proofs.step.Tie as tie
@@ -12,38 +13,31 @@ use Rattle.stepping.proofs.closed.Reads as closed-reads
 use Rattle.stepping.proofs.is_next.Reads as is-next-reads
 use Rattle.stepping.proofs.line.Reads as line-reads
 
--- src/lib.rt:94:9
 returns : tie.Need-returns
 returns c =
     step-nowhere _ _ _ ((c .before .before) .pre .1) (not-true _ ((c .if1) .taken))
 
--- src/lib.rt:96:8
 is-next-requires : tie.Need-is-next-requires
 is-next-requires c κs = search needs
 
--- src/lib.rt:97:9
 line-requires : tie.Need-line-requires
 line-requires c κs =
     let h = and-both _ _ (sym ((c .before .before .before .before .before .before .before .before .before .is-next) .ensures) ∙ (c .before .before .before .before .before .before .before .before .if2) .taken) in
     ((c .before .before .before .before .before .before .before .before .before .before .before .before) .pre .0, (c .before .before .before .before .before .before .before .before .before .before .before .before) .pre .1, not-false _ ((c .before .before .before .before .before .before .before .before .before .before .if1) .left), ltb-true _ _ (h .0), h .1)
 
--- src/lib.rt:97:9
 returns-2 : tie.Need-returns-2
 returns-2 c = search needs
 
--- src/lib.rt:99:9
 finish-requires : tie.Need-finish-requires
 finish-requires c κs =
     let b = small _ _ _ _ _ _ _ _ _ _ ((c .before .before .before .before .before .before .before .before .before .before .before .before) .pre .1) (not-false _ ((c .before .before .before .before .before .before .before .before .before .before .if1) .left)) in
     ((c .before .before .before .before .before .before .before .before .before .before .before .before) .pre .0, b .0, b .1, b .2, (c .before .before .before .before .before .before .before .before .before .before .before .before) .pre .1 .calls)
 
--- src/lib.rt:100:5
 closed-requires : tie.Need-closed-requires
 closed-requires c κs =
     let b = small _ _ _ _ _ _ _ _ _ _ ((c .before .before .before .before .before .before .before .before .before .before .before .before .before) .pre .1) (not-false _ ((c .before .before .before .before .before .before .before .before .before .before .before .if1) .left)) in
     b .0
 
--- src/lib.rt:88:1
 returns-3 : tie.Need-returns-3
 returns-3 c =
     rw ((c .closed) .ensures) (step-end _ _ _ _ _ _ _ _ _ _ ((c .before .before .before .before .before .before .before .before .before .before .before .before .before .before) .pre .1) (not-false _ ((c .before .before .before .before .before .before .before .before .before .before .before .before .if1) .left)) (sym ((c .before .before .before .before .before .before .before .before .before .before .before .is-next) .ensures) ∙ (c .before .before .before .before .before .before .before .before .before .before .if2) .left) _ _ ((c .before .finish) .ensures .0) ((c .before .finish) .ensures .1))

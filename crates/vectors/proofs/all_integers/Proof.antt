@@ -1,3 +1,4 @@
+-- `vectors::all_integers`: the loop goes along the listed registers, and what is left of the test is put to those from j on.
 use mathlib.Core.Path.{_≡_, refl, sym, _∙_}
 use Prim.Native.Nat.{_-_, _≤_}
 use native.Mathlib.Omega.{arith}
@@ -18,55 +19,43 @@ Inv-loop image p codes k n j₀ j = (j ≤ n) × (integersFrom codes k (listedRe
 abbrev μ-loop : tie.MeasureT-loop
 μ-loop image p codes k n j₀ j = n - j
 
--- src/lib.rt:187:5
 loop-holds : tie.Need-loop-holds Inv-loop μ-loop
 loop-holds c =
     (omega arith, refl)
 
--- src/lib.rt:188:13
 listed-register-requires : tie.Need-listed-register-requires Inv-loop μ-loop
 listed-register-requires c κs = search needs
 
--- src/lib.rt:190:13
 returns : tie.Need-returns Inv-loop μ-loop
 returns c =
     sym ((c .before .before .before .loop) .inv .1 ∙ from-off _ _ _ _ _ ((c .before .before .loop-test) .taken) ((c .before .listed-register) .ensures .0) (holds-outside _ _ _ ((c .if1) .taken)))
 
--- src/lib.rt:192:18
 mul-if2 : tie.Need-mul-if2 Inv-loop μ-loop
 mul-if2 c = search needs
 
--- src/lib.rt:192:18
 add-if2 : tie.Need-add-if2 Inv-loop μ-loop
 add-if2 c = search needs
 
--- src/lib.rt:192:12
 mul-if2-2 : tie.Need-mul-if2-2 Inv-loop μ-loop
 mul-if2-2 c = search needs
 
--- src/lib.rt:192:12
 element-copy-out-if2 : tie.Need-element-copy-out-if2 Inv-loop μ-loop
 element-copy-out-if2 c = search needs
 
--- src/lib.rt:193:13
 returns-2 : tie.Need-returns-2 Inv-loop μ-loop
 returns-2 c =
     sym ((c .before .before .before .before .before .loop) .inv .1 ∙ from-off _ _ _ _ _ ((c .before .before .before .before .loop-test) .taken) ((c .before .before .before .listed-register) .ensures .0) (holds-other _ _ _ ((c .before .before .if1) .left) ((c .if2) .taken)))
 
--- src/lib.rt:195:9
 add-j : tie.Need-add-j Inv-loop μ-loop
 add-j c = search needs
 
--- src/lib.rt:187:5
 loop-less : tie.Need-loop-less Inv-loop μ-loop
 loop-less c = search needs
 
--- src/lib.rt:187:5
 loop-again : tie.Need-loop-again Inv-loop μ-loop
 loop-again c =
     (omega (arith, (c .before .before .before .before .loop-test) .taken), (c .before .before .before .before .before .loop) .inv .1 ∙ from-on _ _ _ _ _ ((c .before .before .before .before .loop-test) .taken) ((c .before .before .before .listed-register) .ensures .0) (holds-this _ _ _ ((c .before .before .if1) .left) ((c .if2) .left)))
 
--- src/lib.rt:182:1
 returns-3 : tie.Need-returns-3 Inv-loop μ-loop
 returns-3 c =
     sym ((c .before .loop) .inv .1 ∙ from-end _ _ _ _ _ ((c .loop-test) .left))

@@ -1,3 +1,4 @@
+-- `vectors::count`: after i turns n is the count in the first i cells.
 use Rattle.vectors.proofs.Counting.{counted-on, counted-all}
 use mathlib.Core.Path.{_≡_, sym}
 use Prim.Native.Nat.{_≤_, _-_}
@@ -17,44 +18,34 @@ Inv-loop codes cells c n₀ i₀ n i = (i ≤ cells) × (n ≤ i) × (n ≡ occu
 abbrev μ-loop : tie.MeasureT-loop
 μ-loop codes cells c n₀ i₀ n i = cells - i
 
--- src/lib.rt:26:5
 loop-holds : tie.Need-loop-holds Inv-loop μ-loop
 loop-holds c = (omega arith, omega arith, sym (occurrences-none _ _))
 
--- src/lib.rt:27:19
 mul-same : tie.Need-mul-same Inv-loop μ-loop
 mul-same c = search needs
 
--- src/lib.rt:27:19
 element-copy-out-same : tie.Need-element-copy-out-same Inv-loop μ-loop
 element-copy-out-same c = search needs
 
--- src/lib.rt:27:14
 same-requires : tie.Need-same-requires Inv-loop μ-loop
 same-requires c κs = search needs
 
--- src/lib.rt:27:9
 add-n : tie.Need-add-n Inv-loop μ-loop
 add-n c = search needs
 
--- src/lib.rt:28:9
 add-i : tie.Need-add-i Inv-loop μ-loop
 add-i c = search needs
 
--- src/lib.rt:26:5
 loop-less : tie.Need-loop-less Inv-loop μ-loop
 loop-less c = search needs
 
--- src/lib.rt:26:5
 loop-again : tie.Need-loop-again Inv-loop μ-loop
 loop-again c =
     (omega arith, omega arith, counted-on _ _ _ _ _ ((c .before .before .before .loop) .inv .2) ((c .same) .ensures .0))
 
--- src/lib.rt:31:5
 cast-result : tie.Need-cast-result Inv-loop μ-loop
 cast-result c = search needs
 
--- src/lib.rt:20:1
 returns : tie.Need-returns Inv-loop μ-loop
 returns c =
     counted-all _ _ _ _ _ ((c .before .loop) .inv .2) ((c .before .loop) .inv .0) ((c .loop-test) .left)

@@ -1,3 +1,4 @@
+-- `vectors::fill`: after j turns the first j items are written, and all else is as before.
 use mathlib.Core.Path.{_∙_}
 use Prim.Native.Nat.{_-_, _≤_}
 use native.Mathlib.Omega.{arith}
@@ -21,46 +22,36 @@ Inv-loop image p numbers items₀ k v n j₀ items j = (j ≤ 16) × Renewed ite
 abbrev μ-loop : tie.MeasureT-loop
 μ-loop image p numbers items₀ k v n j₀ items j = 16 - j
 
--- src/lib.rt:218:5
 loop-holds : tie.Need-loop-holds Inv-loop μ-loop
 loop-holds c =
     (omega arith, renewed-none _ _ _)
 
--- src/lib.rt:219:29
 item-requires : tie.Need-item-requires Inv-loop μ-loop
 item-requires c κs = search needs
 
--- src/lib.rt:219:15
 mul-t11 : tie.Need-mul-t11 Inv-loop μ-loop
 mul-t11 c = search needs
 
--- src/lib.rt:219:15
 add-t12 : tie.Need-add-t12 Inv-loop μ-loop
 add-t12 c = search needs
 
--- src/lib.rt:219:9
 mul-t13 : tie.Need-mul-t13 Inv-loop μ-loop
 mul-t13 c = search needs
 
--- src/lib.rt:219:9
 element-set-from-items : tie.Need-element-set-from-items Inv-loop μ-loop
 element-set-from-items c = search needs
 
--- src/lib.rt:220:9
 add-j : tie.Need-add-j Inv-loop μ-loop
 add-j c = search needs
 
--- src/lib.rt:218:5
 loop-less : tie.Need-loop-less Inv-loop μ-loop
 loop-less c = search needs
 
--- src/lib.rt:218:5
 loop-again : tie.Need-loop-again Inv-loop μ-loop
 loop-again c =
     let t : SFits w32 ((c .item) .result) = search needs in
     (omega (arith, (c .before .loop-test) .taken), renewed-on ((c .before .before .loop) .inv .1) _ (search needs) ((c .before .loop-test) .taken) (toZ-ofZ t ∙ (c .item) .ensures))
 
--- src/lib.rt:213:1
 returns : tie.Need-returns Inv-loop μ-loop
 returns c =
     renewed-all ((c .before .loop) .inv .1) ((c .loop-test) .left) ((c .before .loop) .inv .0)

@@ -1,9 +1,10 @@
+-- `vectors::free_vector`: what is left of the search is put to the places from v on.
 use mathlib.Core.Path.{_≡_, refl, _∙_}
 use Prim.Native.Nat.{_≤_, _-_}
 use native.Mathlib.Omega.{arith}
 use borrow.Author.Needs.{needs}
 use Rattle.vectors.specs.Vectors.{freeOf}
-use Rattle.vectors.proofs.Freeing.{freeFrom, free-on, free-here, free-none, unused, inside-at, inside-none}
+use Rattle.vectors.proofs.Freeing.{freeFrom, used-on, unused-here, all-used, unused, inside-at, inside-none}
 use Rattle.vectors.proofs.free_vector.Statement.{statement}
 use Rattle.vectors.proofs.free_vector.Tie as tie
 use Rattle.vectors.proofs.free_vector.Reads as reads
@@ -17,50 +18,40 @@ Inv-loop codes calls cells v₀ v = (v ≤ 64) × (freeFrom codes cells 0 ≡ fr
 abbrev μ-loop : tie.MeasureT-loop
 μ-loop codes calls cells v₀ v = 64 - v
 
--- src/lib.rt:101:9
 live-cells-requires : tie.Need-live-cells-requires Inv-loop μ-loop
 live-cells-requires c κs = search needs
 
--- src/lib.rt:103:5
 loop-holds : tie.Need-loop-holds Inv-loop μ-loop
 loop-holds c = (omega arith, refl)
 
--- src/lib.rt:104:33
 add-count : tie.Need-add-count Inv-loop μ-loop
 add-count c = search needs
 
--- src/lib.rt:104:32
 cast-count : tie.Need-cast-count Inv-loop μ-loop
 cast-count c = search needs
 
--- src/lib.rt:104:12
 count-requires : tie.Need-count-requires Inv-loop μ-loop
 count-requires c κs = search needs
 
--- src/lib.rt:105:13
 returns : tie.Need-returns Inv-loop μ-loop
 unfolding freeOf
 returns c =
-    (unused _ _ ((c .before .before .before .before .live-cells) .ensures .0) _ ((c .before .before .before .loop) .inv .1 ∙ free-here _ _ _ _ ((c .before .before .loop-test) .taken) ((c .before .count) .ensures) ((c .if1) .taken)), inside-at ((c .before .before .loop-test) .taken))
+    (unused _ _ ((c .before .before .before .before .live-cells) .ensures .0) _ ((c .before .before .before .loop) .inv .1 ∙ unused-here _ _ _ _ ((c .before .before .loop-test) .taken) ((c .before .count) .ensures) ((c .if1) .taken)), inside-at ((c .before .before .loop-test) .taken))
 
--- src/lib.rt:107:9
 add-v : tie.Need-add-v Inv-loop μ-loop
 add-v c = search needs
 
--- src/lib.rt:103:5
 loop-less : tie.Need-loop-less Inv-loop μ-loop
 loop-less c = search needs
 
--- src/lib.rt:103:5
 loop-again : tie.Need-loop-again Inv-loop μ-loop
 loop-again c =
-    (omega (arith, (c .before .before .loop-test) .taken), (c .before .before .before .loop) .inv .1 ∙ free-on _ _ _ _ ((c .before .before .loop-test) .taken) ((c .before .count) .ensures) ((c .if1) .left))
+    (omega (arith, (c .before .before .loop-test) .taken), (c .before .before .before .loop) .inv .1 ∙ used-on _ _ _ _ ((c .before .before .loop-test) .taken) ((c .before .count) .ensures) ((c .if1) .left))
 
--- src/lib.rt:98:1
 returns-2 : tie.Need-returns-2 Inv-loop μ-loop
 unfolding freeOf
 returns-2 c =
-    (unused _ _ ((c .before .before .live-cells) .ensures .0) _ ((c .before .loop) .inv .1 ∙ free-none _ _ _ ((c .loop-test) .left)), inside-none)
+    (unused _ _ ((c .before .before .live-cells) .ensures .0) _ ((c .before .loop) .inv .1 ∙ all-used _ _ _ ((c .loop-test) .left)), inside-none)
 
 pub free-vector-spec : {M : Type 1} → statement M
 free-vector-spec =

@@ -1,3 +1,4 @@
+-- `vectors::get`: one test after the other: the vector, its bound, the index, then the item that it picks.
 use Prim.Native.Nat.{_+_, _*_}
 use lib.IntN.{pos}
 use lib.ListN.{getD}
@@ -19,84 +20,65 @@ use Rattle.cells.proofs.vector.Reads as vector-reads
 use Rattle.integers.proofs.index.Reads as index-reads
 use Rattle.vectors.proofs.shown.Reads as shown-reads
 
--- src/lib.rt:83:24
 vector-requires : tie.Need-vector-requires
 vector-requires c κs = search needs
 
--- src/lib.rt:83:19
 enum-known-v : tie.Need-enum-known-v
 enum-known-v c = search needs
 
--- src/lib.rt:84:9
 enum-told : tie.Need-enum-told
 enum-told c = search needs
 
--- src/lib.rt:84:9
 returns : tie.Need-returns
 returns c =
     picked-stuck _ _ _ _ _ _ _ (found-stuck ((c .before .before .vector) .ensures) ((c .enum-told) .given .1))
 
--- src/lib.rt:87:9
 returns-2 : tie.Need-returns-2
 returns-2 c =
     picked-outside _ _ _ _ _ _ _ (found-is ((c .before .before .before .before .vector) .ensures) ((c .before .before .v) .given .1)) ((c .if1) .taken)
 
--- src/lib.rt:89:24
 integer-requires : tie.Need-integer-requires
 integer-requires c κs = search needs
 
--- src/lib.rt:89:19
 enum-known-z : tie.Need-enum-known-z
 enum-known-z c = search needs
 
--- src/lib.rt:90:9
 enum-told-2 : tie.Need-enum-told-2
 enum-told-2 c = search needs
 
--- src/lib.rt:90:9
 returns-3 : tie.Need-returns-3
 returns-3 c =
     picked-other _ _ _ _ _ _ _ (found-is ((c .before .before .before .before .before .before .before .vector) .ensures) ((c .before .before .before .before .before .v) .given .1)) ((c .before .before .before .if1) .left) (whole-stuck ((c .before .before .integer) .ensures) ((c .enum-told2) .given .1))
 
--- src/lib.rt:92:30
 shown-requires : tie.Need-shown-requires
 shown-requires c κs = search needs
 
--- src/lib.rt:92:11
 index-requires : tie.Need-index-requires
 index-requires c κs = search needs
 
--- src/lib.rt:93:21
 enum-known-j : tie.Need-enum-known-j
 enum-known-j c = search needs
 
--- src/lib.rt:93:48
 mul-t17 : tie.Need-mul-t17
 mul-t17 c = search needs
 
--- src/lib.rt:93:57
 cast-t18 : tie.Need-cast-t18
 cast-t18 c = search needs
 
--- src/lib.rt:93:48
 add-t19 : tie.Need-add-t19
 add-t19 c = search needs
 
--- src/lib.rt:93:42
 mul-t20 : tie.Need-mul-t20
 mul-t20 c = search needs
 
--- src/lib.rt:93:42
 element-copy-out-t23 : tie.Need-element-copy-out-t23
 element-copy-out-t23 c =
     let b = index-below _ _ _ (index-at _ _ _ (sym ((c .before .before .before .index) .ensures) ∙ (c .before .j) .given .1)) in
     omega (arith, b, (c .before .before .before .before .shown) .ensures .1, (c .before .before .before .before .before .before .before .before .before .if1) .left)
 
--- src/lib.rt:94:39
 enum-told-3 : tie.Need-enum-told-3
 enum-told-3 c = search needs
 
--- src/lib.rt:79:1
 returns-4 : tie.Need-returns-4
 returns-4 c =
     let s : SFits w32 ((c .before .before .before .before .before .before .before .z) .given .0 .0) = search needs in
@@ -104,7 +86,6 @@ returns-4 c =
     let t : SFits w32 (getD ((c .before .before .before .before .before .before .before .before .before .before .before .before .before .before .before) .args .items .now) (16 * (c .before .before .before .before .before .before .before .before .before .before .before .before .v) .given .0 .0 + (c .before .before .j) .given .0 .0) (pos 0)) = search needs in
     picked _ _ _ _ _ _ _ (found-is ((c .before .before .before .before .before .before .before .before .before .before .before .before .before .before .vector) .ensures) ((c .before .before .before .before .before .before .before .before .before .before .before .before .v) .given .1)) ((c .before .before .before .before .before .before .before .before .before .before .if1) .left) (whole-is ((c .before .before .before .before .before .before .before .before .before .integer) .ensures) ((c .before .before .before .before .before .before .before .z) .given .1)) ((c .before .before .before .before .before .shown) .ensures .0) (index-at _ _ _ (sym e ∙ (c .before .before .j) .given .1)) (toZ-ofZ t)
 
--- src/lib.rt:79:1
 returns-5 : tie.Need-returns-5
 returns-5 c =
     let s : SFits w32 ((c .before .before .before .before .before .z) .given .0 .0) = search needs in

@@ -1,3 +1,4 @@
+-- `vectors::item`: by the test; the register is the one listed at j.
 use Rattle.vectors.specs.Vectors.{listedItem}
 use mir.Facts.{toZ-ofZ}
 use mir.Syntax.{w32}
@@ -14,33 +15,26 @@ use Rattle.vectors.proofs.item.Reads as reads
 use Rattle.vectors.proofs.item.Lts as lts
 use Rattle.program.proofs.decode.listed_register.Reads as listed-register-reads
 
--- src/lib.rt:206:9
 returns : tie.Need-returns
 unfolding listedItem
 returns c =
     rw (le-ltb _ _ ((c .if1) .taken)) refl
 
--- src/lib.rt:208:13
 listed-register-requires : tie.Need-listed-register-requires
 listed-register-requires c κs = search needs
 
--- src/lib.rt:209:13
 mul-result : tie.Need-mul-result
 mul-result c = search needs
 
--- src/lib.rt:209:13
 add-result : tie.Need-add-result
 add-result c = search needs
 
--- src/lib.rt:209:5
 mul-result-2 : tie.Need-mul-result-2
 mul-result-2 c = search needs
 
--- src/lib.rt:209:5
 element-copy-out-result : tie.Need-element-copy-out-result
 element-copy-out-result c = search needs
 
--- src/lib.rt:201:1
 returns-2 : tie.Need-returns-2
 unfolding listedItem
 returns-2 c =

@@ -1,3 +1,4 @@
+-- `vectors::len`: no vector, out of bounds, or how many items it has.
 use Rattle.vectors.proofs.Feeding.{measured, measured-stuck, measured-outside}
 use Rattle.cells.proofs.Given.{found-is, found-stuck}
 use mir.Facts.{toZ-pos}
@@ -10,37 +11,29 @@ use Rattle.vectors.proofs.len.Lts as lts
 use Rattle.cells.proofs.vector.Reads as vector-reads
 use Rattle.vectors.proofs.shown.Reads as shown-reads
 
--- src/lib.rt:68:24
 vector-requires : tie.Need-vector-requires
 vector-requires c κs = search needs
 
--- src/lib.rt:68:19
 enum-known-v : tie.Need-enum-known-v
 enum-known-v c = search needs
 
--- src/lib.rt:69:9
 enum-told : tie.Need-enum-told
 enum-told c = search needs
 
--- src/lib.rt:69:9
 returns : tie.Need-returns
 returns c =
     measured-stuck _ _ _ _ (found-stuck ((c .before .before .vector) .ensures) ((c .enum-told) .given .1))
 
--- src/lib.rt:72:9
 returns-2 : tie.Need-returns-2
 returns-2 c =
     measured-outside _ _ _ _ _ (found-is ((c .before .before .before .before .vector) .ensures) ((c .before .before .v) .given .1)) ((c .if1) .taken)
 
--- src/lib.rt:74:9
 shown-requires : tie.Need-shown-requires
 shown-requires c κs = search needs
 
--- src/lib.rt:75:20
 cast-t9 : tie.Need-cast-t9
 cast-t9 c = search needs
 
--- src/lib.rt:64:1
 returns-3 : tie.Need-returns-3
 returns-3 c =
     rw (toZ-pos w32 {n = (c .shown) .result} (search needs)) (measured _ _ _ _ _ _ (found-is ((c .before .before .before .before .before .vector) .ensures) ((c .before .before .before .v) .given .1)) ((c .before .if1) .left) ((c .shown) .ensures .0))

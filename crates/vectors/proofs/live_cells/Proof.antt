@@ -1,3 +1,4 @@
+-- `vectors::live_cells`: by the test.
 use mathlib.Core.Path.{refl}
 use borrow.Author.Tests.{lt-ltb, le-ltb}
 use Rattle.memory.specs.Parts.{liveCells}
@@ -7,16 +8,13 @@ use Rattle.vectors.proofs.live_cells.Tie as tie
 use Rattle.vectors.proofs.live_cells.Reads as reads
 use Rattle.vectors.proofs.live_cells.Lts as lts
 
--- src/lib.rt:38:16
 mul-result : tie.Need-mul-result
 mul-result c = search needs
 
--- src/lib.rt:38:9
 returns : tie.Need-returns
 unfolding liveCells
 returns c = (rw (lt-ltb _ 32 (c .if1 .taken)) refl, search needs)
 
--- src/lib.rt:34:1
 returns-2 : tie.Need-returns-2
 unfolding liveCells
 returns-2 c = (rw (le-ltb _ 32 (c .if1 .left)) refl, search needs)

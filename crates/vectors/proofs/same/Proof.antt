@@ -1,3 +1,4 @@
+-- `vectors::same`: by the test.
 use mathlib.Core.Path.{refl}
 use native.Mathlib.Omega.{arith}
 use borrow.Author.Tests.{eq-eqb, ne-eqb}
@@ -6,11 +7,9 @@ use Rattle.vectors.proofs.same.Tie as tie
 use Rattle.vectors.proofs.same.Reads as reads
 use Rattle.vectors.proofs.same.Lts as lts
 
--- src/lib.rt:9:1
 returns : tie.Need-returns
 returns c = (rw (eq-eqb _ _ (c .if1 .taken)) refl, omega arith)
 
--- src/lib.rt:9:1
 returns-2 : tie.Need-returns-2
 returns-2 c = (rw (ne-eqb _ _ (c .if1 .left)) refl, omega arith)
 

@@ -1,3 +1,4 @@
+-- `vectors::set`: one test after the other: vector, bound, index, integer, sole holder; then the item is written.
 use Rattle.vectors.proofs.Replacing.{replaced, replaced-stuck, replaced-outside, replaced-index, replaced-value, replaced-shared, replaced-undef}
 use Rattle.vectors.proofs.Feeding.{index-below}
 use Rattle.cells.proofs.Undef.{index-at, index-undef}
@@ -21,122 +22,94 @@ use Rattle.vectors.proofs.count.Reads as count-reads
 use Rattle.vectors.proofs.live_cells.Reads as live-cells-reads
 use Rattle.vectors.proofs.shown.Reads as shown-reads
 
--- src/lib.rt:118:24
 vector-requires : tie.Need-vector-requires
 vector-requires c κs = search needs
 
--- src/lib.rt:118:19
 enum-known-v : tie.Need-enum-known-v
 enum-known-v c = search needs
 
--- src/lib.rt:119:9
 enum-told : tie.Need-enum-told
 enum-told c = search needs
 
--- src/lib.rt:119:9
 returns : tie.Need-returns
 returns c =
     replaced-stuck _ _ _ _ _ _ _ _ _ (found-stuck ((c .before .before .vector) .ensures) ((c .enum-told) .given .1))
 
--- src/lib.rt:122:9
 returns-2 : tie.Need-returns-2
 returns-2 c =
     replaced-outside _ _ _ _ _ _ _ _ _ (found-is ((c .before .before .before .before .vector) .ensures) ((c .before .before .v) .given .1)) ((c .if1) .taken)
 
--- src/lib.rt:124:24
 integer-requires : tie.Need-integer-requires
 integer-requires c κs = search needs
 
--- src/lib.rt:124:19
 enum-known-z : tie.Need-enum-known-z
 enum-known-z c = search needs
 
--- src/lib.rt:125:9
 enum-told-2 : tie.Need-enum-told-2
 enum-told-2 c = search needs
 
--- src/lib.rt:125:9
 returns-3 : tie.Need-returns-3
 returns-3 c =
     replaced-index _ _ _ _ _ _ _ _ _ (found-is ((c .before .before .before .before .before .before .before .vector) .ensures) ((c .before .before .before .before .before .v) .given .1)) ((c .before .before .before .if1) .left) (whole-stuck ((c .before .before .integer) .ensures) ((c .enum-told2) .given .1))
 
--- src/lib.rt:127:24
 integer-requires-2 : tie.Need-integer-requires-2
 integer-requires-2 c κs = search needs
 
--- src/lib.rt:127:19
 enum-known-x : tie.Need-enum-known-x
 enum-known-x c = search needs
 
--- src/lib.rt:128:9
 enum-told-3 : tie.Need-enum-told-3
 enum-told-3 c = search needs
 
--- src/lib.rt:128:9
 returns-4 : tie.Need-returns-4
 returns-4 c =
     replaced-value _ _ _ _ _ _ _ _ _ (found-is ((c .before .before .before .before .before .before .before .before .before .before .before .vector) .ensures) ((c .before .before .before .before .before .before .before .before .before .v) .given .1)) ((c .before .before .before .before .before .before .before .if1) .left) (whole-is ((c .before .before .before .before .before .before .integer) .ensures) ((c .before .before .before .before .z) .given .1)) (whole-stuck ((c .before .before .integer2) .ensures) ((c .enum-told3) .given .1))
 
--- src/lib.rt:130:21
 live-cells-requires : tie.Need-live-cells-requires
 live-cells-requires c κs = search needs
 
--- src/lib.rt:130:41
 add-count : tie.Need-add-count
 add-count c = search needs
 
--- src/lib.rt:130:40
 cast-count : tie.Need-cast-count
 cast-count c = search needs
 
--- src/lib.rt:130:8
 count-requires : tie.Need-count-requires
 count-requires c κs = search needs
 
--- src/lib.rt:131:9
 returns-5 : tie.Need-returns-5
 returns-5 c =
     replaced-shared _ _ _ _ _ _ _ _ _ (found-is ((c .before .before .before .before .before .before .before .before .before .before .before .before .before .before .before .vector) .ensures) ((c .before .before .before .before .before .before .before .before .before .before .before .before .before .v) .given .1)) ((c .before .before .before .before .before .before .before .before .before .before .before .if1) .left) (whole-is ((c .before .before .before .before .before .before .before .before .before .before .integer) .ensures) ((c .before .before .before .before .before .before .before .before .z) .given .1)) (whole-is ((c .before .before .before .before .before .before .integer2) .ensures) ((c .before .before .before .before .x) .given .1)) ((c .before .before .live-cells) .ensures .0) ((c .before .count) .ensures) ((c .if2) .taken)
 
--- src/lib.rt:133:30
 shown-requires : tie.Need-shown-requires
 shown-requires c κs = search needs
 
--- src/lib.rt:133:11
 index-requires : tie.Need-index-requires
 index-requires c κs = search needs
 
--- src/lib.rt:134:21
 enum-known-j : tie.Need-enum-known-j
 enum-known-j c = search needs
 
--- src/lib.rt:135:19
 mul-x : tie.Need-mul-x
 mul-x c = search needs
 
--- src/lib.rt:135:28
 cast-x : tie.Need-cast-x
 cast-x c = search needs
 
--- src/lib.rt:135:19
 add-x : tie.Need-add-x
 add-x c = search needs
 
--- src/lib.rt:135:13
 mul-x-2 : tie.Need-mul-x-2
 mul-x-2 c = search needs
 
--- src/lib.rt:135:13
 element-set-from-x : tie.Need-element-set-from-x
 element-set-from-x c =
     let b = index-below _ _ _ (index-at _ _ _ (sym ((c .before .before .before .index) .ensures) ∙ (c .before .j) .given .1)) in
     omega (arith, b, (c .before .before .before .before .shown) .ensures .1, (c .before .before .before .before .before .before .before .before .before .before .before .before .before .before .before .before .if1) .left)
 
--- src/lib.rt:138:37
 enum-told-4 : tie.Need-enum-told-4
 enum-told-4 c = search needs
 
--- src/lib.rt:114:1
 returns-6 : tie.Need-returns-6
 returns-6 c =
     let s : SFits w32 ((c .before .before .before .before .before .before .before .before .before .before .before .before .before .z) .given .0 .0) = search needs in
@@ -144,7 +117,6 @@ returns-6 c =
     let t : SFits w32 ((c .before .before .before .before .before .before .before .before .before .x) .given .0 .0) = search needs in
     replaced _ _ _ _ _ _ _ _ _ (found-is ((c .before .before .before .before .before .before .before .before .before .before .before .before .before .before .before .before .before .before .before .before .vector) .ensures) ((c .before .before .before .before .before .before .before .before .before .before .before .before .before .before .before .before .before .before .v) .given .1)) ((c .before .before .before .before .before .before .before .before .before .before .before .before .before .before .before .before .if1) .left) (whole-is ((c .before .before .before .before .before .before .before .before .before .before .before .before .before .before .before .integer) .ensures) ((c .before .before .before .before .before .before .before .before .before .before .before .before .before .z) .given .1)) (whole-is ((c .before .before .before .before .before .before .before .before .before .before .before .integer2) .ensures) ((c .before .before .before .before .before .before .before .before .before .x) .given .1)) ((c .before .before .before .before .before .before .before .live-cells) .ensures .0) ((c .before .before .before .before .before .before .count) .ensures) ((c .before .before .before .before .before .if2) .left) ((c .before .before .before .before .shown) .ensures .0) (index-at _ _ _ (sym e ∙ (c .before .j) .given .1)) (ap (set ((c .before .before .before .before .before .before .before .before .before .before .before .before .before .before .before .before .before .before .before .before .before) .args .items .now) (16 * (c .before .before .before .before .before .before .before .before .before .before .before .before .before .before .before .before .before .before .v) .given .0 .0 + (c .before .j) .given .0 .0)) (toZ-ofZ t))
 
--- src/lib.rt:114:1
 returns-7 : tie.Need-returns-7
 returns-7 c =
     let s : SFits w32 ((c .before .before .before .before .before .before .before .before .before .before .before .before .z) .given .0 .0) = search needs in

@@ -1,3 +1,4 @@
+-- `vectors::shown`: by the test.
 use Rattle.vectors.specs.Vectors.{shownOf}
 use borrow.Author.Tests.{lt-ltb, le-ltb}
 use native.Mathlib.Omega.{arith}
@@ -8,17 +9,14 @@ use Rattle.vectors.proofs.shown.Tie as tie
 use Rattle.vectors.proofs.shown.Reads as reads
 use Rattle.vectors.proofs.shown.Lts as lts
 
--- src/lib.rt:56:13
 element-copy-out-n : tie.Need-element-copy-out-n
 element-copy-out-n c = search needs
 
--- src/lib.rt:58:9
 returns : tie.Need-returns
 unfolding shownOf
 returns c =
     (rw (lt-ltb _ 16 ((c .if1) .taken)) refl, omega (arith, (c .if1) .taken))
 
--- src/lib.rt:52:1
 returns-2 : tie.Need-returns-2
 unfolding shownOf
 returns-2 c =

@@ -1,3 +1,4 @@
+-- `vectors::vec`: a register without an integer, no free place, no such register, or the vector and its cell are written.
 use borrow.Author.Tests.{not-true, not-false}
 use Rattle.vectors.proofs.Making.{inside-is, made, made-stuck, made-full, made-nowhere}
 use mathlib.Core.Path.{refl}
@@ -10,74 +11,58 @@ use Rattle.vectors.proofs.all_integers.Reads as all-integers-reads
 use Rattle.vectors.proofs.fill.Reads as fill-reads
 use Rattle.vectors.proofs.free_vector.Reads as free-vector-reads
 
--- src/lib.rt:229:9
 all-integers-requires : tie.Need-all-integers-requires
 all-integers-requires c κs = search needs
 
--- src/lib.rt:230:9
 returns : tie.Need-returns
 returns c =
     made-stuck _ _ _ _ _ _ _ _ _ _ ((c .before .all-integers) .ensures) (not-true ((c .before .all-integers) .result) ((c .if1) .taken))
 
--- src/lib.rt:232:24
 free-vector-requires : tie.Need-free-vector-requires
 free-vector-requires c κs = search needs
 
--- src/lib.rt:232:19
 enum-known-v : tie.Need-enum-known-v
 enum-known-v c = search needs
 
--- src/lib.rt:233:26
 enum-told : tie.Need-enum-told
 enum-told c = search needs
 
--- src/lib.rt:233:9
 returns-2 : tie.Need-returns-2
 returns-2 c =
     made-full _ _ _ _ _ _ _ _ _ _ ((c .before .before .before .before .before .all-integers) .ensures) (not-false ((c .before .before .before .before .before .all-integers) .result) ((c .before .before .before .before .if1) .left)) _ ((c .before .before .free-vector) .ensures .0) ((c .enum-told) .given .1)
 
--- src/lib.rt:237:9
 returns-3 : tie.Need-returns-3
 returns-3 c =
     made-nowhere _ _ _ _ _ _ _ _ _ _ ((c .before .before .before .before .before .before .before .all-integers) .ensures) (not-false ((c .before .before .before .before .before .before .before .all-integers) .result) ((c .before .before .before .before .before .before .if1) .left)) _ ((c .before .before .before .before .free-vector) .ensures .0) ((c .before .before .v) .given .1) ((c .if2) .taken)
 
--- src/lib.rt:239:5
 element-write-lengths : tie.Need-element-write-lengths
 element-write-lengths c =
     inside-is ((c .before .before .before .before .free-vector) .ensures .1) ((c .before .before .v) .given .1)
 
--- src/lib.rt:240:5
 fill-requires : tie.Need-fill-requires
 fill-requires c κs =
     (search needs, inside-is ((c .before .before .before .before .before .free-vector) .ensures .1) ((c .before .before .before .v) .given .1))
 
--- src/lib.rt:241:26
 add-codes : tie.Need-add-codes
 add-codes c =
     let h = inside-is ((c .before .before .before .before .before .before .free-vector) .ensures .1) ((c .before .before .before .before .v) .given .1) in search (needs, h)
 
--- src/lib.rt:241:25
 cast-codes : tie.Need-cast-codes
 cast-codes c =
     let h = inside-is ((c .before .before .before .before .before .before .free-vector) .ensures .1) ((c .before .before .before .before .v) .given .1) in search (needs, h)
 
--- src/lib.rt:241:11
 mul-codes : tie.Need-mul-codes
 mul-codes c = search needs
 
--- src/lib.rt:241:11
 add-codes-2 : tie.Need-add-codes-2
 add-codes-2 c = search needs
 
--- src/lib.rt:241:5
 mul-codes-2 : tie.Need-mul-codes-2
 mul-codes-2 c = search needs
 
--- src/lib.rt:241:5
 element-write-codes : tie.Need-element-write-codes
 element-write-codes c = search needs
 
--- src/lib.rt:225:1
 returns-4 : tie.Need-returns-4
 returns-4 c =
     made _ _ _ _ _ _ _ _ _ _ ((c .before .before .before .before .before .before .before .before .before .all-integers) .ensures) (not-false ((c .before .before .before .before .before .before .before .before .before .all-integers) .result) ((c .before .before .before .before .before .before .before .before .if1) .left)) _ ((c .before .before .before .before .before .before .free-vector) .ensures .0) ((c .before .before .before .before .v) .given .1) (inside-is ((c .before .before .before .before .before .before .free-vector) .ensures .1) ((c .before .before .before .before .v) .given .1)) ((c .before .before .if2) .left) refl refl ((c .fill) .ensures)

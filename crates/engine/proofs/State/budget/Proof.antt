@@ -1,3 +1,4 @@
+-- `engine::State::budget`: question 13, which leaves the buffer, or what `under` runs and `deliver` writes.
 use Rattle.engine.proofs.Driving.{refuses, takes, leaves, delivers}
 use borrow.Author.Needs.{needs}
 use Rattle.engine.proofs.State.budget.Statement.{statement}
@@ -7,24 +8,19 @@ use Rattle.engine.proofs.State.budget.Lts as lts
 use Rattle.delivery.proofs.deliver.Reads as deliver-reads
 use Rattle.engine.proofs.under.Reads as under-reads
 
--- src/lib.rt:230:13
 returns : tie.Need-returns
 returns c =
     (refuses _ _ _ _ ((c .if1) .taken), leaves _ _ _ _ _)
 
--- src/lib.rt:236:13
 under-requires : tie.Need-under-requires
 under-requires c κs = search needs
 
--- src/lib.rt:240:9
 deliver-requires : tie.Need-deliver-requires
 deliver-requires c κs = search needs
 
--- src/lib.rt:225:5
 same-length : tie.Need-same-length
 same-length c = search needs
 
--- src/lib.rt:225:5
 returns-2 : tie.Need-returns-2
 returns-2 c =
     (takes _ _ _ _ ((c .before .before .before .before .before .before .if1) .left) ((c .before .before .before .before .before .under) .ensures), delivers _ _ ((c .before .deliver) .ensures))

@@ -1,3 +1,4 @@
+-- `engine::State::step`: a budget of one, and what its answer says.
 use Rattle.engine.proofs.Driving.{steps-once}
 use borrow.Author.Needs.{needs}
 use Rattle.engine.proofs.State.step.Statement.{statement}
@@ -7,15 +8,12 @@ use Rattle.engine.proofs.State.step.Lts as lts
 use Rattle.engine.proofs.said.Reads as said-reads
 use Rattle.engine.proofs.under.Reads as under-reads
 
--- src/lib.rt:214:13
 under-requires : tie.Need-under-requires
 under-requires c κs = search needs
 
--- src/lib.rt:219:19
 said-requires : tie.Need-said-requires
 said-requires c κs = search needs
 
--- src/lib.rt:210:5
 returns : tie.Need-returns
 returns c =
     steps-once _ _ ((c .before .before .under) .ensures) ((c .said) .ensures)

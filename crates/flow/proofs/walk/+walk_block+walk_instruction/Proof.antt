@@ -8,7 +8,7 @@ use Rattle.flow.proofs.walk.+walk_block+walk_instruction.Lts-walk_block
 use Rattle.flow.proofs.walk.+walk_block+walk_instruction.Lts-walk_instruction as walk-instruction-lts
 use Rattle.flow.proofs.walk.+walk_block+walk_instruction.Tie.{close}
 use Rattle.flow.proofs.walk.+walk_block+walk_instruction.{statement}
-use Rattle.flow.proofs.walk.is_instruction.Reads as is-instruction-reads
+use Rattle.program.proofs.lookup.is_line.Reads as is-line-reads
 use Rattle.flow.proofs.walk.walk_block.Kinds as walk-block-kinds
 use Rattle.flow.proofs.walk.walk_block.Reads as walk-block
 use Rattle.flow.proofs.walk.walk_instruction.Kinds as walk-instruction-kinds
@@ -70,8 +70,8 @@ walk-block-claims t = (
   block-reads.Learnt,
   size-at-reads.Asked,
   size-at-reads.Learnt,
-  is-instruction-reads.Asked,
-  is-instruction-reads.Learnt,
+  is-line-reads.Asked,
+  is-line-reads.Learnt,
   walk-instruction-below t,
   walk-instruction.Post,
   chain-reads.Asked,
@@ -132,8 +132,8 @@ unfolding flowed
 walk-block-loop-holds t c =
     begins _ _ _ _ (sym ((c .before .before .before .before .block) .ensures) ∙ (c .before .before .q) .given .1) ((c .size-at) .ensures)
 
-walk-block-is-instruction-requires : (t : ℕ) → walk-block-lts.Need-is-instruction-requires (walk-block-claims t) (walk-block-at t) walk-block.Post walk-block-Inv-loop walk-block-μ-loop
-walk-block-is-instruction-requires t c κs =
+walk-block-is-line-requires : (t : ℕ) → walk-block-lts.Need-is-line-requires (walk-block-claims t) (walk-block-at t) walk-block.Post walk-block-Inv-loop walk-block-μ-loop
+walk-block-is-line-requires t c κs =
     search needs
 
 walk-block-walk-instruction-requires : (t : ℕ) → walk-block-lts.Need-walk-instruction-requires (walk-block-claims t) (walk-block-at t) walk-block.Post walk-block-Inv-loop walk-block-μ-loop
@@ -150,15 +150,15 @@ walk-block-size-at-requires-2 t c κs =
 
 walk-block-add-p-2 : (t : ℕ) → walk-block-lts.Need-add-p-2 (walk-block-claims t) (walk-block-at t) walk-block.Post walk-block-Inv-loop walk-block-μ-loop
 walk-block-add-p-2 t c =
-    let h = stands _ _ (sym ((c .before .before .before .before .is-instruction) .ensures) ∙ (c .before .before .before .if1) .taken) in omega (arith, size-in _ _ ((c .size-at2) .ensures) (λ z. h .whole (sym ((c .size-at2) .ensures) ∙ z)), (c .before .before .before .before .before .before .before .before .before .before .before .before) .good .0 .0)
+    let h = stands _ _ (sym ((c .before .before .before .before .is-line) .ensures) ∙ (c .before .before .before .if1) .taken) in omega (arith, size-in _ _ ((c .size-at2) .ensures) (λ z. h .whole (sym ((c .size-at2) .ensures) ∙ z)), (c .before .before .before .before .before .before .before .before .before .before .before .before) .good .0 .0)
 
 walk-block-loop-less : (t : ℕ) → walk-block-lts.Need-loop-less (walk-block-claims t) (walk-block-at t) walk-block.Post walk-block-Inv-loop walk-block-μ-loop
 walk-block-loop-less t c =
-    let h = stands _ _ (sym ((c .before .before .before .before .is-instruction) .ensures) ∙ (c .before .before .before .if1) .taken) in omega (arith, size-in _ _ ((c .size-at2) .ensures) (λ z. h .whole (sym ((c .size-at2) .ensures) ∙ z)), (c .before .before .before .before .before .before .before .before .before .before .before .before) .good .0 .0)
+    let h = stands _ _ (sym ((c .before .before .before .before .is-line) .ensures) ∙ (c .before .before .before .if1) .taken) in omega (arith, size-in _ _ ((c .size-at2) .ensures) (λ z. h .whole (sym ((c .size-at2) .ensures) ∙ z)), (c .before .before .before .before .before .before .before .before .before .before .before .before) .good .0 .0)
 
 walk-block-loop-again : (t : ℕ) → walk-block-lts.Need-loop-again (walk-block-claims t) (walk-block-at t) walk-block.Post walk-block-Inv-loop walk-block-μ-loop
 walk-block-loop-again t c =
-    (c .before .before .before .before .before .loop) .inv ∙ meets _ _ _ _ _ _ (stands _ _ (sym ((c .before .before .before .before .is-instruction) .ensures) ∙ (c .before .before .before .if1) .taken)) ((c .before .chain) .ensures ∙ ap (λ (o : Option Action). flowed ((c .before .before .before .before .before .loop) .done) then o) ((c .before .before .walk-instruction) .ensures)) ((c .size-at2) .ensures)
+    (c .before .before .before .before .before .loop) .inv ∙ meets _ _ _ _ _ _ (stands _ _ (sym ((c .before .before .before .before .is-line) .ensures) ∙ (c .before .before .before .if1) .taken)) ((c .before .chain) .ensures ∙ ap (λ (o : Option Action). flowed ((c .before .before .before .before .before .loop) .done) then o) ((c .before .before .walk-instruction) .ensures)) ((c .size-at2) .ensures)
 
 walk-block-field-requires : (t : ℕ) → walk-block-lts.Need-field-requires (walk-block-claims t) (walk-block-at t) walk-block.Post walk-block-Inv-loop walk-block-μ-loop
 walk-block-field-requires t c κs =
@@ -178,7 +178,7 @@ walk-block-chain-requires-2 t c κs =
 
 walk-block-returns-2 : (t : ℕ) → walk-block-lts.Need-returns-2 (walk-block-claims t) (walk-block-at t) walk-block.Post walk-block-Inv-loop walk-block-μ-loop
 walk-block-returns-2 t c =
-    ends _ _ _ _ _ _ (sym ((c .before .before .before .before .before .is-instruction) .ensures) ∙ (c .before .before .before .before .if1) .left) ((c .chain2) .ensures ∙ ap (λ (o : Option Action). flowed ((c .before .before .before .before .before .before .loop) .done) then o) ((c .before .reading) .ensures ∙ reading-one _ _ ((c .before .before .only) .ensures ∙ ap (only 16) ((c .before .before .before .field) .ensures .0)))) ∙ sym ((c .before .before .before .before .before .before .loop) .inv)
+    ends _ _ _ _ _ _ (sym ((c .before .before .before .before .before .is-line) .ensures) ∙ (c .before .before .before .before .if1) .left) ((c .chain2) .ensures ∙ ap (λ (o : Option Action). flowed ((c .before .before .before .before .before .before .loop) .done) then o) ((c .before .reading) .ensures ∙ reading-one _ _ ((c .before .before .only) .ensures ∙ ap (only 16) ((c .before .before .before .field) .ensures .0)))) ∙ sym ((c .before .before .before .before .before .before .loop) .inv)
 
 walk-instruction-kind-at-requires : (t : ℕ) → walk-instruction-lts.Need-kind-at-requires (walk-instruction-claims t) (walk-instruction-at t) walk-instruction.Post
 walk-instruction-kind-at-requires t c κs =
@@ -233,7 +233,7 @@ pub +walk-block+walk-instruction-spec : {M : Type 1} → statement M
     (walk-block-size-at-requires t)
     (walk-block-add-p t)
     (walk-block-loop-holds t)
-    (walk-block-is-instruction-requires t)
+    (walk-block-is-line-requires t)
     (walk-block-walk-instruction-requires t)
     (walk-block-chain-requires t)
     (walk-block-size-at-requires-2 t)
