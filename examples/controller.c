@@ -1,7 +1,7 @@
 /*
  * A controller loop: a FIR image computes the positions of three valves from the temperature that is wanted, the one that is
  * measured, and the positions so far. It gets a budget of steps in each tick and goes on in the next one where they are used
- * up, so a tick never takes longer than its budget.
+ * up, so a tick never takes more steps than its budget.
  *
  *     controller            runs the image below
  *     controller FILE       runs the image in FILE

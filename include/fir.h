@@ -32,6 +32,7 @@ extern "C" {
 #define FIR_NAMES 8           /* names of a call */
 #define FIR_ACTIVATIONS 32    /* calls and forces that live at once */
 #define FIR_ITEMS 16          /* items of a vector, and the fewest places of a result buffer */
+#define FIR_PLACES 64         /* places for vectors, and for promises */
 
 /* ---- Refusals: the question that says no ---- */
 
@@ -42,7 +43,7 @@ extern "C" {
 #define FIR_REFUSED_BOUNDS 4     /* numbers, counts, marks, op and n are in bounds, records in order */
 #define FIR_REFUSED_NUMBERING 5  /* the first version is 0.0, each next one follows on it */
 #define FIR_REFUSED_TYPE_BYTES 6 /* each type byte is allowed at its place */
-#define FIR_REFUSED_EXISTENCE 7  /* what is named exists */
+#define FIR_REFUSED_EXISTENCE 7  /* what is named exists, and every block but 0 is named by exactly one PROM */
 #define FIR_REFUSED_TYPES 8      /* types fit */
 #define FIR_REFUSED_EFFECTS 9    /* each block's mark covers its effect */
 #define FIR_REFUSED_FLOW 10      /* flow holds */
@@ -57,7 +58,8 @@ typedef struct fir_verdict {
     uint8_t question;
 } fir_verdict;
 
-/* Whether a run has begun: FIR_ACCEPTED, or the question that refuses it, 1 to 13, and the offset. */
+/* Whether a run has begun: FIR_ACCEPTED, or the question that refuses it, 1 to 13, and the offset. With FIR_ACCEPTED and 11
+ * to 13 the offset is 0. */
 typedef struct fir_entry {
     uint16_t offset;
     uint8_t question;
@@ -65,6 +67,8 @@ typedef struct fir_entry {
 
 /* ---- Answers of a step or a budget ---- */
 
+/* The code of an answer says what else it holds. A field that the line of its code does not name is 0; only the steps of a
+ * fir_answer go with every code. */
 #define FIR_STEPS 0     /* the run goes on: the step was taken, or the budget is used up */
 #define FIR_INTEGER 1   /* DONE with the integer `value` */
 #define FIR_VECTOR 2    /* DONE with a vector of `length` items */
@@ -82,7 +86,7 @@ typedef struct fir_said {
     uint8_t length;
 } fir_said;
 
-/* The answer to a budget, and the steps taken under it. */
+/* The answer to a budget, and the steps taken under it: FIR_STEPS to FIR_REFUSED. */
 typedef struct fir_answer {
     uint32_t steps;
     int32_t value;
@@ -100,20 +104,29 @@ typedef struct fir_answer {
  * A cell stands for a register or a name: code 1 is the integer in `numbers`, 256 + v the vector v, 512 + p the promise p;
  * all else is nothing. The call k has the cells 24 k to 24 k + 23, its registers and then its names. */
 typedef struct fir_state {
-    int32_t numbers[768];  /* the integers of the cells */
-    int32_t items[1024];   /* 16 items of each vector */
-    int32_t caches[64];    /* the integer of each promise that was forced */
-    int32_t result[16];    /* the items of a vector that the run is DONE with */
-    uint16_t codes[768];   /* the codes of the cells */
-    uint8_t owners[64];    /* of each call: its function and its version */
-    uint8_t stack[192];    /* of each activation: 0 call or 1 force, the promise, d, its call, block, next instruction */
-    uint8_t lengths[64];   /* of each vector */
-    uint8_t promises[192]; /* of each promise: its call, its block, 1 where it was forced */
-    uint8_t calls;         /* how many calls are live */
-    uint8_t depth;         /* how many activations are live */
-    uint8_t status;        /* FIR_STEPS while the run goes on, else its end: FIR_INTEGER to FIR_PROMISES */
-    uint8_t length;        /* of the vector that the run is DONE with */
-    int32_t value;         /* the integer that the run is DONE with */
+    /* the integers of the cells */
+    int32_t numbers[FIR_ACTIVATIONS * (FIR_REGISTERS + FIR_NAMES)];
+    /* 16 items of each vector */
+    int32_t items[FIR_PLACES * FIR_ITEMS];
+    /* the integer of each promise that was forced */
+    int32_t caches[FIR_PLACES];
+    /* the items of a vector that the run is DONE with */
+    int32_t result[FIR_ITEMS];
+    /* the codes of the cells */
+    uint16_t codes[FIR_ACTIVATIONS * (FIR_REGISTERS + FIR_NAMES)];
+    /* of each call: its function and its version */
+    uint8_t owners[FIR_ACTIVATIONS * 2];
+    /* of each activation: 0 call or 1 force, the promise, d, its call, block, next instruction */
+    uint8_t stack[FIR_ACTIVATIONS * 6];
+    /* of each vector */
+    uint8_t lengths[FIR_PLACES];
+    /* of each promise: its call, its block, 1 where it was forced */
+    uint8_t promises[FIR_PLACES * 3];
+    uint8_t calls;  /* how many calls are live */
+    uint8_t depth;  /* how many activations are live */
+    uint8_t status; /* FIR_STEPS while the run goes on, else its end: FIR_INTEGER to FIR_PROMISES */
+    uint8_t length; /* of the vector that the run is DONE with */
+    int32_t value;  /* the integer that the run is DONE with */
 } fir_state;
 
 /* The size and the alignment of a state in bytes, as the library was built. */
@@ -157,7 +170,7 @@ fir_answer fir_run(const uint8_t *image, size_t image_length, size_t function, s
 #define FIR_IS_PROMISE 3
 #define FIR_OUTSIDE 4 /* no such place of a live call */
 
-/* What a register or a name holds: an integer `number`, or the vector or promise at `place`. */
+/* What a register or a name holds: an integer `number`, or the vector or promise at `place`; what it does not hold is 0. */
 typedef struct fir_value {
     int32_t number;
     uint8_t kind;

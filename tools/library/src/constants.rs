@@ -14,6 +14,8 @@ pub const FIR_NAMES: usize = 8;
 pub const FIR_ACTIVATIONS: usize = 32;
 /// The items of a vector, and the fewest places of a result buffer.
 pub const FIR_ITEMS: usize = 16;
+/// The places for vectors, and for promises.
+pub const FIR_PLACES: usize = 64;
 
 /// No question says no.
 pub const FIR_ACCEPTED: u8 = 0;
@@ -29,7 +31,7 @@ pub const FIR_REFUSED_BOUNDS: u8 = 4;
 pub const FIR_REFUSED_NUMBERING: u8 = 5;
 /// Each type byte is allowed at its place.
 pub const FIR_REFUSED_TYPE_BYTES: u8 = 6;
-/// What is named exists.
+/// What is named exists, and every block but 0 is named by exactly one PROM.
 pub const FIR_REFUSED_EXISTENCE: u8 = 7;
 /// Types fit.
 pub const FIR_REFUSED_TYPES: u8 = 8;

@@ -1,8 +1,9 @@
 //! The proved FIR library, safe to call: it checks images and runs them.
 //!
-//! What `fir.h` asks of a caller holds by construction: slices and `&mut` rule
+//! What `fir.h` asks of memory holds by construction: slices and `&mut` rule
 //! out null, misaligned and overlapping memory, and that a state has the layout
-//! that the library was built with is asserted once.
+//! that the library was built with is asserted once. That a run keeps its image
+//! is the caller's to see to: a step and a budget take any.
 
 mod answers;
 mod checking;
@@ -17,4 +18,4 @@ pub use constants::*;
 pub use parts::{Activation, Opener, Promise};
 #[cfg(feature = "stand_in")]
 pub use raw::{FirAnswer, FirEntry, FirSaid, FirValue, FirVerdict};
-pub use state::{Entry, State, ACTIVATION, CELLS, OWNER, PLACES, PROMISE};
+pub use state::{Entry, State, ACTIVATION, CELLS, OWNER, PROMISE};

@@ -1,8 +1,8 @@
 //! The parts of a state that its functions do not name: activations, vectors
 //! and promises, read out of its numbers.
 
-use crate::constants::{FIR_ACTIVATIONS, FIR_ITEMS};
-use crate::state::{State, ACTIVATION, OWNER, PLACES, PROMISE};
+use crate::constants::{FIR_ACTIVATIONS, FIR_ITEMS, FIR_PLACES};
+use crate::state::{State, ACTIVATION, OWNER, PROMISE};
 
 /// What opened an activation.
 #[derive(Clone, Copy, PartialEq, Eq, Debug)]
@@ -83,7 +83,7 @@ impl State {
     /// The promise at a place; it means something where a register, a name or a
     /// pending force refers to it.
     pub fn promise(&self, place: usize) -> Option<Promise> {
-        if place >= PLACES {
+        if place >= FIR_PLACES {
             return None;
         }
         let &[call, block, forced] = self.promises.chunks_exact(PROMISE).nth(place)? else {

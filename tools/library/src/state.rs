@@ -3,14 +3,12 @@
 #![allow(unsafe_code)] // The library is called across a C boundary.
 
 use crate::answers::{Held, Ran, Refusal, Said};
-use crate::constants::{FIR_ACTIVATIONS, FIR_ITEMS, FIR_NAMES, FIR_REGISTERS};
+use crate::constants::{FIR_ACTIVATIONS, FIR_ITEMS, FIR_NAMES, FIR_PLACES, FIR_REGISTERS};
 use crate::raw;
 use std::sync::Once;
 
 /// The registers and names of a call.
 pub const CELLS: usize = FIR_REGISTERS + FIR_NAMES;
-/// How many vectors count at once, and how many promises.
-pub const PLACES: usize = 64;
 /// The numbers of a call in [`State::owners`].
 pub const OWNER: usize = 2;
 /// The numbers of an activation in [`State::stack`].
@@ -26,9 +24,9 @@ pub struct State {
     /// The integers of the cells.
     pub numbers: [i32; FIR_ACTIVATIONS * CELLS],
     /// 16 items of each vector.
-    pub items: [i32; PLACES * FIR_ITEMS],
+    pub items: [i32; FIR_PLACES * FIR_ITEMS],
     /// The integer of each promise that was forced.
-    pub caches: [i32; PLACES],
+    pub caches: [i32; FIR_PLACES],
     /// The items of a vector that the run is DONE with.
     pub result: [i32; FIR_ITEMS],
     /// The codes of the cells.
@@ -38,9 +36,9 @@ pub struct State {
     /// Of each activation: 0 call or 1 force, the promise, d, its call, block, next instruction.
     pub stack: [u8; FIR_ACTIVATIONS * ACTIVATION],
     /// Of each vector.
-    pub lengths: [u8; PLACES],
+    pub lengths: [u8; FIR_PLACES],
     /// Of each promise: its call, its block, 1 where it was forced.
-    pub promises: [u8; PLACES * PROMISE],
+    pub promises: [u8; FIR_PLACES * PROMISE],
     /// How many calls are live.
     pub calls: u8,
     /// How many activations are live.
@@ -67,14 +65,14 @@ impl State {
     pub fn blank() -> State {
         State {
             numbers: [0; FIR_ACTIVATIONS * CELLS],
-            items: [0; PLACES * FIR_ITEMS],
-            caches: [0; PLACES],
+            items: [0; FIR_PLACES * FIR_ITEMS],
+            caches: [0; FIR_PLACES],
             result: [0; FIR_ITEMS],
             codes: [0; FIR_ACTIVATIONS * CELLS],
             owners: [0; FIR_ACTIVATIONS * OWNER],
             stack: [0; FIR_ACTIVATIONS * ACTIVATION],
-            lengths: [0; PLACES],
-            promises: [0; PLACES * PROMISE],
+            lengths: [0; FIR_PLACES],
+            promises: [0; FIR_PLACES * PROMISE],
             calls: 0,
             depth: 0,
             status: 0,

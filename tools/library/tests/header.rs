@@ -35,6 +35,7 @@ fn bounds_and_questions() -> Vec<(&'static str, usize)> {
         FIR_NAMES,
         FIR_ACTIVATIONS,
         FIR_ITEMS,
+        FIR_PLACES,
     ];
     let questions = named![
         FIR_ACCEPTED,

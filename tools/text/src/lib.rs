@@ -2,8 +2,8 @@
 //!
 //! # Reading it
 //!
-//! A text is read line by line; `#` opens a comment, and spaces are free. Each
-//! line is one record of the image:
+//! A text is read line by line; `#` opens a comment, and spaces are free. A
+//! `version`, `block` or instruction line is one record of the image:
 //!
 //! ```text
 //! # Doubles each of two items: 0.0 owns the vector, 1.0 borrows it.

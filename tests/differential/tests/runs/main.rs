@@ -17,7 +17,7 @@ use std::thread;
 /// fewest steps that they take together.
 const PROGRAMS: u64 = 56_000;
 const FEWEST_RUNS: usize = 50_000;
-const FEWEST_STEPS: usize = 1_000_000;
+const FEWEST_STEPS: usize = 3_000_000;
 
 /// How many damaged images no run may begin of.
 const DAMAGED: u64 = 6_000;

@@ -1,7 +1,7 @@
 //! What a step changed: registers, names, vectors, promises, calls and forces.
 
 use super::spot::Spot;
-use library::{Held, Opener, State, CELLS, FIR_REGISTERS, PLACES};
+use library::{Held, Opener, State, CELLS, FIR_PLACES, FIR_REGISTERS};
 
 /// What changed from one state to the next, the step's own call first.
 pub fn changes(before: &State, after: &State, spot: &Spot) -> String {
@@ -117,14 +117,14 @@ fn cell_changes<'s>(
 
 /// Which vectors and promises the registers and names of live calls hold, by place.
 struct Holdings {
-    vectors: [bool; PLACES],
-    promises: [bool; PLACES],
+    vectors: [bool; FIR_PLACES],
+    promises: [bool; FIR_PLACES],
 }
 
 impl Holdings {
     /// Those of a state.
     fn of(state: &State) -> Holdings {
-        let (mut vectors, mut promises) = ([false; PLACES], [false; PLACES]);
+        let (mut vectors, mut promises) = ([false; FIR_PLACES], [false; FIR_PLACES]);
         let calls = 0..usize::from(state.calls);
         for (call, place) in calls.flat_map(|call| (0..CELLS).map(move |place| (call, place))) {
             match state.look(call, place) {
@@ -141,13 +141,13 @@ impl Holdings {
 /// promises that are held after, and are new or were forced.
 fn pool_changes(before: &State, after: &State) -> Vec<String> {
     let (old, new) = (Holdings::of(before), Holdings::of(after));
-    let vectors = (0..PLACES).filter_map(|place| {
+    let vectors = (0..FIR_PLACES).filter_map(|place| {
         let items = after.vector(place)?;
         let changed = before.vector(place) != Some(items);
         let held = old.vectors[place] && new.vectors[place];
         (changed && held).then(|| format!("v{place} = {items:?}"))
     });
-    let promises = (0..PLACES).filter_map(|place| {
+    let promises = (0..FIR_PLACES).filter_map(|place| {
         let promise = after.promise(place)?;
         let changed = !old.promises[place] || before.promise(place) != Some(promise);
         let (block, call) = (promise.block, promise.call);
