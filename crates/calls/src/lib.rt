@@ -13,6 +13,7 @@ ghost use Rattle.kinds.specs.Kinds.{argumentKind};
 ghost use Rattle.calls.specs.Frames.{clearedTo, passedTo, emptiedTo, few};
 ghost use Rattle.calls.specs.Entering.{Within, fitsKind, parametersOf, matchesIn, knownIn, sameIn, passesIn, passedAt, lowestAt, Entered, Called, Dispatched};
 use layout::Found;
+use layout::ownerships;
 use memory::Did;
 use memory::Halt;
 use program::decode;
@@ -135,7 +136,7 @@ fn empty(image: &[u8], at: usize, codes: &mut [u16; 768], k: usize, v: usize, n:
 {
     let mut i: usize = 0;
     while i < n {
-        if lookup::type_of(image, v, i) / 16 == types::OWNED {
+        if lookup::type_of(image, v, i) / 16 == ownerships::OWNED {
             codes[24 * k + decode::listed_register(image, at, i) % 16] = 0;
             i += 1;
         } else {

@@ -16,8 +16,8 @@ use crate::Flowed;
 use crate::actions;
 use layout::Found;
 use layout::kinds;
+use layout::ownerships;
 use program::lookup;
-use typing::types;
 
 /// The registers that `n` fields of the record at `p` name, from the field `from` on, each `step` behind the one before.
 fn named(image: &[u8], p: usize, from: usize, step: usize, n: usize) -> u16
@@ -51,7 +51,7 @@ fn given_owned(image: &[u8], c: usize, p: usize) -> u16
         if types <= i {
             return registers;
         }
-        if lookup::type_of(image, c, i) / 16 == types::OWNED {
+        if lookup::type_of(image, c, i) / 16 == ownerships::OWNED {
             registers = sets::union(registers, sets::only(layout::field(image, p, 4 + i)));
             i += 1;
         } else {
@@ -69,7 +69,7 @@ fn paired_owned(image: &[u8], p: usize) -> u16
     let mut registers: u16 = 0;
     let mut i: usize = 0;
     while i < n {
-        if layout::field(image, p, 5 + i * 2) / 16 == types::OWNED {
+        if layout::field(image, p, 5 + i * 2) / 16 == ownerships::OWNED {
             registers = sets::union(registers, sets::only(layout::field(image, p, 6 + i * 2)));
             i += 1;
         } else {

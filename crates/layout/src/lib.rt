@@ -10,6 +10,7 @@ ghost use Rattle.layout.specs.Turns.{lastAt, turnOf};
 
 pub mod bounds;
 pub mod kinds;
+pub mod ownerships;
 
 /// The offset of the first record that fails a question, or that none does.
 pub enum Found {

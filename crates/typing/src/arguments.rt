@@ -11,6 +11,7 @@ ghost use Rattle.typing.specs.Calls.{argumentsAt, least, Small, callOf, 
 use crate::Call;
 use crate::registers;
 use crate::types;
+use layout::ownerships;
 
 /// The smaller of two numbers.
 fn lesser(a: usize, b: usize) -> usize
@@ -78,14 +79,14 @@ fn argument_fits(image: &[u8], v: usize, p: usize, call: Call, k: usize, l: usiz
     let place = call.place;
     let t = layout::field(image, place, k);
     match t / 16 {
-        types::OWNED => {
+        ownerships::OWNED => {
             if registers::is_owned(image, v, p, l) {
                 occurrences(image, p, call, layout::field(image, p, l)) == 1
             } else {
                 false
             }
         }
-        types::BORROWED => registers::is_vector(image, v, p, l),
+        ownerships::BORROWED => registers::is_vector(image, v, p, l),
         _ => {
             if registers::is_shared(image, v, p, l) {
                 types::is_within(registers::kind_in(image, v, p, l), t % 16)
@@ -129,7 +130,7 @@ fn does_empty(image: &[u8], p: usize, call: Call) -> bool
     let mut k = call.types;
     let mut i: usize = 0;
     while i < n {
-        if layout::field(image, place, k) / 16 == types::OWNED {
+        if layout::field(image, place, k) / 16 == ownerships::OWNED {
             return true;
         }
         i += 1;
@@ -142,7 +143,7 @@ fn does_empty(image: &[u8], p: usize, call: Call) -> bool
 fn return_fits(image: &[u8], v: usize, p: usize, t: usize) -> bool
     ensures { λ r. ⌜ r ≡ fitsReturn (versionAt (now (image .entry)) v) (bodyAt (now (image .entry)) p ! 0) t ⌝ }
 {
-    if t / 16 == types::OWNED {
+    if t / 16 == ownerships::OWNED {
         registers::takes_fresh(image, v, p, 0)
     } else {
         registers::takes_plain(image, v, p, 0, t % 16)

@@ -12,6 +12,7 @@ use crate::registers;
 use crate::types;
 use layout::Found;
 use layout::kinds;
+use layout::ownerships;
 use program::lookup;
 
 /// Are the `n` registers from the field 2 on integers?
@@ -287,10 +288,10 @@ fn body_result_fits(image: &[u8], v: usize, p: usize) -> bool
 {
     let t = layout::field(image, v, 4);
     if types::is_within(registers::kind_in(image, v, p, 1), t % 16) {
-        if t / 16 == types::OWNED {
+        if t / 16 == ownerships::OWNED {
             registers::is_owned(image, v, p, 1)
         } else {
-            registers::type_in(image, v, p, 1) / 16 != types::BORROWED
+            registers::type_in(image, v, p, 1) / 16 != ownerships::BORROWED
         }
     } else {
         false

@@ -6,6 +6,7 @@ ghost use Prim.Native.Nat.{_<_};
 ghost use Rattle.rules.specs.Fits.{typeOf, declaredKind, shared, integer, vector, owned, promise, value, plain, fresh};
 use crate::Owned;
 use crate::types;
+use layout::ownerships;
 use program::lookup;
 
 /// Its declared type.
@@ -26,7 +27,7 @@ pub fn kind_in(image: &[u8], v: usize, p: usize, k: usize) -> usize
 pub fn is_shared(image: &[u8], v: usize, p: usize, k: usize) -> bool
     ensures { λ r. ⌜ r ≡ shared (versionAt (now (image .entry)) v) (bodyAt (now (image .entry)) p ! k) ⌝ }
 {
-    type_in(image, v, p, k) / 16 == types::SHARED
+    type_in(image, v, p, k) / 16 == ownerships::SHARED
 }
 
 /// Is it an integer?

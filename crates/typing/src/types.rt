@@ -3,6 +3,7 @@ ghost use mathlib.Core.Path.{_≡_};
 ghost use Rattle.rules.specs.Types.{parameterType, registerType, returnType, within};
 ghost use Rattle.typing.specs.Calls.{ownedKind};
 use crate::Owned;
+use layout::ownerships;
 
 /// How many kinds there are: 0 any, 1 value, 2 integer, 3 vector, 4 quiet promise, 5 reflective promise.
 pub const KINDS: usize = 6;
@@ -28,15 +29,6 @@ pub const REFLECTIVE: usize = 5;
 /// How many ownerships there are.
 pub const OWNERSHIPS: usize = 3;
 
-/// The ownership of a type that is neither owned nor borrowed.
-pub const SHARED: usize = 0;
-
-/// The ownership of a vector that nothing else holds.
-pub const OWNED: usize = 1;
-
-/// The ownership of a vector that a call lends.
-pub const BORROWED: usize = 2;
-
 /// May the type byte `t` stand at a parameter or in a call signature?
 pub fn parameter_type(t: usize) -> bool
     ensures { λ r. ⌜ r ≡ parameterType t ⌝ }
@@ -46,7 +38,7 @@ pub fn parameter_type(t: usize) -> bool
     if KINDS <= kind {
         return false;
     }
-    if ownership == SHARED {
+    if ownership == ownerships::SHARED {
         return true;
     }
     if ownership < OWNERSHIPS {
@@ -61,7 +53,7 @@ pub fn register_type(t: usize) -> bool
     ensures { λ r. ⌜ r ≡ registerType t ⌝ }
 {
     if parameter_type(t) {
-        t / 16 != BORROWED
+        t / 16 != ownerships::BORROWED
     } else {
         false
     }
@@ -83,7 +75,7 @@ pub fn return_type(t: usize) -> bool
 pub fn owned_kind(t: usize) -> Owned
     ensures { λ r. ⌜ r ≡ ownedKind t ⌝ }
 {
-    if t / 16 == OWNED {
+    if t / 16 == ownerships::OWNED {
         Owned::Kind(t % 16)
     } else {
         Owned::Not
