@@ -179,6 +179,7 @@ fn enter(
 }
 
 /// CALL: opens a call of the version that is named.
+/// Part of the loop, which keeps `table` the image's index and `k` below 32: a test would cost each step.
 pub fn call(
     image: &[u8],
     table: &[u16; 1152],
@@ -397,6 +398,7 @@ fn pick(
 }
 
 /// DISPATCH: opens a call of the lowest version that passes.
+/// Part of the loop, which keeps `table` the image's index and `k` below 32: a test would cost each step.
 pub fn dispatch(
     image: &[u8],
     table: &[u16; 1152],

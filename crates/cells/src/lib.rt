@@ -54,6 +54,7 @@ pub fn is_full(c: u16) -> bool
 }
 
 /// The integer in the register `r` of the frame `k`.
+/// Part of the loop, which keeps `k` below 32: a test would cost each step.
 pub fn integer(codes: &[u16; 768], numbers: &[i32; 768], k: usize, r: u8) -> Whole
     requires { ⌜ k < 32 ⌝ }
     ensures { λ x. ⌜ wholeOf x ≡ integerIn (now (codes .entry)) (now (numbers .entry)) k r ⌝ }
@@ -70,6 +71,7 @@ pub fn integer(codes: &[u16; 768], numbers: &[i32; 768], k: usize, r: u8) -> Who
 }
 
 /// The vector in the register `r` of the frame `k`.
+/// Part of the loop, which keeps `k` below 32: a test would cost each step.
 pub fn vector(codes: &[u16; 768], k: usize, r: u8) -> Found
     requires { ⌜ k < 32 ⌝ }
     ensures { λ x. ⌜ foundOf x ≡ vectorIn (now (codes .entry)) k r ⌝ }
@@ -87,6 +89,7 @@ pub fn vector(codes: &[u16; 768], k: usize, r: u8) -> Found
 }
 
 /// The promise in the register `r` of the frame `k`.
+/// Part of the loop, which keeps `k` below 32: a test would cost each step.
 pub fn promise(codes: &[u16; 768], k: usize, r: u8) -> Found
     requires { ⌜ k < 32 ⌝ }
     ensures { λ x. ⌜ foundOf x ≡ promiseIn (now (codes .entry)) k r ⌝ }
@@ -104,6 +107,7 @@ pub fn promise(codes: &[u16; 768], k: usize, r: u8) -> Found
 }
 
 /// The cell of the register `r` of the frame `k`, where it holds a value.
+/// Part of the loop, which keeps `k` below 32: a test would cost each step.
 pub fn full(codes: &[u16; 768], k: usize, r: u8) -> Found
     requires { ⌜ k < 32 ⌝ }
     ensures { λ x. ⌜ foundOf x ≡ cellWhere isFull (now (codes .entry)) k r ⌝ }
@@ -120,6 +124,7 @@ pub fn full(codes: &[u16; 768], k: usize, r: u8) -> Found
 }
 
 /// The cell of the register `r` of the frame `k`, where it holds a value that is no promise.
+/// Part of the loop, which keeps `k` below 32: a test would cost each step.
 pub fn plain(codes: &[u16; 768], k: usize, r: u8) -> Found
     requires { ⌜ k < 32 ⌝ }
     ensures { λ x. ⌜ foundOf x ≡ cellWhere isPlain (now (codes .entry)) k r ⌝ }
@@ -136,6 +141,7 @@ pub fn plain(codes: &[u16; 768], k: usize, r: u8) -> Found
 }
 
 /// NAMED: what the name `x` of the frame `k` gives.
+/// Part of the loop, which keeps `k` below 32: a test would cost each step.
 pub fn named(codes: &[u16; 768], numbers: &[i32; 768], k: usize, x: u8) -> Gives
     requires { ⌜ k < 32 ⌝ }
     ensures { λ r. ⌜ givesOf r ≡ namedIn (now (codes .entry)) (now (numbers .entry)) k x ⌝ }
@@ -156,6 +162,7 @@ pub fn named(codes: &[u16; 768], numbers: &[i32; 768], k: usize, x: u8) -> Gives
 }
 
 /// ARITH: what the operation gives.
+/// Part of the loop, which keeps `k` below 32: a test would cost each step.
 pub fn arith(codes: &[u16; 768], numbers: &[i32; 768], k: usize, op: u8, a: u8, b: u8) -> Gives
     requires { ⌜ k < 32 ⌝ }
     ensures { λ r. ⌜ givesOf r ≡ arithIn (now (codes .entry)) (now (numbers .entry)) k op a b ⌝ }
@@ -174,6 +181,7 @@ pub fn arith(codes: &[u16; 768], numbers: &[i32; 768], k: usize, op: u8, a: u8, 
 }
 
 /// SELECT: what is chosen.
+/// Part of the loop, which keeps `k` below 32: a test would cost each step.
 pub fn select(codes: &[u16; 768], numbers: &[i32; 768], k: usize, c: u8, a: u8, b: u8) -> Gives
     requires { ⌜ k < 32 ⌝ }
     ensures { λ r. ⌜ givesOf r ≡ selectIn (now (codes .entry)) (now (numbers .entry)) k c a b ⌝ }
@@ -191,6 +199,7 @@ pub fn select(codes: &[u16; 768], numbers: &[i32; 768], k: usize, c: u8, a: u8, 
 }
 
 /// Writes a cell to the register `d` of the frame `k`, where there is one.
+/// Part of the loop, which keeps `k` below 32: a test would cost each step.
 pub fn put(
     codes: &mut [u16; 768],
     numbers: &mut [i32; 768],
@@ -212,6 +221,7 @@ pub fn put(
 }
 
 /// Writes a cell to the name `x` of the frame `k`, where there is one.
+/// Part of the loop, which keeps `k` below 32: a test would cost each step.
 pub fn put_name(
     codes: &mut [u16; 768],
     numbers: &mut [i32; 768],
@@ -233,6 +243,7 @@ pub fn put_name(
 }
 
 /// Gives the register `d` of the frame `k` what a part of a step gave.
+/// Part of the loop, which keeps `k` below 32: a test would cost each step.
 pub fn give(codes: &mut [u16; 768], numbers: &mut [i32; 768], k: usize, d: u8, gives: Gives) -> Did
     requires { ⌜ k < 32 ⌝ }
     ensures { λ r. ⌜ Gave r (now (codes .entry)) (now (codes .exit)) (now (numbers .entry)) (now (numbers .exit)) k d gives ⌝ }

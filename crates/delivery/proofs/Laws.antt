@@ -1,7 +1,8 @@
 -- A list laid over another, and the items that an answer writes.
-use mathlib.Core.Path.{_≡_, refl, ap, _∙_}
+use mathlib.Core.Path.{_≡_, refl, sym, ap, _∙_}
 use mathlib.Core.List.{List, [], _∷_}
 use Prim.Native.Nat.{ℕ, zero, suc, _+_, _≤_, _<_}
+use native.Mathlib.Nat.{le-of-suc-le-suc, not-suc-le-zero}
 use native.Mathlib.Numerals.{add-one}
 use native.Mathlib.Omega.{arith}
 use lib.IntN.{ℤ, pos}
@@ -30,6 +31,20 @@ over-next (x ∷ xs) (y ∷ ys) zero d h = refl
 over-next (x ∷ xs) [] (suc j) d h = refl
 over-next (x ∷ xs) (y ∷ ys) (suc j) d h = ap (λ l. x ∷ l) (over-next xs ys j d (omega (arith, h)))
 
+-- behind the last place nothing is stored
+over-nowhere : {A : Type 0} (xs : List A) → over xs [] ≡ []
+unfolding over
+over-nowhere [] = refl
+over-nowhere (x ∷ xs) = refl
+
+over-full : {A : Type 0} (xs ys : List A) (j n : ℕ) → length ys ≤ j → j ≤ n → over (take j xs) ys ≡ over (take n xs) ys
+unfolding over
+over-full xs [] j n h g = over-nowhere (take j xs) ∙ sym (over-nowhere (take n xs))
+over-full xs (y ∷ ys) zero n h g = absurd (not-suc-le-zero h)
+over-full xs (y ∷ ys) (suc j) zero h g = absurd (not-suc-le-zero g)
+over-full [] (y ∷ ys) (suc j) (suc n) h g = refl
+over-full (x ∷ xs) (y ∷ ys) (suc j) (suc n) h g = ap (λ l. x ∷ l) (over-full xs ys j n (le-of-suc-le-suc h) (le-of-suc-le-suc g))
+
 -- the first j items are in the buffer
 module _ (xs ys buffer : List ℤ) (j : ℕ) (there : buffer ≡ over (take j xs) ys) where
   -- the item as it is read
@@ -39,6 +54,10 @@ module _ (xs ys buffer : List ℤ) (j : ℕ) (there : buffer ≡ over (take j xs
   -- they are those asked for, as n is j
   pub there-enough : (n : ℕ) → j ≤ n → n ≤ j → buffer ≡ over (take n xs) ys
   there-enough n a b = let e : j ≡ n = omega arith in rw (← e) there
+
+  -- or as there is no place for more
+  pub there-full : (n : ℕ) → j ≤ n → length ys ≤ j → buffer ≡ over (take n xs) ys
+  there-full n a b = there ∙ over-full xs ys j n b a
 
   -- or as there are no more
   pub there-all : (n : ℕ) → j ≤ n → length xs ≤ j → buffer ≡ over (take n xs) ys

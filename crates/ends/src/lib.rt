@@ -146,6 +146,7 @@ fn end_call(
 }
 
 /// The end of the block that a run stands at.
+/// Part of the loop, which keeps `table` the image's index and the spot within the arrays: a test would cost each step.
 pub fn finish(
     image: &[u8],
     table: &[u16; 1152],

@@ -2,7 +2,7 @@
 use mathlib.Core.Path.{_≡_, sym, ap, _∙_}
 use mathlib.Core.List.{List}
 use mathlib.Core.Bool.{cond}
-use Prim.Native.Nat.{ℕ, _<_}
+use Prim.Native.Nat.{ℕ}
 use lib.IntN.{ℤ}
 use lib.ListN.{length}
 use lib.Dec.{ltb}
@@ -22,14 +22,10 @@ use Rattle.instructions.specs.declared.Turn.{Turn}
 use Rattle.machine.specs.Begin.{programOf}
 use Rattle.machine.specs.Runs.{runFrom}
 use Rattle.machine.specs.declared.Status.{Status}
-use Rattle.stepping.specs.Going.{Placed, Resumes, ranOf}
+use Rattle.stepping.specs.Going.{Resumes, ranOf}
 use Rattle.stepping.specs.declared.Counted.{Counted}
 use Rattle.engine.specs.Parts.{endedWith, goingWith, outcomeOf, stateWith}
 use Rattle.engine.specs.declared.Outcome.{Outcome}
-
-pub placed-vector : {t : Turn} {v : ℕ} → Placed t → t ≡ Turn.Vector v → v < 64
-unfolding Placed
-placed-vector p e = rw e at p
 
 -- the arrays with their outcome are what the run has come to
 pub come : (t : Turn) (owners codes : List ℕ) (numbers : List ℤ) (stack lengths : List ℕ) (items : List ℤ) (promises : List ℕ) (caches result : List ℤ) (calls depth n : ℕ) (o : Outcome) → o ≡ outcomeOf t lengths items result calls depth

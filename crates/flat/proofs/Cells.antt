@@ -4,7 +4,7 @@ use mathlib.Core.List.{List}
 use Prim.Native.Nat.{ℕ, _+_, _-_, _*_, _≤_, _<_}
 use native.Mathlib.Omega.{arith}
 use lib.IntN.{ℤ, pos}
-use lib.ListN.{length, getD, set, take, length-set}
+use lib.ListN.{length, getD, set, take, length-set, List·getD-eq-default}
 use lib.Seq.{getD-set-same}
 use mir.Facts.{toZ-ofZ}
 use mir.Syntax.{w32}
@@ -51,6 +51,11 @@ cell-kept j h k l = rw (at-kept j 0 h k, at-kept j (pos 0) h l) refl
 pub cell-read : (s : List ℕ) (x : List ℤ) (i : ℕ) (v : Value) (z : ℤ) → v ≡ valueOf (s ! i) z → z ≡ getD x i (pos 0) → v ≡ cellIn s x i
 unfolding cellIn
 cell-read s x i v z e f = rw (e, f) refl
+
+-- a cell that is not there holds nothing
+pub cell-none : (s : List ℕ) (x : List ℤ) (i : ℕ) → length s ≤ i → Value.Empty ≡ cellIn s x i
+unfolding cellIn valueOf
+cell-none s x i h = rw (List·getD-eq-default s 0 {n = i} h) refl
 
 module _ (s : List ℕ) (x : List ℤ) (i : ℕ) (inside : i < 768) (all : length s ≡ 768) (many : length x ≡ 768) where
   code-loaded : (c : ℕ) (v : Value) → valueOf c (getD x i (pos 0)) ≡ v → CellLoaded s (set s i c) x x i v

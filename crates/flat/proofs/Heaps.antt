@@ -1,10 +1,10 @@
 -- Vectors as a length and sixteen items each.
-use mathlib.Core.Path.{_≡_, _∙_}
+use mathlib.Core.Path.{_≡_, sym, _∙_}
 use mathlib.Core.List.{List}
-use Prim.Native.Nat.{ℕ, _+_, _*_, _<_}
+use Prim.Native.Nat.{ℕ, _+_, _*_, _≤_, _<_}
 use native.Mathlib.Omega.{arith}
 use lib.IntN.{ℤ, pos}
-use lib.ListN.{length, getD, set, take}
+use lib.ListN.{length, getD, set, take, List·getD-eq-default}
 use lib.Seq.{getD-set-same}
 use Rattle.machine.specs.declared.Vector.{Vector}
 use Rattle.memory.specs.Lists.{upTo}
@@ -12,6 +12,14 @@ use Rattle.memory.specs.Memory.{vectorIn, itemIn}
 use Rattle.memory.proofs.Lists.{upTo-same}
 use Rattle.flat.specs.Arrays.{Kept, VectorLoaded, ItemsLoaded, itemsIn}
 use Rattle.flat.proofs.Parts.{load-one, at-kept, kept-set, below}
+
+-- a vector that is not there has no items
+pub vector-none : (l : List ℕ) (x : List ℤ) (v : ℕ) → length l ≤ v → length x ≤ 16 * v → record { length = 0; items = upTo (λ (j : ℕ). pos 0) 0 16 } ≡ vectorIn l x v
+unfolding vectorIn
+vector-none l x v h g =
+    let e = upTo-same (λ (j : ℕ). pos 0) (itemIn x v) 0 16 (λ j a b. sym (List·getD-eq-default x (pos 0) {n = 16 * v + j} (omega (arith, g)))) in
+    let f = sym (List·getD-eq-default l 0 {n = v} h) in
+    λ i. record { length = f i; items = e i }
 
 items-kept : (x y : List ℤ) (i j : ℕ) → j < i → Kept (16 * i) x y → itemsIn y j ≡ itemsIn x j
 unfolding itemsIn

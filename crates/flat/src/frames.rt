@@ -28,11 +28,13 @@ fn value(c: u16, z: i32) -> Value
     Value::Empty
 }
 
-/// The value of the cell `i`. Public for the C interface, which asks for one that is there.
+/// The value of the cell `i`; a cell that is not there holds nothing.
 pub fn cell(codes: &[u16; 768], numbers: &[i32; 768], i: usize) -> Value
-    requires { ⌜ i < 768 ⌝ }
     ensures { λ r. ⌜ r ≡ cellIn (now (codes .entry)) (now (numbers .entry)) i ⌝ }
 {
+    if memory::halves(codes) <= i {
+        return Value::Empty;
+    }
     value(codes[i], numbers[i])
 }
 

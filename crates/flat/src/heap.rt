@@ -21,11 +21,17 @@ fn items_of(items: &[i32; 1024], v: usize) -> [i32; 16]
     all
 }
 
-/// The vector `v`. Public for the engine and the C interface, which ask for one that is there.
+/// The vector `v`; one that is not there has no items.
 pub fn vector(lengths: &[u8; 64], items: &[i32; 1024], v: usize) -> Vector
-    requires { ⌜ v < 64 ⌝ }
     ensures { λ r. ⌜ r ≡ vectorIn (now (lengths .entry)) (now (items .entry)) v ⌝ }
 {
+    memory::words(items);
+    if memory::bytes(lengths) <= v {
+        return Vector {
+            length: 0,
+            items: [0; 16],
+        };
+    }
     let own = items_of(items, v);
     Vector {
         length: lengths[v],

@@ -99,6 +99,7 @@ pub fn of(image: &[u8]) -> [u16; 1152]
 }
 
 /// Where the version `w` of the function `f` stands. The index is the image's.
+/// Part of the loop, which keeps `index` the image's index: a test would cost each step.
 pub fn version(image: &[u8], index: &[u16; 1152], f: usize, w: usize) -> Found
     requires { ⌜ Indexed (now image) (now index) ⌝ }
     ensures { λ r. ⌜ r ≡ versionPlace (now (image .entry)) f w ⌝ }
@@ -154,6 +155,7 @@ fn entered(image: &[u8], index: &[u16; 1152], f: usize, w: usize, v: usize, b: u
 }
 
 /// Where the block `b` of the version at `v` stands. The index is the image's.
+/// Part of the loop, which keeps `index` the image's index: a test would cost each step.
 pub fn block(image: &[u8], index: &[u16; 1152], v: usize, b: usize) -> Found
     requires { ⌜ Indexed (now image) (now index) ⌝ }
     ensures { λ r. ⌜ r ≡ blockPlace (now (image .entry)) v b ⌝ }

@@ -49,6 +49,7 @@ fn promise_kind(
 }
 
 /// The kind of the value of a cell with the code `c`, 0 where it has none.
+/// Part of the loop, which keeps `table` the image's index: a test would cost each step.
 pub fn kind_of(
     image: &[u8],
     table: &[u16; 1152],
@@ -80,6 +81,7 @@ pub fn kind_of(
 }
 
 /// The kind of what the register `r` of the frame `k` holds, 0 where it has none.
+/// Part of the loop, which keeps `table` the image's index and `k` below 32: a test would cost each step.
 pub fn argument_kind(
     image: &[u8],
     table: &[u16; 1152],
@@ -140,6 +142,7 @@ fn typed(
 }
 
 /// MOVE: what the register `d` gets, in the frame `k` of the version at `v`.
+/// Part of the loop, which keeps `table` the image's index and `k` below 32: a test would cost each step.
 pub fn moved(
     image: &[u8],
     table: &[u16; 1152],
@@ -173,6 +176,7 @@ pub fn moved(
 }
 
 /// CAST: what the register `d` gets, in the frame `k` of the version at `v`.
+/// Part of the loop, which keeps `table` the image's index and `k` below 32: a test would cost each step.
 pub fn cast(
     image: &[u8],
     table: &[u16; 1152],

@@ -1,6 +1,7 @@
 //! The state of a run as flat arrays of numbers, which a step reads and writes in place. No function passes a whole state.
 ghost use mathlib.Core.Path.{_≡_};
 ghost use Prim.Native.Nat.{_<_};
+ghost use lib.ListN.{length};
 ghost use Rattle.memory.specs.Parts.{endOf, pushed};
 use machine::End;
 
@@ -55,4 +56,25 @@ pub fn push(stack: &mut [u8; 192], depth: usize, o: u8, p: u8, d: u8, frame: u8,
     stack[6 * depth + 3] = frame;
     stack[6 * depth + 4] = block;
     stack[6 * depth + 5] = 0;
+}
+
+/// How many bytes there are.
+pub fn bytes(s: &[u8]) -> usize
+    ensures { λ r. ⌜ r ≡ length (now (s .entry)) ⌝ }
+{
+    s.len()
+}
+
+/// How many codes there are.
+pub fn halves(s: &[u16]) -> usize
+    ensures { λ r. ⌜ r ≡ length (now (s .entry)) ⌝ }
+{
+    s.len()
+}
+
+/// How many integers there are.
+pub fn words(s: &[i32]) -> usize
+    ensures { λ r. ⌜ r ≡ length (now (s .entry)) ⌝ }
+{
+    s.len()
 }

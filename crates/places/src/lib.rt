@@ -54,6 +54,7 @@ fn nowhere(calls: usize, depth: usize) -> Spot
 }
 
 /// Where the activation on top stands.
+/// Part of the loop, which keeps `table` the image's index: a test would cost each step.
 pub fn locate(
     image: &[u8],
     table: &[u16; 1152],

@@ -24,6 +24,7 @@ pub enum Forced {
 }
 
 /// USE: the register `d` of the frame `k` gets the vector of its register `a`, which is emptied.
+/// Part of the loop, which keeps `k` below 32: a test would cost each step.
 pub fn use_up(codes: &mut [u16; 768], numbers: &mut [i32; 768], k: usize, d: u8, a: u8) -> Did
     requires { ⌜ k < 32 ⌝ }
     ensures { λ r. ⌜ Changed r (now (codes .entry)) (now (codes .exit)) (now (numbers .entry)) (now (numbers .exit)) k (USE d a) ⌝ }
@@ -64,6 +65,7 @@ fn set_name(
 }
 
 /// STORE: the name `x` of the frame `k` gets the value of its register `a`.
+/// Part of the loop, which keeps `k` below 32: a test would cost each step.
 pub fn store(codes: &mut [u16; 768], numbers: &mut [i32; 768], k: usize, x: u8, a: u8) -> Did
     requires { ⌜ k < 32 ⌝ }
     ensures { λ r. ⌜ Changed r (now (codes .entry)) (now (codes .exit)) (now (numbers .entry)) (now (numbers .exit)) k (STORE x a) ⌝ }
@@ -93,6 +95,7 @@ fn frame_of(codes: &[u16; 768], promises: &[u8; 192], calls: usize, k: usize, a:
 }
 
 /// POKE: the name `x` of the frame of the promise in the register `a` gets the value of the register `e`.
+/// Part of the loop, which keeps `k` below 32: a test would cost each step.
 pub fn poke(
     codes: &mut [u16; 768],
     numbers: &mut [i32; 768],
@@ -113,6 +116,7 @@ pub fn poke(
 }
 
 /// PEEK: what the name `x` of the frame of the promise in the register `a` gives.
+/// Part of the loop, which keeps `k` below 32: a test would cost each step.
 pub fn peek(
     codes: &[u16; 768],
     numbers: &[i32; 768],
@@ -177,6 +181,7 @@ fn cached(put: bool) -> Forced
 }
 
 /// FORCE: the register `d` gets the integer of the promise in the register `a`, or the promise's block opens.
+/// Part of the loop, which keeps `k` below 32: a test would cost each step.
 pub fn force(
     codes: &mut [u16; 768],
     numbers: &mut [i32; 768],
@@ -238,6 +243,7 @@ pub fn free_promise(codes: &[u16; 768], stack: &[u8; 192], calls: usize, depth: 
 }
 
 /// PROM: the register `d` gets a new promise of the block `block` in the frame `k` of the version at `v`.
+/// Part of the loop, which keeps `table` the image's index and `k` below 32: a test would cost each step.
 pub fn prom(
     image: &[u8],
     table: &[u16; 1152],

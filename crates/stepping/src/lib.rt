@@ -4,7 +4,6 @@ ghost use mathlib.Core.Path.{_≡_};
 ghost use mathlib.Core.Bool.{true};
 ghost use Prim.Native.Nat.{_<_, _≤_};
 ghost use lib.Dec.{ltb};
-ghost use lib.ListN.{length};
 ghost use Rattle.layout.specs.Tests.{_and_};
 ghost use Rattle.program.specs.Places.{isLine};
 ghost use Rattle.machine.specs.Runs.{lastStep};
@@ -230,27 +229,6 @@ fn go(
     tally(Turn::On, spot, n)
 }
 
-/// How many bytes there are.
-fn bytes(s: &[u8]) -> usize
-    ensures { λ r. ⌜ r ≡ length (now (s .entry)) ⌝ }
-{
-    s.len()
-}
-
-/// How many codes there are.
-fn halves(s: &[u16]) -> usize
-    ensures { λ r. ⌜ r ≡ length (now (s .entry)) ⌝ }
-{
-    s.len()
-}
-
-/// How many integers there are.
-fn words(s: &[i32]) -> usize
-    ensures { λ r. ⌜ r ≡ length (now (s .entry)) ⌝ }
-{
-    s.len()
-}
-
 /// The arrays have the lengths that their types say, which a proof learns from slices of them.
 fn measure(
     owners: &[u8; 64],
@@ -264,14 +242,14 @@ fn measure(
 )
     ensures { λ _. ⌜ Sized (memoryOf (now (owners .entry)) (now (codes .entry)) (now (numbers .entry)) (now (stack .entry)) (now (lengths .entry)) (now (items .entry)) (now (promises .entry)) (now (caches .entry))) ⌝ }
 {
-    bytes(owners);
-    halves(codes);
-    words(numbers);
-    bytes(stack);
-    bytes(lengths);
-    words(items);
-    bytes(promises);
-    words(caches);
+    memory::bytes(owners);
+    memory::halves(codes);
+    memory::words(numbers);
+    memory::bytes(stack);
+    memory::bytes(lengths);
+    memory::words(items);
+    memory::bytes(promises);
+    memory::words(caches);
 }
 
 /// Goes on with the run that the arrays stand for, at most `budget` steps.

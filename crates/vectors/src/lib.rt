@@ -25,6 +25,7 @@ fn same(a: u16, b: u16) -> u16
 }
 
 /// How many of the first `cells` cells have the code `c`. It counts in the width of a code, so that eight cells are compared at once.
+/// Part of the loop, which keeps `cells` within the array: a test would cost each step.
 pub fn count(codes: &[u16; 768], cells: usize, c: u16) -> usize
     requires { ⌜ cells ≤ 768 ⌝ }
     ensures { λ r. ⌜ r ≡ occurrences (now (codes .entry)) cells c ⌝ }
@@ -61,6 +62,7 @@ fn shown(lengths: &[u8; 64], v: usize) -> u8
 }
 
 /// LEN: what the vector in the register `a` of the frame `k` gives.
+/// Part of the loop, which keeps `k` below 32: a test would cost each step.
 pub fn len(codes: &[u16; 768], lengths: &[u8; 64], k: usize, a: u8) -> Gives
     requires { ⌜ k < 32 ⌝ }
     ensures { λ r. ⌜ Measured r (now (codes .entry)) (now (lengths .entry)) k a ⌝ }
@@ -76,6 +78,7 @@ pub fn len(codes: &[u16; 768], lengths: &[u8; 64], k: usize, a: u8) -> Gives
 }
 
 /// GET: what the item of the vector in the register `a` of the frame `k` is, by the index in its register `i`.
+/// Part of the loop, which keeps `k` below 32: a test would cost each step.
 pub fn get(
     codes: &[u16; 768],
     numbers: &[i32; 768],
@@ -120,6 +123,7 @@ pub fn free_vector(codes: &[u16; 768], calls: usize) -> Found
 
 /// SET: writes the integer in the register `e` of the frame `k` to the vector in its register `a`, which no other register
 /// or name of the live calls holds, by the index in its register `i`.
+/// Part of the loop, which keeps `k` below 32: a test would cost each step.
 pub fn set(
     codes: &[u16; 768],
     numbers: &[i32; 768],
@@ -171,6 +175,7 @@ fn copy_items(items: &mut [i32; 1024], v: usize, n: usize)
 }
 
 /// DUP: a copy of the vector in the register `a` of the frame `k`, into its register `d`.
+/// Part of the loop, which keeps `k` below 32: a test would cost each step.
 pub fn dup(
     codes: &mut [u16; 768],
     lengths: &mut [u8; 64],
@@ -254,6 +259,7 @@ fn fill(
 }
 
 /// VEC: a vector of the integers in the `n` registers of the frame `k` that the VEC at `p` lists, into its register `d`.
+/// Part of the loop, which keeps `k` below 32: a test would cost each step.
 pub fn vec(
     image: &[u8],
     p: usize,

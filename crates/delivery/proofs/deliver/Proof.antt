@@ -26,7 +26,7 @@ cast-put-items : tie.Need-cast-put-items
 cast-put-items c = search needs
 
 put-items-requires : tie.Need-put-items-requires
-put-items-requires c κs = c .before .before .before .before .before .before .before .pre
+put-items-requires c κs = search needs
 
 enum-told-4 : tie.Need-enum-told-4
 enum-told-4 c = search needs

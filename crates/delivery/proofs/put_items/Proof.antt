@@ -1,13 +1,15 @@
--- `delivery::put_items`: after j turns the first j items are in the buffer.
-use mathlib.Core.Path.{_≡_, refl}
-use Prim.Native.Nat.{_-_, _≤_}
-use native.Mathlib.Omega.{arith}
-use borrow.Author.Needs.{needs}
-use lib.ListN.{length, take, length-set}
+use Rattle.delivery.proofs.Laws.{over-none, there-next, there-enough, there-full, there-all}
 use Rattle.machine.specs.States.{over}
-use Rattle.delivery.proofs.Laws.{over-none, there-next, there-enough, there-all}
+use lib.ListN.{length, take, length-set}
+use borrow.Author.Needs.{needs}
+use native.Mathlib.Omega.{arith}
+use Prim.Native.Nat.{_-_, _≤_}
+use mathlib.Core.Path.{_≡_, refl}
+-- `delivery::put_items`: after j turns the first j items are in the buffer.
 use Rattle.delivery.proofs.put_items.Statement.{statement}
 use Rattle.delivery.proofs.put_items.Tie as tie
+use Rattle.delivery.proofs.put_items.Reads as reads
+use Rattle.delivery.proofs.put_items.Lts as lts
 
 abbrev Inv-loop : tie.InvT-loop
 Inv-loop buffer₀ n result j₀ buffer j = (j ≤ n) × (j ≤ 16) × (buffer ≡ over (take j result) buffer₀) × (length buffer ≡ length buffer₀)
@@ -16,40 +18,60 @@ abbrev μ-loop : tie.MeasureT-loop
 μ-loop buffer₀ n result j₀ buffer j = 16 - j
 
 loop-holds : tie.Need-loop-holds Inv-loop μ-loop
-loop-holds c = (omega arith, omega arith, over-none _, refl)
+loop-holds c =
+    (omega arith, omega arith, over-none _, refl)
 
 same-length : tie.Need-same-length Inv-loop μ-loop
-same-length c = c .before .before .loop .inv .3
+same-length c =
+    (c .before .before .loop) .inv .3
 
 returns : tie.Need-returns Inv-loop μ-loop
-returns c = there-enough _ _ _ _ (c .before .before .loop .inv .2) _ (c .before .before .loop .inv .0) (omega arith)
-
-mul-buffer : tie.Need-mul-buffer Inv-loop μ-loop
-mul-buffer c = search needs
-
-array-copy-out-buffer : tie.Need-array-copy-out-buffer Inv-loop μ-loop
-array-copy-out-buffer c = search needs
-
-mul-t11 : tie.Need-mul-t11 Inv-loop μ-loop
-mul-t11 c = search needs
-
-slice-set-from-buffer : tie.Need-slice-set-from-buffer Inv-loop μ-loop
-slice-set-from-buffer c = search needs
-
-add-j : tie.Need-add-j Inv-loop μ-loop
-add-j c = search needs
-
-loop-less : tie.Need-loop-less Inv-loop μ-loop
-loop-less c = search needs
-
-loop-again : tie.Need-loop-again Inv-loop μ-loop
-loop-again c = (omega arith, omega arith, there-next _ _ _ _ (c .before .before .before .loop .inv .2) (search needs) (search needs), rw length-set (c .before .before .before .loop .inv .3))
+returns c =
+    there-enough _ _ _ _ ((c .before .before .loop) .inv .2) _ ((c .before .before .loop) .inv .0) (omega arith)
 
 same-length-2 : tie.Need-same-length-2 Inv-loop μ-loop
-same-length-2 c = c .before .loop .inv .3
+same-length-2 c =
+    (c .before .before .before .loop) .inv .3
 
 returns-2 : tie.Need-returns-2 Inv-loop μ-loop
-returns-2 c = there-all _ _ _ _ (c .before .loop .inv .2) _ (c .before .loop .inv .0) (search needs)
+returns-2 c =
+    there-full _ _ _ _ ((c .before .before .before .loop) .inv .2) _ ((c .before .before .before .loop) .inv .0) (omega (arith, (c .before .before .before .loop) .inv .3))
+
+mul-buffer : tie.Need-mul-buffer Inv-loop μ-loop
+mul-buffer c =
+    search needs
+
+array-copy-out-buffer : tie.Need-array-copy-out-buffer Inv-loop μ-loop
+array-copy-out-buffer c =
+    search needs
+
+mul-t11 : tie.Need-mul-t11 Inv-loop μ-loop
+mul-t11 c =
+    search needs
+
+slice-set-from-buffer : tie.Need-slice-set-from-buffer Inv-loop μ-loop
+slice-set-from-buffer c =
+    search needs
+
+add-j : tie.Need-add-j Inv-loop μ-loop
+add-j c =
+    search needs
+
+loop-less : tie.Need-loop-less Inv-loop μ-loop
+loop-less c =
+    search needs
+
+loop-again : tie.Need-loop-again Inv-loop μ-loop
+loop-again c =
+    (omega arith, omega arith, there-next _ _ _ _ ((c .before .before .before .before .loop) .inv .2) (search needs) (search needs), rw length-set ((c .before .before .before .before .loop) .inv .3))
+
+same-length-3 : tie.Need-same-length-3 Inv-loop μ-loop
+same-length-3 c =
+    (c .before .loop) .inv .3
+
+returns-3 : tie.Need-returns-3 Inv-loop μ-loop
+returns-3 c =
+    there-all _ _ _ _ ((c .before .loop) .inv .2) _ ((c .before .loop) .inv .0) (search needs)
 
 pub put-items-spec : {M : Type 1} → statement M
 put-items-spec =
@@ -60,6 +82,8 @@ put-items-spec =
     loop-holds
     same-length
     returns
+    same-length-2
+    returns-2
     mul-buffer
     array-copy-out-buffer
     mul-t11
@@ -67,5 +91,5 @@ put-items-spec =
     add-j
     loop-less
     loop-again
-    same-length-2
-    returns-2)
+    same-length-3
+    returns-3)

@@ -2,7 +2,7 @@
 use mir.Facts.{toZ-ofZ}
 use mir.Syntax.{w32}
 use mir.Val.{SFits}
-use Rattle.engine.proofs.Resuming.{placed-vector, out-on, out-stack, out-integer, out-vector, out-stuck, out-stop}
+use Rattle.engine.proofs.Resuming.{out-on, out-stack, out-integer, out-vector, out-stuck, out-stop}
 use borrow.Author.Needs.{needs}
 use Rattle.engine.proofs.come_to.Statement.{statement}
 use Rattle.engine.proofs.come_to.Tie as tie
@@ -42,8 +42,7 @@ enum-known-turn-2 : tie.Need-enum-known-turn-2
 enum-known-turn-2 c = search needs
 
 vector-requires : tie.Need-vector-requires
-vector-requires c κs =
-    placed-vector ((c .before .before .before .before .before) .pre .2) ((c .before .turn2) .given .1)
+vector-requires c κs = search needs
 
 shown-requires : tie.Need-shown-requires
 shown-requires c κs = search needs

@@ -1,6 +1,5 @@
 -- `abi::parts::settle`: by the last turn.
 use Rattle.abi.proofs.Coming.{comes-on, comes-stack, comes-stuck, comes-integer, comes-vector, comes-stop}
-use Rattle.engine.proofs.Resuming.{placed-vector}
 use mir.Facts.{toZ-ofZ}
 use mir.Syntax.{w32}
 use mir.Val.{SFits}
@@ -30,8 +29,7 @@ enum-known-turn-2 : tie.Need-enum-known-turn-2
 enum-known-turn-2 c = search needs
 
 vector-requires : tie.Need-vector-requires
-vector-requires c κs =
-    placed-vector ((c .before .before .before .before .before) .pre .2) ((c .before .turn2) .given .1)
+vector-requires c κs = search needs
 
 shown-requires : tie.Need-shown-requires
 shown-requires c κs = search needs
