@@ -19,18 +19,34 @@ unfoldable pub ask : ℕ → Found → Verdict → Verdict
 ask n Nothing more = more
 ask n (At p) more = Refused n p
 
--- the ten questions in order; an image that passes them all is accepted, with its number of versions
+-- the questions in order, each with those from it on; an image that passes them all is accepted, with its number of versions
+abbrev pub from10 : List ℕ → Verdict
+from10 s = ask 10 (first (question10 (program (records s))) (program (records s))) (Accepted (length (program (records s))))
+
+abbrev pub from9 : List ℕ → Verdict
+from9 s = ask 9 (first (question9 (program (records s))) (program (records s))) (from10 s)
+
+abbrev pub from8 : List ℕ → Verdict
+from8 s = ask 8 (first (question8 (program (records s))) (program (records s))) (from9 s)
+
+abbrev pub from7 : List ℕ → Verdict
+from7 s = ask 7 (first (question7 (program (records s))) (program (records s))) (from8 s)
+
+abbrev pub from6 : List ℕ → Verdict
+from6 s = ask 6 (first question6 (program (records s))) (from7 s)
+
+abbrev pub from5 : List ℕ → Verdict
+from5 s = ask 5 (question5 (records s)) (from6 s)
+
+abbrev pub from4 : List ℕ → Verdict
+from4 s = ask 4 (question4 (length s) (records s)) (from5 s)
+
+abbrev pub from3 : List ℕ → Verdict
+from3 s = ask 3 (question3 (records s)) (from4 s)
+
+abbrev pub from2 : List ℕ → Verdict
+from2 s = ask 2 (question2 (records s)) (from3 s)
+
+-- the ten questions: those from 1 on
 unfoldable pub verdictOf : List ℕ → Verdict
-verdictOf s =
-    let rs = records s in
-    let P = program rs in
-    ask 1 (question1 s)
-    (ask 2 (question2 rs)
-    (ask 3 (question3 rs)
-    (ask 4 (question4 (length s) rs)
-    (ask 5 (question5 rs)
-    (ask 6 (first question6 P)
-    (ask 7 (first (question7 P) P)
-    (ask 8 (first (question8 P) P)
-    (ask 9 (first (question9 P) P)
-    (ask 10 (first (question10 P) P) (Accepted (length P)))))))))))
+verdictOf s = ask 1 (question1 s) (from2 s)

@@ -3,7 +3,7 @@ ghost use mathlib.Core.Path.{_≡_};
 ghost use lib.ListN.{length};
 ghost use Rattle.layout.specs.Records.{records};
 ghost use Rattle.program.specs.Program.{program};
-ghost use Rattle.checker.specs.Verdicts.{verdictOf};
+ghost use Rattle.checker.specs.Verdicts.{from2, from3, from4, from5, from6, from7, from8, from9, from10, verdictOf};
 use crate::Verdict;
 use flow::question10;
 use layout::Found;
@@ -33,6 +33,96 @@ fn count_versions(image: &[u8]) -> usize
     count
 }
 
+/// The questions from 10 on.
+fn from_10(image: &[u8]) -> Verdict
+    ensures { λ r. ⌜ r ≡ from10 (now (image .entry)) ⌝ }
+{
+    if let Found::At(p) = question10::question_10(image) {
+        return Verdict::Refused(10, p);
+    }
+    Verdict::Accepted(count_versions(image))
+}
+
+/// The questions from 9 on.
+fn from_9(image: &[u8]) -> Verdict
+    ensures { λ r. ⌜ r ≡ from9 (now (image .entry)) ⌝ }
+{
+    if let Found::At(p) = question9::question_9(image) {
+        return Verdict::Refused(9, p);
+    }
+    from_10(image)
+}
+
+/// The questions from 8 on.
+fn from_8(image: &[u8]) -> Verdict
+    ensures { λ r. ⌜ r ≡ from8 (now (image .entry)) ⌝ }
+{
+    if let Found::At(p) = question8::question_8(image) {
+        return Verdict::Refused(8, p);
+    }
+    from_9(image)
+}
+
+/// The questions from 7 on.
+fn from_7(image: &[u8]) -> Verdict
+    ensures { λ r. ⌜ r ≡ from7 (now (image .entry)) ⌝ }
+{
+    if let Found::At(p) = question7::question_7(image) {
+        return Verdict::Refused(7, p);
+    }
+    from_8(image)
+}
+
+/// The questions from 6 on.
+fn from_6(image: &[u8]) -> Verdict
+    ensures { λ r. ⌜ r ≡ from6 (now (image .entry)) ⌝ }
+{
+    if let Found::At(p) = question6::question_6(image) {
+        return Verdict::Refused(6, p);
+    }
+    from_7(image)
+}
+
+/// The questions from 5 on.
+fn from_5(image: &[u8]) -> Verdict
+    ensures { λ r. ⌜ r ≡ from5 (now (image .entry)) ⌝ }
+{
+    if let Found::At(p) = layout::question_5(image) {
+        return Verdict::Refused(5, p);
+    }
+    from_6(image)
+}
+
+/// The questions from 4 on.
+fn from_4(image: &[u8]) -> Verdict
+    ensures { λ r. ⌜ r ≡ from4 (now (image .entry)) ⌝ }
+{
+    if let Found::At(p) = layout::question_4(image) {
+        return Verdict::Refused(4, p);
+    }
+    from_5(image)
+}
+
+/// The questions from 3 on.
+fn from_3(image: &[u8]) -> Verdict
+    ensures { λ r. ⌜ r ≡ from3 (now (image .entry)) ⌝ }
+{
+    if let Found::At(p) = layout::question_3(image) {
+        return Verdict::Refused(3, p);
+    }
+    from_4(image)
+}
+
+/// The questions from 2 on.
+fn from_2(image: &[u8]) -> Verdict
+    ensures { λ r. ⌜ r ≡ from2 (now (image .entry)) ⌝ }
+{
+    if let Found::At(p) = layout::question_2(image) {
+        return Verdict::Refused(2, p);
+    }
+    from_3(image)
+}
+
 /// The verdict on an image: accepted with its number of versions, or refused with the question's number and the offset.
 pub fn verdict(image: &[u8]) -> Verdict
     ensures { λ r. ⌜ r ≡ verdictOf (now (image .entry)) ⌝ }
@@ -40,32 +130,5 @@ pub fn verdict(image: &[u8]) -> Verdict
     if let Found::At(p) = layout::question_1(image) {
         return Verdict::Refused(1, p);
     }
-    if let Found::At(p) = layout::question_2(image) {
-        return Verdict::Refused(2, p);
-    }
-    if let Found::At(p) = layout::question_3(image) {
-        return Verdict::Refused(3, p);
-    }
-    if let Found::At(p) = layout::question_4(image) {
-        return Verdict::Refused(4, p);
-    }
-    if let Found::At(p) = layout::question_5(image) {
-        return Verdict::Refused(5, p);
-    }
-    if let Found::At(p) = question6::question_6(image) {
-        return Verdict::Refused(6, p);
-    }
-    if let Found::At(p) = question7::question_7(image) {
-        return Verdict::Refused(7, p);
-    }
-    if let Found::At(p) = question8::question_8(image) {
-        return Verdict::Refused(8, p);
-    }
-    if let Found::At(p) = question9::question_9(image) {
-        return Verdict::Refused(9, p);
-    }
-    if let Found::At(p) = question10::question_10(image) {
-        return Verdict::Refused(10, p);
-    }
-    Verdict::Accepted(count_versions(image))
+    from_2(image)
 }
