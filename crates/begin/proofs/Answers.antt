@@ -67,7 +67,7 @@ module _ (W : Version) (o : Option (List Given)) (buffer : List ℤ) (m : Filled
       go none k = absurd (true≢false (sym k))
       go (some xs) k = rw (question13-by (firstState (frameFor W (valuesOf xs 0) ∷ []) (vectorsOf xs)) buffer, le-leb ITEMS (length buffer) l) refl
 
--- ---- question 11, behind the ten
+-- ---- question 11, behind those to the image
 
 module _ (s : List ℕ) (f v : ℕ) (words buffer : List ℤ) where
   pub refused-by : (q p : ℕ) → verdictOf s ≡ Refused q p → refused q p ≡ beginOf s f v words buffer

@@ -1,4 +1,4 @@
-//! Beginning a run: the ten questions to its image, 11 to 13 behind them, and the state before its first step.
+//! Beginning a run: the questions to its image, 11 to 13 behind them, and the state before its first step.
 ghost use mathlib.Core.Path.{_≡_};
 ghost use mathlib.Core.List.{[]};
 ghost use mathlib.Core.Option.{bind, none};

@@ -13,17 +13,18 @@ use Rattle.layout.specs.Questions.{question1, question2, lengthOf, question3, v
 use Rattle.program.specs.Program.{instrOf, put as putRecord, view, findVersion, firstMark, beside, arguments as pairsOf}
 use Rattle.program.specs.Search.{firstLine, firstBlock, first as firstNo}
 use Rattle.program.specs.Questions.{exists, namesBlock, namings, blockNamed}
+use Rattle.program.specs.Skips.{endsAfter, endsWithin, question14}
 use Rattle.rules.specs.Types.{kindOf, ownershipOf, isShared, isOwned, isBorrowed, isInteger, isVector as vectorType, isPromise as promiseType, within, parameterType, registerType, returnType}
 use Rattle.rules.specs.Fits.{fresh, fitsArgument, fitsReturn, fitsCall, fits, fitsResult}
 use Rattle.rules.specs.Effects.{reflective, covered}
 use Rattle.rules.specs.Questions.{typeAllowed, versionTypes, typesAllowed}
-use Rattle.rules.specs.Actions.{clash, joined, _then_, promised, emptied as emptiedBy, touch, actionOf, along, enter as entersBlock, actions}
+use Rattle.rules.specs.Actions.{clash, joined, _then_, promised, emptied as emptiedBy, touch, actionOf, skipOf, either, join, here as hereIn, past, walk as walkCode, enter as entersBlock, actions}
 use Rattle.rules.specs.Flows.{flows}
 use Rattle.checker.specs.Verdicts.{ask, verdictOf}
 use Rattle.machine.specs.Try.{_>>=_, _>>_, stuckUnless, endUnless, orStuck, at, put, each}
 use Rattle.machine.specs.Values.{ranged, isZero, divided, arith, index}
 use Rattle.machine.specs.States.{over, newVector, itemsOf, liveFrames, liveActivations, register, named, full, anInteger, aVector, aPromise, noPromise, isSet, value, integer, vector, promise, plain, name, kindIn, isVector, isPromise, isForce, refers, held, pending, vectorCounts, promiseCounts, free, freeVector, freePromise, withStack, withVector, withPromise, withEnd, withFrame, withRegister, withName, assign, store}
-use Rattle.machine.specs.Calls.{opened, passed, matching, emptyIf, emptied, frameFor, enter, sameOwnerships, dispatches, lowest, picked, force, closed, done, back, finish}
+use Rattle.machine.specs.Calls.{opened, passed, skipped, matching, emptyIf, emptied, frameFor, enter, sameOwnerships, dispatches, lowest, picked, force, closed, done, back, finish}
 use Rattle.machine.specs.Steps.{alone, execute, here, position, positionOf, proceed, advance}
 use Rattle.machine.specs.Runs.{saying, settled, stepIn, stepOf, lastStep, continued, runFrom, budgetIn, longEnough, budgetOf, written, bufferOf}
 use Rattle.machine.specs.Begin.{first, givenKind, matched, arguments, valuesOf, vectorsOf, firstState, refused, question13, question12, question11, enteredOf, beginAfter, beginOf, runAfter, runOf}
@@ -64,18 +65,18 @@ unfolding
     question1 question2 lengthOf question3 versionInBounds inBounds inOrder dueAfter noneDue question4 follows question5
     instrOf putRecord view findVersion firstMark beside pairsOf
     firstLine firstBlock firstNo
-    exists namesBlock namings blockNamed
+    exists namesBlock namings blockNamed endsAfter endsWithin question14
     kindOf ownershipOf isShared isOwned isBorrowed isInteger vectorType promiseType within parameterType registerType returnType
     fresh fitsArgument fitsReturn fitsCall fits fitsResult
     reflective covered
     typeAllowed versionTypes typesAllowed
-    clash joined _then_ promised emptiedBy touch actionOf along entersBlock actions
+    clash joined _then_ promised emptiedBy touch actionOf skipOf either join hereIn past walkCode entersBlock actions
     flows
     ask verdictOf
     _>>=_ _>>_ stuckUnless endUnless orStuck at put each
     ranged isZero divided arith index
     over newVector itemsOf liveFrames liveActivations register named full anInteger aVector aPromise noPromise isSet value integer vector promise plain name kindIn isVector isPromise isForce refers held pending vectorCounts promiseCounts free freeVector freePromise withStack withVector withPromise withEnd withFrame withRegister withName assign store
-    opened passed matching emptyIf emptied frameFor enter sameOwnerships dispatches lowest picked force closed done back finish
+    opened passed skipped matching emptyIf emptied frameFor enter sameOwnerships dispatches lowest picked force closed done back finish
     alone execute here position positionOf proceed advance
     saying settled stepIn stepOf lastStep continued runFrom budgetIn longEnough budgetOf written bufferOf
     first givenKind matched arguments valuesOf vectorsOf firstState refused question13 question12 question11 enteredOf beginAfter beginOf runAfter runOf

@@ -167,6 +167,54 @@ promises =
     rec kind.BLOCK (0 ∷ 0 ∷ 0 ∷ []) ++
     rec kind.BLOCK (0 ∷ 0 ∷ 0 ∷ [])
 
+-- the register 1 gets 5, and then 9 unless n instructions are passed over
+abbrev pub skipping : ℕ → List ℕ
+skipping n =
+    rec kind.VERSION (0 ∷ 0 ∷ 1 ∷ 2 ∷ 2 ∷ 1 ∷ 2 ∷ 2 ∷ []) ++
+    rec kind.BLOCK (0 ∷ 1 ∷ 3 ∷ []) ++
+    rec kind.LIT (1 ∷ 5 ∷ 0 ∷ 0 ∷ 0 ∷ []) ++
+    rec kind.SKIP (0 ∷ n ∷ []) ++
+    rec kind.LIT (1 ∷ 9 ∷ 0 ∷ 0 ∷ 0 ∷ [])
+
+-- a SKIP of n in the part of two instructions that another passes over, then the result is doubled
+abbrev pub skippingTwice : ℕ → List ℕ
+skippingTwice n =
+    rec kind.VERSION (0 ∷ 0 ∷ 2 ∷ 3 ∷ 2 ∷ 1 ∷ 2 ∷ 2 ∷ 2 ∷ []) ++
+    rec kind.BLOCK (0 ∷ 2 ∷ 5 ∷ []) ++
+    rec kind.LIT (2 ∷ 5 ∷ 0 ∷ 0 ∷ 0 ∷ []) ++
+    rec kind.SKIP (0 ∷ 2 ∷ []) ++
+    rec kind.SKIP (1 ∷ n ∷ []) ++
+    rec kind.LIT (2 ∷ 9 ∷ 0 ∷ 0 ∷ 0 ∷ []) ++
+    rec kind.ARITH (2 ∷ 0 ∷ 2 ∷ 2 ∷ [])
+
+-- a register that only one way assigned is read
+abbrev pub assignedOnOneWay : List ℕ
+assignedOnOneWay =
+    rec kind.VERSION (0 ∷ 0 ∷ 1 ∷ 2 ∷ 2 ∷ 1 ∷ 2 ∷ 2 ∷ []) ++
+    rec kind.BLOCK (0 ∷ 1 ∷ 2 ∷ []) ++
+    rec kind.SKIP (0 ∷ 1 ∷ []) ++
+    rec kind.LIT (1 ∷ 9 ∷ 0 ∷ 0 ∷ 0 ∷ [])
+
+-- a register that only one way emptied is read
+abbrev pub emptiedOnOneWay : List ℕ
+emptiedOnOneWay =
+    rec kind.VERSION (0 ∷ 0 ∷ 2 ∷ 4 ∷ 2 ∷ 1 ∷ 2 ∷ 0x13 ∷ 0x13 ∷ 2 ∷ []) ++
+    rec kind.BLOCK (0 ∷ 3 ∷ 3 ∷ []) ++
+    rec kind.SKIP (0 ∷ 1 ∷ []) ++
+    rec kind.USE (2 ∷ 1 ∷ []) ++
+    rec kind.LEN (3 ∷ 1 ∷ [])
+
+-- a register that a promise captured on one way only is emptied
+abbrev pub capturedOnOneWay : List ℕ
+capturedOnOneWay =
+    rec kind.VERSION (0 ∷ 0 ∷ 2 ∷ 5 ∷ 0x13 ∷ 2 ∷ 2 ∷ 0x13 ∷ 0x13 ∷ 4 ∷ 2 ∷ []) ++
+    rec kind.BLOCK (0 ∷ 2 ∷ 3 ∷ []) ++
+    rec kind.SKIP (0 ∷ 1 ∷ []) ++
+    rec kind.PROM (3 ∷ 1 ∷ []) ++
+    rec kind.USE (2 ∷ 1 ∷ []) ++
+    rec kind.BLOCK (0 ∷ 4 ∷ 1 ∷ []) ++
+    rec kind.LEN (4 ∷ 1 ∷ [])
+
 -- one owned register given as owned and borrowed in one call
 abbrev pub twice : List ℕ
 twice =
@@ -200,7 +248,7 @@ captured =
 
 -- ---- the table
 
--- rows for 11 to 13 of "Questions put to an image" and for "Steps"; the last four for "Mistakes to rule out"
+-- rows for 11 to 13 of "Questions put to an image" and for "Steps", for SKIP and 14; the last four for "Mistakes to rule out"
 unfoldable pub further : List Row
 further =
     -- 11 comes before 12 and 13
@@ -254,6 +302,26 @@ further =
     row promises 0 0 [] 999 (lent 16) (Answer.Ended End.Promises) 83 (lent 16) ∷
     -- budget is looked at first
     row endless 0 0 [] 31 (lent 16) Answer.Steps 31 (lent 16) ∷
+    -- SKIP: taken where a is 0, else not; a skip is one step; n may be 0
+    row (skipping 1) 0 0 (neg 1 ∷ pos 0 ∷ []) 9 (lent 16) (integer (pos 5)) 3 (lent 16) ∷
+    row (skipping 1) 0 0 (neg 1 ∷ neg 1 ∷ []) 9 (lent 16) (integer (pos 9)) 4 (lent 16) ∷
+    row (skipping 0) 0 0 (neg 1 ∷ pos 0 ∷ []) 9 (lent 16) (integer (pos 9)) 4 (lent 16) ∷
+    -- a SKIP in the part of another: passed over, taken, not taken
+    row (skippingTwice 1) 0 0 (neg 1 ∷ pos 0 ∷ neg 1 ∷ pos 0 ∷ []) 9 (lent 16) (integer (pos 10)) 4 (lent 16) ∷
+    row (skippingTwice 1) 0 0 (neg 1 ∷ pos 1 ∷ neg 1 ∷ pos 0 ∷ []) 9 (lent 16) (integer (pos 10)) 5 (lent 16) ∷
+    row (skippingTwice 1) 0 0 (neg 1 ∷ pos 1 ∷ neg 1 ∷ pos 1 ∷ []) 9 (lent 16) (integer (pos 18)) 6 (lent 16) ∷
+    -- 14: n goes past the end of the block; past the end of the part that the SKIP stands in
+    row (skipping 2) 0 0 (neg 1 ∷ pos 0 ∷ []) 9 (lent 16) (refused 14 at 28) 0 (lent 16) ∷
+    row (skipping 255) 0 0 (neg 1 ∷ pos 0 ∷ []) 9 (lent 16) (refused 14 at 28) 0 (lent 16) ∷
+    row (skippingTwice 2) 0 0 (neg 1 ∷ pos 0 ∷ neg 1 ∷ pos 0 ∷ []) 9 (lent 16) (refused 14 at 35) 0 (lent 16) ∷
+    -- 14 is asked after 7 and before 8: of a SKIP whose register is not there, and of one whose register is a vector
+    row (set (skipping 255) 32 2) 0 0 (neg 1 ∷ pos 0 ∷ []) 9 (lent 16) (refused 7 at 28) 0 (lent 16) ∷
+    row (set (skipping 255) 10 3) 0 0 (pos 0 ∷ []) 9 (lent 16) (refused 14 at 28) 0 (lent 16) ∷
+    row (set (skipping 1) 10 3) 0 0 (pos 0 ∷ []) 9 (lent 16) (refused 8 at 28) 0 (lent 16) ∷
+    -- ways join by what both assign, and by union of what they empty and capture: 10
+    row assignedOnOneWay 0 0 (neg 1 ∷ pos 1 ∷ []) 9 (lent 16) (refused 10 at 0) 0 (lent 16) ∷
+    row emptiedOnOneWay 0 0 (neg 1 ∷ pos 0 ∷ pos 0 ∷ []) 9 (lent 16) (refused 10 at 0) 0 (lent 16) ∷
+    row capturedOnOneWay 0 0 (neg 1 ∷ pos 0 ∷ pos 0 ∷ []) 9 (lent 16) (refused 10 at 0) 0 (lent 16) ∷
     -- one owned register given as owned and borrowed in one call: 8
     row twice 0 0 (pos 0 ∷ []) 9 (lent 16) (refused 8 at 26) 0 (lent 16) ∷
     -- reading a register that only a forced block assigned: 10

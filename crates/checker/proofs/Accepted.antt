@@ -10,6 +10,7 @@ use Rattle.layout.specs.declared.Found.the-variants.{Nothing}
 use Rattle.program.specs.Program.{Version, Program, program, findVersion}
 use Rattle.program.specs.Search.{first}
 use Rattle.program.specs.Questions.{question7}
+use Rattle.program.specs.Skips.{question14}
 use Rattle.program.proofs.Held.{Held, holds}
 use Rattle.program.proofs.Laid.{bounds, in-bounds}
 use Rattle.rules.specs.Questions.{question6, question8, question9}
@@ -19,7 +20,7 @@ use Rattle.checker.specs.declared.Verdict.{Verdict}
 use Rattle.checker.specs.declared.Verdict.the-variants.{Accepted, Refused}
 use Rattle.checker.proofs.Asks.{asked}
 
--- what the ten questions found of the image s, whose program has k versions
+-- what the questions found of the image s, whose program has k versions
 pub record Passed (s : List ℕ) (k : ℕ) : Type 0 where
   pub q1 : question1 s ≡ Nothing
   pub q2 : question2 (records s) ≡ Nothing
@@ -28,6 +29,7 @@ pub record Passed (s : List ℕ) (k : ℕ) : Type 0 where
   pub q5 : question5 (records s) ≡ Nothing
   pub q6 : first question6 (program (records s)) ≡ Nothing
   pub q7 : first (question7 (program (records s))) (program (records s)) ≡ Nothing
+  pub q14 : question14 (records s) ≡ Nothing
   pub q8 : first (question8 (program (records s))) (program (records s)) ≡ Nothing
   pub q9 : first (question9 (program (records s))) (program (records s)) ≡ Nothing
   pub q10 : first (question10 (program (records s))) (program (records s)) ≡ Nothing
@@ -49,7 +51,8 @@ passed s k e =
     let e5 = asked 5 _ _ k (e4 .1) in
     let e6 = asked 6 _ _ k (e5 .1) in
     let e7 = asked 7 _ _ k (e6 .1) in
-    let e8 = asked 8 _ _ k (e7 .1) in
+    let e14 = asked 14 _ _ k (e7 .1) in
+    let e8 = asked 8 _ _ k (e14 .1) in
     let e9 = asked 9 _ _ k (e8 .1) in
     let e10 = asked 10 _ _ k (e9 .1) in
     record {
@@ -60,6 +63,7 @@ passed s k e =
       q5 = e5 .0;
       q6 = e6 .0;
       q7 = e7 .0;
+      q14 = e14 .0;
       q8 = e8 .0;
       q9 = e9 .0;
       q10 = e10 .0;

@@ -22,6 +22,7 @@ use Rattle.layout.proofs.Walk.{size-room}
 use Rattle.program.specs.Program.{Line, Block, Version, Program, View, nowhere, lineOf, blockOf, versionOf, put, view, program}
 use Rattle.program.specs.Search.{Question, firstLine, firstBlock, first}
 use Rattle.program.specs.Questions.{question7}
+use Rattle.program.specs.Skips.{noEnds, endsAfter, endsWithin, question14}
 use Rattle.program.proofs.Lookups.{Each}
 use Rattle.rules.specs.Questions.{question6, question8, question9}
 use Rattle.rules.specs.Flows.{question10}
@@ -94,6 +95,10 @@ module _ (n : ℕ) (rs : List Rec) (e : Each (RecIn n) rs) where
   in-5 : Within n (question5 rs)
   unfolding question5 Within
   in-5 = scan-in following lastVersion nothing n (λ st. tt) rs e none
+
+  in-14 : Within n (question14 rs)
+  unfolding question14 Within
+  in-14 = scan-in endsWithin endsAfter nothing n (λ st. tt) rs e noEnds
 
 -- ---- questions to the program
 
@@ -174,9 +179,10 @@ verdict-in s =
     (ask-low _ 5 _ _ (in-5 (length s) (records s) rs)
     (ask-low _ 6 _ _ (first-in question6 (length s) P vs)
     (ask-low _ 7 _ _ (first-in (question7 P) (length s) P vs)
+    (ask-low _ 14 _ _ (in-14 (length s) (records s) rs)
     (ask-low _ 8 _ _ (first-in (question8 P) (length s) P vs)
     (ask-low _ 9 _ _ (first-in (question9 P) (length s) P vs)
-    (ask-low _ 10 _ _ (first-in (question10 P) (length s) P vs) tt)))))))))
+    (ask-low _ 10 _ _ (first-in (question10 P) (length s) P vs) tt))))))))))
 
 -- THE LAW: an image that is too long is refused at 0
 pub refused-low : (s : List ℕ) (q p : ℕ) → verdictOf s ≡ Refused q p → p ≤ IMAGE

@@ -9,6 +9,7 @@ use Rattle.layout.specs.declared.Found.the-variants.{Nothing, At}
 use Rattle.program.specs.Program.{program}
 use Rattle.program.specs.Search.{first}
 use Rattle.program.specs.Questions.{question7}
+use Rattle.program.specs.Skips.{question14}
 use Rattle.rules.specs.Questions.{question6, question8, question9}
 use Rattle.rules.specs.Flows.{question10}
 use Rattle.checker.specs.declared.Verdict.{Verdict}
@@ -19,7 +20,7 @@ unfoldable pub ask : ℕ → Found → Verdict → Verdict
 ask n Nothing more = more
 ask n (At p) more = Refused n p
 
--- the questions in order, each with those from it on; an image that passes them all is accepted, with its number of versions
+-- the questions in order, 14 after 7, each with those from it on; an image that passes them all is accepted, with its number of versions
 abbrev pub from10 : List ℕ → Verdict
 from10 s = ask 10 (first (question10 (program (records s))) (program (records s))) (Accepted (length (program (records s))))
 
@@ -29,8 +30,11 @@ from9 s = ask 9 (first (question9 (program (records s))) (program (records s))) 
 abbrev pub from8 : List ℕ → Verdict
 from8 s = ask 8 (first (question8 (program (records s))) (program (records s))) (from9 s)
 
+abbrev pub from14 : List ℕ → Verdict
+from14 s = ask 14 (question14 (records s)) (from8 s)
+
 abbrev pub from7 : List ℕ → Verdict
-from7 s = ask 7 (first (question7 (program (records s))) (program (records s))) (from8 s)
+from7 s = ask 7 (first (question7 (program (records s))) (program (records s))) (from14 s)
 
 abbrev pub from6 : List ℕ → Verdict
 from6 s = ask 6 (first question6 (program (records s))) (from7 s)
@@ -47,6 +51,6 @@ from3 s = ask 3 (question3 (records s)) (from4 s)
 abbrev pub from2 : List ℕ → Verdict
 from2 s = ask 2 (question2 (records s)) (from3 s)
 
--- the ten questions: those from 1 on
+-- all questions: those from 1 on
 unfoldable pub verdictOf : List ℕ → Verdict
 verdictOf s = ask 1 (question1 s) (from2 s)

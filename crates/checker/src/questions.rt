@@ -1,13 +1,14 @@
-//! The ten questions in order.
+//! The questions in order, 14 after 7.
 ghost use mathlib.Core.Path.{_≡_};
 ghost use lib.ListN.{length};
 ghost use Rattle.layout.specs.Records.{records};
 ghost use Rattle.program.specs.Program.{program};
-ghost use Rattle.checker.specs.Verdicts.{from2, from3, from4, from5, from6, from7, from8, from9, from10, verdictOf};
+ghost use Rattle.checker.specs.Verdicts.{from2, from3, from4, from5, from6, from7, from8, from9, from10, from14, verdictOf};
 use crate::Verdict;
 use flow::question10;
 use layout::Found;
 use program::question7;
+use program::question14;
 use typing::question6;
 use typing::question8;
 use typing::question9;
@@ -63,6 +64,16 @@ fn from_8(image: &[u8]) -> Verdict
     from_9(image)
 }
 
+/// The questions from 14 on, which is put after 7.
+fn from_14(image: &[u8]) -> Verdict
+    ensures { λ r. ⌜ r ≡ from14 (now (image .entry)) ⌝ }
+{
+    if let Found::At(p) = question14::question_14(image) {
+        return Verdict::Refused(14, p);
+    }
+    from_8(image)
+}
+
 /// The questions from 7 on.
 fn from_7(image: &[u8]) -> Verdict
     ensures { λ r. ⌜ r ≡ from7 (now (image .entry)) ⌝ }
@@ -70,7 +81,7 @@ fn from_7(image: &[u8]) -> Verdict
     if let Found::At(p) = question7::question_7(image) {
         return Verdict::Refused(7, p);
     }
-    from_8(image)
+    from_14(image)
 }
 
 /// The questions from 6 on.

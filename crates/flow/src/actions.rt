@@ -1,7 +1,7 @@
 //! Actions, one then another.
 ghost use mathlib.Core.Path.{_≡_};
 ghost use mathlib.Core.Option.{some};
-ghost use Rattle.rules.specs.Actions.{_then_};
+ghost use Rattle.rules.specs.Actions.{_then_, either, join};
 ghost use Rattle.flow.specs.Masks.{masked, act, flowed};
 use crate::Action;
 use crate::Flowed;
@@ -41,6 +41,31 @@ pub fn chain(done: Flowed, next: Flowed) -> Flowed
         Flowed::Allowed(a) => match next {
             Flowed::Allowed(b) => follow(a, b),
             Flowed::Refused => Flowed::Refused,
+        },
+        Flowed::Refused => Flowed::Refused,
+    }
+}
+
+/// Two ways joined.
+fn either(a: Action, b: Action) -> Action
+    ensures { λ r. ⌜ act r ≡ either (act a) (act b) ⌝ }
+{
+    Action {
+        reads: sets::union(a.reads, b.reads),
+        assigns: sets::intersection(a.assigns, b.assigns),
+        empties: sets::union(a.empties, b.empties),
+        captures: sets::union(a.captures, b.captures),
+    }
+}
+
+/// A way, joined by one that a skip took, if there is one.
+pub fn join(done: Flowed, way: Flowed) -> Flowed
+    ensures { λ r. ⌜ flowed r ≡ join (flowed done) (flowed way) ⌝ }
+{
+    match done {
+        Flowed::Allowed(a) => match way {
+            Flowed::Allowed(b) => Flowed::Allowed(either(a, b)),
+            Flowed::Refused => Flowed::Allowed(a),
         },
         Flowed::Refused => Flowed::Refused,
     }

@@ -165,6 +165,13 @@ fn dispatching(image: &[u8], p: usize) -> Flowed
     actions::touching(reads, paired_owned(image, p), named(image, p, 0, 1, 1))
 }
 
+/// SKIP: it reads its register.
+fn skipping(image: &[u8], p: usize) -> Flowed
+    ensures { λ r. ⌜ flowed r ≡ reading (bodyAt (now (image .entry)) p ! 0 ∷ []) ⌝ }
+{
+    actions::reading(named(image, p, 0, 1, 1))
+}
+
 /// What the instruction at `p` does, where `entered` is what the block does that a PROM names. The table is the image's.
 pub(crate) fn instruction(image: &[u8], table: &[usize; 128], p: usize, entered: Flowed) -> Flowed
     requires { ⌜ now table ≡ tableOf (now image) ⌝ }
@@ -189,6 +196,7 @@ pub(crate) fn instruction(image: &[u8], table: &[usize; 128], p: usize, entered:
         kinds::POKE => reads_only(image, p, 0, 2, 2),
         kinds::CALL => calling(image, table, p),
         kinds::DISPATCH => dispatching(image, p),
+        kinds::SKIP => skipping(image, p),
         _ => plain(image, p, 1, 0),
     }
 }

@@ -5,6 +5,7 @@ pub mod body;
 mod instructions;
 pub mod question10;
 mod walk;
+mod ways;
 
 /// An action: the registers read before they are assigned, assigned, emptied and captured, a mask for each.
 pub struct Action {

@@ -10,6 +10,7 @@ use crate::Action;
 use crate::Flowed;
 use crate::actions;
 use crate::instructions;
+use crate::ways;
 use layout::Found;
 use layout::kinds;
 use program::lookup;
@@ -29,12 +30,29 @@ fn walk_block(image: &[u8], table: &[usize; 128], v: usize, b: usize) -> Flowed
         captures: 0,
     });
     let mut p = q + layout::size_at(image, q);
+    let count = ways::lines(image, p);
+    let mut taken = [Flowed::Refused; 51];
+    let mut i: usize = 0;
     while lookup::is_line(image, p) {
-        done = actions::chain(done, walk_instruction(image, table, v, b, p));
+        let at = ways::place(count, i);
+        let came = taken[at];
+        let now = actions::chain(
+            actions::join(done, came),
+            walk_instruction(image, table, v, b, p),
+        );
+        let skip = ways::skip_at(image, p);
+        done = ways::goes_on(now, skip, count, i);
+        let t = ways::target(skip, count, i);
+        let old = taken[t];
+        let new = actions::join(now, old);
+        taken[t] = new;
         p += layout::size_at(image, p);
+        i += 1;
     }
+    let last = ways::place(count, i);
+    let came = taken[last];
     actions::chain(
-        done,
+        actions::join(done, came),
         actions::reading(sets::only(layout::field(image, q, 1))),
     )
 }

@@ -6,7 +6,7 @@ use native.Mathlib.Omega.{arith}
 use lib.IntN.{ℤ}
 use lib.ListN.{length}
 use Rattle.program.specs.Places.{instrAt, versionAt}
-use Rattle.program.specs.Program.{ARITH, Argument, CALL, CAST, DISPATCH, DUP, FORCE, GET, Instr, LEN, LIT, MOVE, NAMED, PEEK, POKE, PROM, SELECT, SET, STORE, USE, VEC}
+use Rattle.program.specs.Program.{ARITH, Argument, CALL, CAST, DISPATCH, DUP, FORCE, GET, Instr, LEN, LIT, MOVE, NAMED, PEEK, POKE, PROM, SELECT, SET, SKIP, STORE, USE, VEC}
 use Rattle.machine.specs.Begin.{programOf}
 use Rattle.machine.specs.Try.{stuck}
 use Rattle.memory.specs.Memory.{Memory, memoryOf}
@@ -23,7 +23,7 @@ use Rattle.vectors.specs.Vectors.{Copied, Made, Measured, Picked, Replaced, wit
 use Rattle.calls.specs.Entering.{Called, Dispatched, Within, onward, withArrays}
 use Rattle.promises.specs.Changes.{Changed, ForcedTo, Forces, Peeks, Pokes, Proms, withDelayed, withForced, withProm}
 use Rattle.promises.specs.declared.Forced.{Forced}
-use Rattle.instructions.specs.Turns.{Instructs, Turns, openedOf, turnOf}
+use Rattle.instructions.specs.Turns.{Instructs, Skips, Turns, openedOf, turnOf, withSkip}
 use Rattle.instructions.specs.declared.Turn.{Turn}
 
 module _ (s owners codes : List ℕ) (numbers : List ℤ) (stack lengths : List ℕ) (items : List ℤ) (promises : List ℕ) (caches : List ℤ) (calls depth k v at : ℕ) (i : Instr) (is : instrAt s at ≡ i) where
@@ -157,3 +157,10 @@ module _ (s owners codes : List ℕ) (numbers : List ℤ) (stack lengths : List 
     stopped-arm r x h e = λ R long live few.
         let w = (rw e at h) (programOf s) (versionAt s v) (memoryOf owners codes numbers stack lengths items promises caches R calls depth) long live few in
         rw (is, w .1, w .2, w .3) (w .0, refl)
+
+  pub skip-arm : (a n : ℕ) (stack′ : List ℕ) (t : Turn) → instrAt s at ≡ SKIP a n → Skips t codes numbers stack stack′ calls depth k a n
+      → Instructs s t (memoryOf owners codes numbers stack lengths items promises caches) (memoryOf owners codes numbers stack′ lengths items promises caches) calls depth k v at
+  unfolding memoryOf Instructs Skips withSkip withOpen withCells
+  skip-arm a n stack′ t is h = λ R long live few.
+      let M = memoryOf owners codes numbers stack lengths items promises caches R calls depth in
+      rw is (h (programOf s) (versionAt s v) M long)

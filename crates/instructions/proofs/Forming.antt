@@ -1,7 +1,7 @@
 -- An instruction is known by its decoded form and what it lists.
 use mathlib.Core.Path.{_≡_, refl, sym, ap, _∙_}
 use lib.ListN.{length, length-map}
-use Rattle.program.specs.Program.{Argument, Instr, LIT, MOVE, USE, DUP, VEC, LEN, GET, SET, ARITH, SELECT, CAST, NAMED, STORE, PROM, FORCE, PEEK, POKE, CALL, DISPATCH}
+use Rattle.program.specs.Program.{Argument, Instr, LIT, MOVE, USE, DUP, VEC, LEN, GET, SET, ARITH, SELECT, CAST, NAMED, STORE, PROM, FORCE, PEEK, POKE, CALL, DISPATCH, SKIP}
 use Rattle.program.specs.Shapes.{listedRegisters, shapeOf}
 use Rattle.program.specs.declared.Instruction.{Instruction}
 use Rattle.instructions.specs.Forms.{formed, listsOf, pairs, pairsOf}
@@ -27,6 +27,7 @@ restored (PEEK d a x) = refl
 restored (POKE a x e) = refl
 restored (CALL d f w rs) = refl
 restored (DISPATCH d f mark ret pairs) = refl
+restored (SKIP a n) = refl
 
 lists : (i : Instr) → length (listedRegisters i) ≡ listsOf (shapeOf i)
 unfolding listsOf shapeOf listedRegisters
@@ -49,6 +50,7 @@ lists (PEEK d a x) = refl
 lists (POKE a x e) = refl
 lists (CALL d f w rs) = refl
 lists (DISPATCH d f mark ret pairs) = length-map pairs (λ (a : Argument). a .register)
+lists (SKIP a n) = refl
 
 listed-pairs : (i : Instr) → length (pairsOf i) ≡ pairs (shapeOf i)
 unfolding pairs shapeOf pairsOf
@@ -71,6 +73,7 @@ listed-pairs (PEEK d a x) = refl
 listed-pairs (POKE a x e) = refl
 listed-pairs (CALL d f w rs) = refl
 listed-pairs (DISPATCH d f mark ret pairs) = refl
+listed-pairs (SKIP a n) = refl
 
 -- by the form that the code has in hand
 module _ (i : Instr) {x : Instruction} (decoded : x ≡ shapeOf i) (form : Instruction) (is : x ≡ form) where

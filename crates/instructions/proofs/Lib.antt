@@ -1,2 +1,3 @@
 pub mod Forming
 pub mod Arms
+pub mod Skipping

@@ -1,7 +1,7 @@
 -- An instruction by its decoded form and what it lists.
 use mathlib.Core.List.{List, []}
 use Prim.Native.Nat.{ℕ}
-use Rattle.program.specs.Program.{Argument, Instr, LIT, MOVE, USE, DUP, VEC, LEN, GET, SET, ARITH, SELECT, CAST, NAMED, STORE, PROM, FORCE, PEEK, POKE, CALL, DISPATCH}
+use Rattle.program.specs.Program.{Argument, Instr, LIT, MOVE, USE, DUP, VEC, LEN, GET, SET, ARITH, SELECT, CAST, NAMED, STORE, PROM, FORCE, PEEK, POKE, CALL, DISPATCH, SKIP}
 use Rattle.program.specs.declared.Instruction.{Instruction}
 
 -- the instruction that has the form, these registers in its list, these pairs
@@ -25,6 +25,7 @@ formed (Instruction.Peek d a x) rs pairs = PEEK d a x
 formed (Instruction.Poke a x e) rs pairs = POKE a x e
 formed (Instruction.Call d f w n) rs pairs = CALL d f w rs
 formed (Instruction.Dispatch d f mark ret n) rs pairs = DISPATCH d f mark ret pairs
+formed (Instruction.Skip a n) rs pairs = SKIP a n
 
 -- the pairs that DISPATCH lists
 unfoldable pub pairsOf : Instr → List Argument
@@ -47,6 +48,7 @@ pairsOf (PEEK d a x) = []
 pairsOf (POKE a x e) = []
 pairsOf (CALL d f w rs) = []
 pairsOf (DISPATCH d f mark ret pairs) = pairs
+pairsOf (SKIP a n) = []
 
 -- how many registers a form lists
 unfoldable pub listsOf : Instruction → ℕ
@@ -69,6 +71,7 @@ listsOf (Instruction.Peek d a x) = 0
 listsOf (Instruction.Poke a x e) = 0
 listsOf (Instruction.Call d f w n) = n
 listsOf (Instruction.Dispatch d f mark ret n) = n
+listsOf (Instruction.Skip a n) = 0
 
 -- how many pairs a form lists
 unfoldable pub pairs : Instruction → ℕ
@@ -91,3 +94,4 @@ pairs (Instruction.Peek d a x) = 0
 pairs (Instruction.Poke a x e) = 0
 pairs (Instruction.Call d f w n) = 0
 pairs (Instruction.Dispatch d f mark ret n) = n
+pairs (Instruction.Skip a n) = 0

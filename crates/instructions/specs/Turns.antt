@@ -4,11 +4,12 @@ use mathlib.Core.Path.{_≡_}
 use Prim.Native.Nat.{ℕ, _<_}
 use lib.IntN.{ℤ}
 use Rattle.program.specs.Places.{instrAt, versionAt}
+use Rattle.program.specs.Program.{Program, SKIP, Version}
 use Rattle.machine.specs.Begin.{programOf}
 use Rattle.machine.specs.Try.{Try, got, stuck, stop}
 use Rattle.machine.specs.declared.State.{State}
 use Rattle.memory.specs.Memory.{Long, Memory, stateOf}
-use Rattle.memory.specs.Parts.{endOf}
+use Rattle.memory.specs.Parts.{endOf, withCells, withOpen}
 use Rattle.memory.specs.Works.{executed}
 use Rattle.memory.specs.declared.Did.{Did}
 use Rattle.instructions.specs.declared.Turn.{Turn}
@@ -35,6 +36,16 @@ unfoldable pub openedOf : Did → ℕ → ℕ → Turn
 openedOf Did.On calls depth = Turn.Stack calls depth
 openedOf Did.Stuck calls depth = Turn.Stuck
 openedOf (Did.Stop e) calls depth = Turn.Stop e
+
+-- memory with the arrays that a SKIP reads
+unfoldable pub withSkip : Memory → List ℕ → List ℤ → List ℕ → ℕ → ℕ → Memory
+withSkip M codes numbers stack calls depth = withCells (withOpen M (M .owners) calls stack depth) codes numbers
+
+-- SKIP of n by the register a of the frame k moves the activation on top
+unfoldable pub Skips : Turn → List ℕ → List ℤ → List ℕ → List ℕ → ℕ → ℕ → ℕ → ℕ → ℕ → Type 0
+Skips r codes numbers stack stack′ calls depth k a n =
+    (P : Program) (W : Version) (M : Memory) → Long (withSkip M codes numbers stack calls depth)
+    → Turns r (withSkip M codes numbers stack calls depth) (withSkip M codes numbers stack′) (executed P W (withSkip M codes numbers stack calls depth) k (SKIP a n))
 
 -- an instruction at work on a memory that stands at the next one already
 unfoldable pub Instructs : List ℕ → Turn → (List ℤ → ℕ → ℕ → Memory) → (List ℤ → ℕ → ℕ → Memory) → ℕ → ℕ → ℕ → ℕ → ℕ → Type 0

@@ -4,10 +4,12 @@ ghost use mathlib.Core.Path.{_≡_};
 ghost use Prim.Native.Nat.{_<_, _≤_};
 ghost use Rattle.index.specs.Indexed.{Indexed};
 ghost use Rattle.memory.specs.Memory.{memoryOf};
-ghost use Rattle.instructions.specs.Turns.{Instructs, openedOf, turnOf};
+ghost use Rattle.instructions.specs.Turns.{Instructs, Skips, openedOf, turnOf};
+use layout::bounds;
 use memory::Did;
 use memory::Gives;
 use memory::Halt;
+use memory::Whole;
 use program::Instruction;
 use program::decode;
 use promises::Forced;
@@ -43,6 +45,39 @@ fn opened(did: Did, calls: usize, depth: usize) -> Turn
         Did::Stuck => Turn::Stuck,
         Did::Stop(h) => Turn::Stop(h),
     }
+}
+
+/// SKIP: where the integer in the register `a` is 0, the activation on top stands `n` instructions further on.
+/// Part of the loop, which keeps `k` below 32 and `depth` at most 32: tests would cost each step.
+fn skip(
+    codes: &[u16; 768],
+    numbers: &[i32; 768],
+    stack: &mut [u8; 192],
+    calls: usize,
+    depth: usize,
+    k: usize,
+    a: u8,
+    n: u8,
+) -> Turn
+    requires { ⌜ (k < 32) × (calls < 256) × (depth ≤ 32) ⌝ }
+    ensures { λ r. ⌜ Skips r (now (codes .entry)) (now (numbers .entry)) (now (stack .entry)) (now (stack .exit)) calls depth k a n ⌝ }
+{
+    let Whole::Is(z) = cells::integer(codes, numbers, k, a) else {
+        return Turn::Stuck;
+    };
+    if !integers::is_zero(z) {
+        return Turn::On;
+    }
+    if depth == 0 {
+        return Turn::Stuck;
+    }
+    let i = 6 * (depth - 1) + 5;
+    let next = layout::wide(stack[i]) + layout::wide(n);
+    if bounds::INSTRUCTIONS < next {
+        return Turn::Stuck;
+    }
+    stack[i] = next as u8;
+    Turn::Stack(calls, depth)
 }
 
 /// Executes the instruction at `at` in the frame `k` of the version at `v`; the activation on top stands behind it already.
@@ -243,5 +278,6 @@ pub fn instruct(
             );
             opened(did, calls + 1, depth + 1)
         }
+        Instruction::Skip { a, n } => skip(codes, numbers, stack, calls, depth, k, a, n),
     }
 }

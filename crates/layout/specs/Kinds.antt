@@ -84,3 +84,7 @@ CALL = 33
 -- DISPATCH d function mark return n, then n pairs (type, register)
 abbrev pub DISPATCH : ℕ
 DISPATCH = 34
+
+-- SKIP a n
+abbrev pub SKIP : ℕ
+SKIP = 35

@@ -57,7 +57,8 @@ lengthOf k b = choose k 0 (
     (kind.PEEK, 7) ∷
     (kind.POKE, 7) ∷
     (kind.CALL, 8 + b ! 3) ∷
-    (kind.DISPATCH, 9 + 2 * b ! 4) ∷ [])
+    (kind.DISPATCH, 9 + 2 * b ! 4) ∷
+    (kind.SKIP, 6) ∷ [])
 
 -- 3: is each kind known, its length the one its fields make?
 abbrev pub fitting : Unit {0} → Rec → Bool

@@ -41,3 +41,5 @@ pub const POKE: usize = 32;
 pub const CALL: usize = 33;
 
 pub const DISPATCH: usize = 34;
+
+pub const SKIP: usize = 35;

@@ -132,6 +132,7 @@ fn length_at(image: &[u8], p: usize) -> usize
         kinds::POKE => 7,
         kinds::CALL => 8 + field(image, p, 3),
         kinds::DISPATCH => 9 + 2 * field(image, p, 4),
+        kinds::SKIP => 6,
         _ => 0,
     }
 }

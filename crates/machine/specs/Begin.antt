@@ -1,4 +1,4 @@
--- Questions 11 to 13 behind the ten, and the state of a begun run before its first step.
+-- Questions 11 to 13 behind those to the image, and the state of a begun run before its first step.
 use mathlib.Core.List.{List, [], _∷_}
 use mathlib.Core.Option.{Option, bind as _>>=_, none, some}
 use mathlib.Core.Bool.{_&&_, true, false}
@@ -87,7 +87,7 @@ firstState fs ws = record {
   status = Status.Running;
 }
 
--- ---- the questions 11 to 13, each with offset 0, behind the ten
+-- ---- the questions 11 to 13, each with offset 0, behind those to the image
 
 -- a refusal; no call is live
 unfoldable pub refused : ℕ → ℕ → Begun
@@ -111,7 +111,7 @@ question11 (some W) words buffer = question12 W (arguments (parameterTypes W) wo
 unfoldable pub enteredOf : Program → ℕ → ℕ → List ℤ → List ℤ → Begun
 enteredOf P f v words buffer = question11 (findVersion P f v) words buffer
 
--- after the ten questions to its image
+-- after the questions to its image
 unfoldable pub beginAfter : Verdict → Program → ℕ → ℕ → List ℤ → List ℤ → Begun
 beginAfter (Verdict.Refused q p) P f v words buffer = refused q p
 beginAfter (Verdict.Accepted n) P f v words buffer = enteredOf P f v words buffer
@@ -120,7 +120,7 @@ beginAfter (Verdict.Accepted n) P f v words buffer = enteredOf P f v words buffe
 abbrev pub programOf : List ℕ → Program
 programOf image = program (records image)
 
--- Questions put to an image: to begin a run, 11 to 13 after the ten
+-- Questions put to an image: to begin a run, 11 to 13 after those to its image
 unfoldable pub beginOf : List ℕ → ℕ → ℕ → List ℤ → List ℤ → Begun
 beginOf image f v words buffer = beginAfter (verdictOf image) (programOf image) f v words buffer
 

@@ -4,12 +4,12 @@ use mathlib.Core.Bool.{Bool, true, false, not}
 use Prim.Native.Nat.{ℕ, zero, suc, _+_, _-_}
 use lib.ListN.{length, set}
 use lib.Dec.{eqb, leb, ltb}
-use Rattle.layout.specs.Bounds.{VERSIONS}
+use Rattle.layout.specs.Bounds.{VERSIONS, INSTRUCTIONS}
 use Rattle.layout.specs.Tests.{_and_, found}
 use Rattle.program.specs.Program.{Argument, Version, Program, findVersion, markOf, parameterTypes}
 use Rattle.rules.specs.Types.{kindOf, ownershipOf, isOwned, within}
 use Rattle.machine.specs.Try.{Try, got, stuck, stop, _>>=_, _>>_, stuckUnless, endUnless, orStuck, at, put}
-use Rattle.machine.specs.States.{ACTIVATIONS, place, over, newFrame, itemsOf, anInteger, kindIn, pending, withStack, withPromise, withEnd, assign}
+use Rattle.machine.specs.States.{ACTIVATIONS, place, over, newFrame, itemsOf, anInteger, kindIn, liveActivations, pending, withStack, withPromise, withEnd, assign}
 use Rattle.machine.specs.declared.Activation.{Activation}
 use Rattle.machine.specs.declared.Cache.{Cache}
 use Rattle.machine.specs.declared.End.{End}
@@ -30,6 +30,13 @@ opened s a = do
 -- the activation on top, a, stands at its next instruction
 unfoldable pub passed : State → Activation → State
 passed s a = withStack s (s .frames) (s .calls) (set (s .activations) (s .depth - 1) (record { opener = a .opener; d = a .d; frame = a .frame; block = a .block; next = a .next + 1 })) (s .depth)
+
+-- the activation on top stands n instructions further on. Stuck: further on than any block goes
+unfoldable pub skipped : State → ℕ → Try State
+skipped s n = do
+  a ← at (liveActivations s) (s .depth - 1)
+  stuckUnless (leb (a .next + n) INSTRUCTIONS)
+  got (withStack s (s .frames) (s .calls) (set (s .activations) (s .depth - 1) (record { opener = a .opener; d = a .d; frame = a .frame; block = a .block; next = a .next + n })) (s .depth))
 
 -- ---- calls
 

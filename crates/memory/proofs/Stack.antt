@@ -7,13 +7,13 @@ use native.Mathlib.Omega.{arith}
 use lib.ListN.{length, length-set, set}
 use lib.Seq.{getD-set-same, getD-set-other}
 use lib.Dec.{eqb, ltb}
-use borrow.Author.Tests.{lt-ltb, le-ltb, ltb-true, ltb-false, eq-eqb, ne-eqb}
+use borrow.Author.Tests.{lt-leb, le-leb, lt-ltb, le-ltb, ltb-true, ltb-false, eq-eqb, ne-eqb}
 use Rattle.layout.specs.Records.{_!_}
 use Rattle.layout.specs.Tests.{_and_, any}
 use Rattle.layout.proofs.Lists.{get-take, take-none}
-use Rattle.machine.specs.Try.{got, stuck, stop, _>>_, at, orStuck, endUnless}
+use Rattle.machine.specs.Try.{got, stuck, stop, _>>=_, _>>_, at, orStuck, stuckUnless, endUnless}
 use Rattle.machine.specs.States.{liveActivations, isForce, pending, withStack}
-use Rattle.machine.specs.Calls.{opened, passed}
+use Rattle.machine.specs.Calls.{opened, passed, skipped}
 use Rattle.machine.specs.declared.Activation.{Activation}
 use Rattle.machine.specs.declared.End.{End}
 use Rattle.machine.specs.declared.Opener.{Opener}
@@ -97,14 +97,41 @@ activation-same s t i h =
     let n = h 5 (omega arith) in
     λ u. record { opener = openerOf (o u) (p u); d = d u; frame = f u; block = b u; next = n u }
 
-pub passed-in : (M : Memory) → length (M .stack) ≡ 192 → 0 < M .depth → M .depth ≤ 32
-    → passed (stateOf M) (activationIn (M .stack) (M .depth - 1))
-    ≡ stateOf (withOpen M (M .owners) (M .calls) (set (M .stack) (6 * (M .depth - 1) + 5) (M .stack ! (6 * (M .depth - 1) + 5) + 1)) (M .depth))
-unfolding passed stateOf activationIn
-passed-in M l h b =
-    let x = M .stack ! (6 * (M .depth - 1) + 5) + 1 in
-    activation-put M _ (set (M .stack) (6 * (M .depth - 1) + 5) x) (M .depth - 1) (M .depth) (next-written (M .stack) (M .depth - 1) x (omega arith))
-    (λ j a q. activation-same (M .stack) (set (M .stack) (6 * (M .depth - 1) + 5) x) j (λ r g. getD-set-other (M .stack) (6 * (M .depth - 1) + 5) (6 * j + r) x 0 (λ z. q (omega arith))))
+module _ (M : Memory) (long : length (M .stack) ≡ 192) (begun : 0 < M .depth) (shallow : M .depth ≤ 32) where
+  abbrev next : ℕ
+  next = M .stack ! (6 * (M .depth - 1) + 5)
+
+  abbrev top : Activation
+  top = activationIn (M .stack) (M .depth - 1)
+
+  -- the activation on top, at x
+  abbrev topAt : ℕ → Activation
+  topAt x = record { opener = top .opener; d = top .d; frame = top .frame; block = top .block; next = x }
+
+  stood-at : (x : ℕ) → withStack (stateOf M) (stateOf M .frames) (M .calls) (set (stateOf M .activations) (M .depth - 1) (topAt x)) (M .depth)
+      ≡ stateOf (withOpen M (M .owners) (M .calls) (set (M .stack) (6 * (M .depth - 1) + 5) x) (M .depth))
+  stood-at x =
+      activation-put M _ (set (M .stack) (6 * (M .depth - 1) + 5) x) (M .depth - 1) (M .depth) (next-written (M .stack) (M .depth - 1) x (omega arith))
+      (λ j a q. activation-same (M .stack) (set (M .stack) (6 * (M .depth - 1) + 5) x) j (λ r g. getD-set-other (M .stack) (6 * (M .depth - 1) + 5) (6 * j + r) x 0 (λ z. q (omega arith))))
+
+  pub passed-in : passed (stateOf M) top ≡ stateOf (withOpen M (M .owners) (M .calls) (set (M .stack) (6 * (M .depth - 1) + 5) (next + 1)) (M .depth))
+  unfolding passed stateOf activationIn
+  passed-in = stood-at (next + 1)
+
+  -- n instructions further on, as far as a block goes
+  pub skipped-in : (n : ℕ) → next + n ≤ 48
+      → skipped (stateOf M) n ≡ got (stateOf (withOpen M (M .owners) (M .calls) (set (M .stack) (6 * (M .depth - 1) + 5) (next + n)) (M .depth)))
+  unfolding skipped stuckUnless _>>=_ _>>_ stateOf activationIn
+  skipped-in n h = rw (activation-live M begun shallow, le-leb (next + n) 48 h) (ap got (stood-at (next + n)))
+
+  pub skipped-far : (n : ℕ) → 48 < next + n → skipped (stateOf M) n ≡ stuck
+  unfolding skipped stuckUnless _>>=_ _>>_ stateOf activationIn
+  skipped-far n h = rw (activation-live M begun shallow, lt-leb (next + n) 48 h) refl
+
+-- of no activation
+pub skipped-none : (M : Memory) (n : ℕ) → M .depth ≡ 0 → skipped (stateOf M) n ≡ stuck
+unfolding skipped _>>=_ stateOf
+skipped-none M n e = rw (activation-none M e) refl
 
 -- ---- pending forces
 

@@ -1,5 +1,5 @@
 -- What the look-ups of a run's place, one behind the other, say of it.
-use mathlib.Core.Path.{_≡_, refl, sym, ap, _∙_, subst}
+use mathlib.Core.Path.{_≡_, refl, sym, _∙_, subst}
 use mathlib.Core.List.{List}
 use mathlib.Core.Bool.{Bool, true, false}
 use mathlib.Core.Option.{none, some}
@@ -103,19 +103,19 @@ module _ (s owners stack : List ℕ) (calls depth : ℕ) (r : Spot) (none-there 
         unfolding withOpen topOf
         over h = stuck-spot (λ M. stuck-over s (withOpen M owners calls stack depth) depth-begun (q .shallow) k (q .framed) (q .live) (q .few) v (w .version) b (x .block) (omega arith))
 
-        pub short : (m : ℕ) (o : Found) → m ≡ sizeAt s b → o ≡ skipped s (b + m) n → o ≡ Nothing → Located s owners calls stack depth r
+        pub short : (o : Found) → o ≡ skipped s (past s b) n → o ≡ Nothing → Located s owners calls stack depth r
         unfolding withOpen topOf blockAt
-        short m o em found e =
-            let g : length (viewAt s (past s b) .code) < n = skip-none s (past s b) n (ap (λ x. skipped s (b + x) n) (sym em) ∙ sym found ∙ e) in
+        short o found e =
+            let g : length (viewAt s (past s b) .code) < n = skip-none s (past s b) n (sym found ∙ e) in
             stuck-spot (λ M. stuck-short s (withOpen M owners calls stack depth) depth-begun (q .shallow) k (q .framed) (q .live) (q .few) v (w .version) b (x .block) (omega arith))
 
 -- ---- at an instruction or at a block end
 
 module _ (s owners stack : List ℕ) (calls depth k : ℕ) (q : Top stack calls depth k) (v : ℕ) (w : Owned s owners k v) (b : ℕ) (x : Blocked s stack depth v b) where
-  pub there : (n : ℕ) → n ≡ stack ! (6 * (depth - 1) + 5) → n ≤ 48 → (m : ℕ) (o : Found) (p : ℕ) → m ≡ sizeAt s b → o ≡ skipped s (b + m) n → o ≡ At p → Located s owners calls stack depth (record { calls = calls; depth = depth; here = true; frame = k; version = v; block = b; at = p; next = n })
+  pub there : (n : ℕ) → n ≡ stack ! (6 * (depth - 1) + 5) → n ≤ 48 → (o : Found) (p : ℕ) → o ≡ skipped s (past s b) n → o ≡ At p → Located s owners calls stack depth (record { calls = calls; depth = depth; here = true; frame = k; version = v; block = b; at = p; next = n })
   unfolding Located Stands withOpen topOf blockAt
-  there n nexted low m o p em found e M =
-      let g = skip-ahead s (past s b) n p (ap (λ x. skipped s (b + x) n) (sym em) ∙ sym found ∙ e) in
+  there n nexted low o p found e M =
+      let g = skip-ahead s (past s b) n p (sym found ∙ e) in
       record {
         calls = refl;
         depth = refl;
@@ -131,5 +131,6 @@ module _ (s owners stack : List ℕ) (calls depth k : ℕ) (q : Top stack calls 
           short = low;
           inside = g .1;
           ahead = g .0;
+          reached = sym found ∙ e;
         };
       }

@@ -8,6 +8,9 @@ use native.Mathlib.Nat.{not-suc-le-zero, le-of-suc-le-suc}
 use native.Mathlib.Omega.{arith}
 use lib.ListN.{length, getElem?, set, take, drop, length-drop}
 use lib.Seq.{getD-set-same, getD-set-other, take-all, drop-drop}
+use lib.Dec.{eqb, leb}
+use borrow.Author.Tests.{eqb-true, leb-true}
+use Rattle.layout.proofs.Bools.{and-both}
 use Rattle.layout.specs.Kinds as kind
 use Rattle.layout.specs.Records.{_!_, recAt}
 use Rattle.layout.specs.Tests.{_and_}
@@ -25,7 +28,7 @@ use Rattle.machine.specs.declared.Frame.{Frame}
 use Rattle.machine.specs.declared.State.{State}
 use Rattle.machine.specs.declared.Value.{Value}
 use Rattle.memory.specs.Memory.{Memory, activationIn, frameIn, stateOf}
-use Rattle.places.specs.Standing.{Standing, skipped, topOf}
+use Rattle.places.specs.Standing.{Reached, Spotted, Standing, Stands, isBefore, nowhere, skipped, topOf}
 use Rattle.places.specs.declared.Spot.{Spot}
 use Rattle.machine.proofs.Tries.{at-some, at-none}
 use Rattle.memory.proofs.Frames.{frame-live, frame-dead, frame-outside}
@@ -66,6 +69,45 @@ pub skip-done : (s : List ℕ) (p n : ℕ) → n ≤ 0 → skipped s p n ≡ At 
 unfolding skipped
 skip-done s p zero h = refl
 skip-done s p (suc n) h = absurd (omega arith)
+
+-- a skip in two parts
+pub skip-both : (s : List ℕ) (p m q n : ℕ) → skipped s p m ≡ At q → skipped s p (m + n) ≡ skipped s q n
+unfolding skipped
+skip-both s p zero q n e =
+    let z : p ≡ q = cc in
+    let w : zero + n ≡ n = omega arith in
+    rw (w, z) refl
+skip-both s p (suc m) q n e =
+    let w : suc m + n ≡ suc (m + n) = omega arith in
+    rw w (go (isLine s p) e (skip-both s (past s p) m q n))
+  where
+    go : (b : Bool) → cond b (skipped s (past s p) m) Nothing ≡ At q → (skipped s (past s p) m ≡ At q → skipped s (past s p) (m + n) ≡ skipped s q n) → cond b (skipped s (past s p) (m + n)) Nothing ≡ skipped s q n
+    go true g ih = ih g
+    go false g ih = let z : _≡_ {A = ℕ} 0 1 = cc in absurd (omega arith)
+
+-- a skip of n from its m-th record on
+pub skip-rest : (s : List ℕ) (p m q n : ℕ) → skipped s p m ≡ At q → m ≤ n → skipped s q (n - m) ≡ skipped s p n
+skip-rest s p m q n e h =
+    let w : m + (n - m) ≡ n = omega arith in
+    sym (ap (skipped s p) (sym w) ∙ skip-both s p m q (n - m) e)
+
+-- from a spot before it on
+pub before-is : (p : Spot) (b n : ℕ) → isBefore p b n ≡ true → (p .here ≡ true) × (p .block ≡ b) × (p .next ≤ n)
+unfolding isBefore
+before-is p b n e =
+    let h = and-both (p .here) (eqb (p .block) b and leb (p .next) n) e in
+    let g = and-both (eqb (p .block) b) (leb (p .next) n) (h .1) in
+    (h .0, eqb-true (p .block) b (g .0), leb-true (p .next) n (g .1))
+
+pub reach-on : (s : List ℕ) (p : Spot) (b n : ℕ) → Reached s p → isBefore p b n ≡ true → skipped s (p .at) (n - p .next) ≡ skipped s (past s b) n
+unfolding Reached
+reach-on s p b n r e =
+    let h = before-is p b n e in
+    skip-rest s (past s (p .block)) (p .next) (p .at) n (r (h .0)) (h .2) ∙ ap (λ x. skipped s (past s x) n) (h .1)
+
+skip-more : (s : List ℕ) (p n q : ℕ) → skipped s p n ≡ At q → isLine s q ≡ true → skipped s p (n + 1) ≡ At (past s q)
+unfolding skipped
+skip-more s p n q e l = skip-both s p n q 1 e ∙ rw l refl
 
 -- ---- where a machine stands
 
@@ -284,6 +326,7 @@ standing-same s M N p q eo ec es ed = record {
   short = q .short;
   inside = q .inside;
   ahead = q .ahead;
+  reached = q .reached;
 }
 
 module _ (s : List ℕ) (M N : Memory) (p : Spot) (q : Standing s M p) (below : p .next < 48) (line : isLine s (p .at) ≡ true) where
@@ -313,4 +356,18 @@ module _ (s : List ℕ) (M N : Memory) (p : Spot) (q : Standing s M p) (below : 
         short = omega arith;
         inside = omega (arith, code-left);
         ahead = code-past;
+        reached = skip-more s (past s (p .block)) (p .next) (p .at) (q .reached) line;
       }
+
+-- ---- a spot is reached
+
+pub spotted-reached : {s : List ℕ} {M : Memory} {p : Spot} → Spotted s M p → Reached s p
+unfolding Reached Stands
+spotted-reached q e = (rw e at (q .stands)) .reached
+
+pub nowhere-reached : (s : List ℕ) (c d : ℕ) {p : Spot} → p ≡ nowhere c d → Reached s p
+unfolding Reached nowhere
+nowhere-reached s c d n e =
+    let f = ap (λ (x : Spot). x .here) n in
+    let z : _≡_ {A = ℕ} 0 1 = cc in
+    absurd (omega arith)

@@ -5,6 +5,7 @@ use mathlib.Core.Option.{some}
 use mathlib.Core.Bool.{Bool, true, false, cond}
 use Prim.Native.Nat.{ℕ, zero, suc, _+_, _-_, _*_, _<_, _≤_}
 use lib.ListN.{length, getElem?, drop}
+use lib.Dec.{eqb, leb}
 use Rattle.layout.specs.Kinds as kind
 use Rattle.layout.specs.Records.{_!_}
 use Rattle.layout.specs.Tests.{_and_}
@@ -41,11 +42,20 @@ pub record Standing (s : List ℕ) (M : Memory) (p : Spot) : Type 0 where
   pub short : p .next ≤ 48
   pub inside : p .next ≤ length (blockAt s (p .block) .code)
   pub ahead : viewAt s (p .at) .code ≡ drop (p .next) (blockAt s (p .block) .code)
+  pub reached : skipped s (past s (p .block)) (p .next) ≡ At (p .at)
 
 -- where it is at neither, the next step is stuck
 unfoldable pub Stands : List ℕ → Memory → Spot → Bool → Type 0
 Stands s M p true = Standing s M p
 Stands s M p false = advance (programOf s) (stateOf M) ≡ stuck
+
+-- a spot at an instruction or a block end stands where the instructions before it end
+unfoldable pub Reached : List ℕ → Spot → Type 0
+Reached s p = p .here ≡ true → skipped s (past s (p .block)) (p .next) ≡ At (p .at)
+
+-- the spot stands in the block at b, at the instruction n or before it
+unfoldable pub isBefore : Spot → ℕ → ℕ → Bool
+isBefore p b n = p .here and (eqb (p .block) b and leb (p .next) n)
 
 -- the spot p is where the run of the memory M stands
 pub record Spotted (s : List ℕ) (M : Memory) (p : Spot) : Type 0 where

@@ -3,7 +3,8 @@
 //! `table` is the image's index.
 ghost use mathlib.Core.Path.{_≡_};
 ghost use Rattle.index.specs.Indexed.{Indexed};
-ghost use Rattle.places.specs.Standing.{skipped, nowhere, Located};
+ghost use Rattle.program.specs.Places.{past};
+ghost use Rattle.places.specs.Standing.{skipped, nowhere, isBefore, Located, Reached};
 use layout::Found;
 use layout::bounds;
 use program::lookup;
@@ -37,8 +38,34 @@ fn skip(image: &[u8], from: usize, n: usize) -> Found
     Found::At(p)
 }
 
+/// Does the spot stand in the block at `b`, at the instruction `next` or before it?
+fn is_before(from: Spot, b: usize, next: usize) -> bool
+    ensures { λ r. ⌜ r ≡ isBefore from b next ⌝ }
+{
+    let here = from.here;
+    if !here {
+        return false;
+    }
+    if from.block != b {
+        return false;
+    }
+    from.next <= next
+}
+
+/// Where the instruction `next` of the block at `b` stands: from the spot on where that is before it, else from the block on.
+/// Part of the loop, whose spot stands where it says.
+fn reach(image: &[u8], from: Spot, b: usize, next: usize) -> Found
+    requires { ⌜ Reached (now image) from ⌝ }
+    ensures { λ r. ⌜ r ≡ skipped (now (image .entry)) (past (now (image .entry)) b) next ⌝ }
+{
+    if is_before(from, b, next) {
+        return skip(image, from.at, next - from.next);
+    }
+    skip(image, b + layout::size_at(image, b), next)
+}
+
 /// A run that stands nowhere.
-fn nowhere(calls: usize, depth: usize) -> Spot
+pub fn nowhere(calls: usize, depth: usize) -> Spot
     ensures { λ r. ⌜ r ≡ nowhere calls depth ⌝ }
 {
     Spot {
@@ -53,7 +80,7 @@ fn nowhere(calls: usize, depth: usize) -> Spot
     }
 }
 
-/// Where the activation on top stands.
+/// Where the activation on top stands; `from` is where a run stood before, or nowhere.
 /// Part of the loop, which keeps `table` the image's index: a test would cost each step.
 pub fn locate(
     image: &[u8],
@@ -62,8 +89,9 @@ pub fn locate(
     stack: &[u8; 192],
     calls: usize,
     depth: usize,
+    from: Spot,
 ) -> Spot
-    requires { ⌜ Indexed (now image) (now table) ⌝ }
+    requires { ⌜ Indexed (now image) (now table) × Reached (now image) from ⌝ }
     ensures { λ r. ⌜ Located (now (image .entry)) (now (owners .entry)) calls (now (stack .entry)) depth r ⌝ }
 {
     if depth == 0 {
@@ -95,7 +123,7 @@ pub fn locate(
     if bounds::INSTRUCTIONS < next {
         return nowhere(calls, depth);
     }
-    let Found::At(p) = skip(image, b + layout::size_at(image, b), next) else {
+    let Found::At(p) = reach(image, from, b, next) else {
         return nowhere(calls, depth);
     };
     Spot {

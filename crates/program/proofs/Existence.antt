@@ -39,7 +39,7 @@ block-lacks s v b e = none-past (versionAt s v .blocks) b (block-missing s v b e
 pub names-none : (n k : ℕ) (b : List ℕ) → (k ≡ kind.PROM → ⊥) → namesBlock n (instrOf k b) ≡ false
 unfolding namesBlock instrOf Rows
 names-none n k b h = choose-each (λ (i : Instr). namesBlock n i ≡ false) k _ _ refl
-    (λ e. refl, (λ e. refl, (λ e. refl, (λ e. refl, (λ e. refl, (λ e. refl, (λ e. refl, (λ e. refl, (λ e. refl, (λ e. refl, (λ e. refl, (λ e. refl, (λ e. absurd (h e), (λ e. refl, (λ e. refl, (λ e. refl, (λ e. refl, (λ e. refl, tt))))))))))))))))))
+    (λ e. refl, (λ e. refl, (λ e. refl, (λ e. refl, (λ e. refl, (λ e. refl, (λ e. refl, (λ e. refl, (λ e. refl, (λ e. refl, (λ e. refl, (λ e. refl, (λ e. absurd (h e), (λ e. refl, (λ e. refl, (λ e. refl, (λ e. refl, (λ e. refl, (λ e. refl, tt)))))))))))))))))))
 
 -- how many name the block n, of what is seen; before the first block of a version no instruction counts
 unfoldable pub namingsSeen : ℕ → Bool → View → ℕ

@@ -45,7 +45,7 @@ module _ (s : List ℕ) (p i : ℕ) {k : ℕ} (e : k ≡ kindAt s p) where
   pub no-operand : (k ≡ kind.VEC → ⊥) → (k ≡ kind.CALL → ⊥) → (k ≡ kind.DISPATCH → ⊥) → listedRegisters (instrAt s p) ! i ≡ 0
   unfolding listedRegisters instrAt instrOf Rows
   no-operand x y z = rw (← e) (choose-each (λ (j : Instr). listedRegisters j ! i ≡ 0) k _ _ refl
-      (λ h. refl, (λ h. refl, (λ h. refl, (λ h. absurd (x h), (λ h. refl, (λ h. refl, (λ h. refl, (λ h. refl, (λ h. refl, (λ h. refl, (λ h. refl, (λ h. refl, (λ h. refl, (λ h. refl, (λ h. refl, (λ h. refl, (λ h. absurd (y h), (λ h. absurd (z h), tt)))))))))))))))))))
+      (λ h. refl, (λ h. refl, (λ h. refl, (λ h. absurd (x h), (λ h. refl, (λ h. refl, (λ h. refl, (λ h. refl, (λ h. refl, (λ h. refl, (λ h. refl, (λ h. refl, (λ h. refl, (λ h. refl, (λ h. refl, (λ h. refl, (λ h. absurd (y h), (λ h. absurd (z h), (λ h. refl, tt))))))))))))))))))))
 
   pub type-dispatch : k ≡ kind.DISPATCH → listedTypes (instrAt s p) ! i ≡ every (bodyAt s p) 5 2 (bodyAt s p ! 4) ! i
   unfolding listedTypes instrAt instrOf choose
@@ -54,4 +54,4 @@ module _ (s : List ℕ) (p i : ℕ) {k : ℕ} (e : k ≡ kindAt s p) where
   pub no-type : (k ≡ kind.DISPATCH → ⊥) → listedTypes (instrAt s p) ! i ≡ 0
   unfolding listedTypes instrAt instrOf Rows
   no-type z = rw (← e) (choose-each (λ (j : Instr). listedTypes j ! i ≡ 0) k _ _ refl
-      (λ h. refl, (λ h. refl, (λ h. refl, (λ h. refl, (λ h. refl, (λ h. refl, (λ h. refl, (λ h. refl, (λ h. refl, (λ h. refl, (λ h. refl, (λ h. refl, (λ h. refl, (λ h. refl, (λ h. refl, (λ h. refl, (λ h. refl, (λ h. absurd (z h), tt)))))))))))))))))))
+      (λ h. refl, (λ h. refl, (λ h. refl, (λ h. refl, (λ h. refl, (λ h. refl, (λ h. refl, (λ h. refl, (λ h. refl, (λ h. refl, (λ h. refl, (λ h. refl, (λ h. refl, (λ h. refl, (λ h. refl, (λ h. refl, (λ h. refl, (λ h. absurd (z h), (λ h. refl, tt))))))))))))))))))))

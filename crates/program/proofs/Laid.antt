@@ -19,7 +19,7 @@ use Rattle.layout.specs.declared.Due.{Due}
 use Rattle.layout.proofs.Bools.{and-both}
 use Rattle.layout.proofs.Fields.{length-every}
 use Rattle.layout.proofs.Rows.{Rows, choose-each}
-use Rattle.program.specs.Program.{Instr, LIT, MOVE, USE, DUP, VEC, LEN, GET, SET, ARITH, SELECT, CAST, NAMED, STORE, PROM, FORCE, PEEK, POKE, CALL, DISPATCH, Line, Block, Version, View, instrOf, lineOf, blockOf, versionOf, nowhere, put, view, program}
+use Rattle.program.specs.Program.{Instr, LIT, MOVE, USE, DUP, VEC, LEN, GET, SET, ARITH, SELECT, CAST, NAMED, STORE, PROM, FORCE, PEEK, POKE, CALL, DISPATCH, SKIP, Line, Block, Version, View, instrOf, lineOf, blockOf, versionOf, nowhere, put, view, program}
 use Rattle.program.specs.Search.{Question, firstLine, firstBlock, first}
 use Rattle.program.proofs.Forms.{length-arguments}
 
@@ -52,6 +52,7 @@ instrBounded (PEEK d a x) = true
 instrBounded (POKE a x e) = true
 instrBounded (CALL d f w rs) = leb (length rs) OPERANDS
 instrBounded (DISPATCH d f mark ret pairs) = ltb mark MARKS and leb (length pairs) OPERANDS
+instrBounded (SKIP a n) = true
 
 abbrev pub bounds : Question
 bounds = record { ofVersion = versionBounded; ofBlock = λ v n b. blockBounded b; ofInstr = λ v n i. instrBounded i }
@@ -111,7 +112,7 @@ module _ (b : List ℕ) where
 instr-inside : (k : ℕ) (b : List ℕ) → inBounds k b ≡ true → instrBounded (instrOf k b) ≡ true
 unfolding instrBounded instrOf Rows
 instr-inside k b h = choose-each (λ (i : Instr). instrBounded i ≡ true) k _ _ refl
-    (λ e. refl, (λ e. refl, (λ e. refl, (λ e. rw (length-every b 2 1 (b ! 1)) (vec-bound b e h), (λ e. refl, (λ e. refl, (λ e. refl, (λ e. arith-bound b e h, (λ e. refl, (λ e. refl, (λ e. refl, (λ e. refl, (λ e. refl, (λ e. refl, (λ e. refl, (λ e. refl, (λ e. rw (length-every b 4 1 (b ! 3)) (call-bound b e h), (λ e. rw (length-arguments b 5 (b ! 4)) (dispatch-bound b e h), tt))))))))))))))))))
+    (λ e. refl, (λ e. refl, (λ e. refl, (λ e. rw (length-every b 2 1 (b ! 1)) (vec-bound b e h), (λ e. refl, (λ e. refl, (λ e. refl, (λ e. arith-bound b e h, (λ e. refl, (λ e. refl, (λ e. refl, (λ e. refl, (λ e. refl, (λ e. refl, (λ e. refl, (λ e. refl, (λ e. rw (length-every b 4 1 (b ! 3)) (call-bound b e h), (λ e. rw (length-arguments b 5 (b ! 4)) (dispatch-bound b e h), (λ e. refl, tt)))))))))))))))))))
 
 module _ (r : Rec) (d : Due) (w : View) (a : Laid (dueAfter d r) w) (bound : inBounds (r .kind) (r .body) ≡ true) (order : inOrder d (r .kind) ≡ true) where
   at-version : r .kind ≡ kind.VERSION → Laid d (put r w)

@@ -1,3 +1,4 @@
+pub mod Ends
 pub mod Existence
 pub mod Forms
 pub mod Held

@@ -17,7 +17,7 @@ pub record Argument : Type 0 where
   pub type : ℕ
   pub register : ℕ
 
--- kinds 16 to 34, each with its fields in the paper's order; registers, names, blocks, functions, versions, marks, types and op by number
+-- kinds 16 to 35, each with its fields in the paper's order; registers, names, blocks, functions, versions, marks, types and op by number
 pub data Instr : Type 0 where
   LIT : (d : ℕ) (i : ℤ) → Instr
   MOVE : (d a : ℕ) → Instr
@@ -38,6 +38,7 @@ pub data Instr : Type 0 where
   POKE : (a x e : ℕ) → Instr
   CALL : (d function version : ℕ) (rs : List ℕ) → Instr
   DISPATCH : (d function mark return : ℕ) (pairs : List Argument) → Instr
+  SKIP : (a n : ℕ) → Instr
 
 -- an instruction and the offset of its record; likewise below
 pub record Line : Type 0 where
@@ -94,7 +95,8 @@ instrOf k b = choose k (LIT (b ! 0) (signed b 1)) (
     (kind.PEEK, PEEK (b ! 0) (b ! 1) (b ! 2)) ∷
     (kind.POKE, POKE (b ! 0) (b ! 1) (b ! 2)) ∷
     (kind.CALL, CALL (b ! 0) (b ! 1) (b ! 2) (fields b 4 (b ! 3))) ∷
-    (kind.DISPATCH, DISPATCH (b ! 0) (b ! 1) (b ! 2) (b ! 3) (arguments b 5 (b ! 4))) ∷ [])
+    (kind.DISPATCH, DISPATCH (b ! 0) (b ! 1) (b ! 2) (b ! 3) (arguments b 5 (b ! 4))) ∷
+    (kind.SKIP, SKIP (b ! 0) (b ! 1)) ∷ [])
 
 -- Image: the instruction that a record makes
 abbrev pub lineOf : Rec → Line

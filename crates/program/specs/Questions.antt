@@ -6,7 +6,7 @@ use lib.ListN.{length}
 use lib.Dec.{ltb, eqb}
 use Rattle.layout.specs.Bounds.{NAMES}
 use Rattle.layout.specs.Tests.{_and_, all, count, found}
-use Rattle.program.specs.Program.{Argument, Instr, LIT, MOVE, USE, DUP, VEC, LEN, GET, SET, ARITH, SELECT, CAST, NAMED, STORE, PROM, FORCE, PEEK, POKE, CALL, DISPATCH, Line, Block, Version, Program, findVersion, hasFunction}
+use Rattle.program.specs.Program.{Argument, Instr, LIT, MOVE, USE, DUP, VEC, LEN, GET, SET, ARITH, SELECT, CAST, NAMED, STORE, PROM, FORCE, PEEK, POKE, CALL, DISPATCH, SKIP, Line, Block, Version, Program, findVersion, hasFunction}
 use Rattle.program.specs.Search.{Question}
 
 -- does the register exist in the version?
@@ -38,6 +38,7 @@ exists P v n (PEEK d a x) = registerExists v d and registerExists v a and nameEx
 exists P v n (POKE a x e) = registerExists v a and nameExists x and registerExists v e
 exists P v n (CALL d f w rs) = registerExists v d and all (registerExists v) rs and found (findVersion P f w) (λ c. eqb (length rs) (c .parameters))
 exists P v n (DISPATCH d f mark ret pairs) = registerExists v d and all (λ (a : Argument). registerExists v (a .register)) pairs and hasFunction f P
+exists P v n (SKIP a k) = registerExists v a
 
 -- is it a PROM that names the block n?
 unfoldable pub namesBlock : ℕ → Instr → Bool
@@ -60,6 +61,7 @@ namesBlock n (PEEK d a x) = false
 namesBlock n (POKE a x e) = false
 namesBlock n (CALL d f w rs) = false
 namesBlock n (DISPATCH d f mark ret pairs) = false
+namesBlock n (SKIP a k) = false
 
 -- how many PROMs of these blocks name the block n
 unfoldable pub namings : ℕ → List Block → ℕ

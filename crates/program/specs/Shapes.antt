@@ -2,7 +2,7 @@
 use mathlib.Core.List.{List, [], map}
 use Prim.Native.Nat.{ℕ}
 use lib.ListN.{length}
-use Rattle.program.specs.Program.{Argument, Instr, LIT, MOVE, USE, DUP, VEC, LEN, GET, SET, ARITH, SELECT, CAST, NAMED, STORE, PROM, FORCE, PEEK, POKE, CALL, DISPATCH}
+use Rattle.program.specs.Program.{Argument, Instr, LIT, MOVE, USE, DUP, VEC, LEN, GET, SET, ARITH, SELECT, CAST, NAMED, STORE, PROM, FORCE, PEEK, POKE, CALL, DISPATCH, SKIP}
 use Rattle.program.specs.declared.Instruction.{Instruction}
 
 -- the decoded form of an instruction
@@ -26,6 +26,7 @@ shapeOf (PEEK d a x) = Instruction.Peek d a x
 shapeOf (POKE a x e) = Instruction.Poke a x e
 shapeOf (CALL d f w rs) = Instruction.Call d f w (length rs)
 shapeOf (DISPATCH d f mark ret pairs) = Instruction.Dispatch d f mark ret (length pairs)
+shapeOf (SKIP a n) = Instruction.Skip a n
 
 -- the registers that VEC, CALL and DISPATCH list
 unfoldable pub listedRegisters : Instr → List ℕ
@@ -48,6 +49,7 @@ listedRegisters (PEEK d a x) = []
 listedRegisters (POKE a x e) = []
 listedRegisters (CALL d f w rs) = rs
 listedRegisters (DISPATCH d f mark ret pairs) = map (λ (a : Argument). a .register) pairs
+listedRegisters (SKIP a n) = []
 
 -- the types that DISPATCH lists beside them
 unfoldable pub listedTypes : Instr → List ℕ
@@ -70,3 +72,4 @@ listedTypes (PEEK d a x) = []
 listedTypes (POKE a x e) = []
 listedTypes (CALL d f w rs) = []
 listedTypes (DISPATCH d f mark ret pairs) = map (λ (a : Argument). a .type) pairs
+listedTypes (SKIP a n) = []

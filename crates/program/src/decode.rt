@@ -130,6 +130,10 @@ pub fn decode(image: &[u8], p: usize) -> Instruction
             returns: small(image, p, 3),
             n: small(image, p, 4),
         },
+        kinds::SKIP => Instruction::Skip {
+            a: small(image, p, 0),
+            n: small(image, p, 1),
+        },
         _ => Instruction::Lit {
             d: small(image, p, 0),
             i: literal(image, p),

@@ -1,8 +1,9 @@
-//! The program of an image: look-up and decoding of its versions, blocks and instructions, and question 7.
+//! The program of an image: look-up and decoding of its versions, blocks and instructions, and questions 7 and 14.
 
 pub mod decode;
 pub mod lookup;
 pub mod pass;
+pub mod question14;
 pub mod question7;
 
 /// An instruction's fields; of a list of operands the length, while the operands stay in the image.
@@ -94,6 +95,10 @@ pub enum Instruction {
         function: u8,
         mark: u8,
         returns: u8,
+        n: u8,
+    },
+    Skip {
+        a: u8,
         n: u8,
     },
 }

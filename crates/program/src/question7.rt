@@ -190,6 +190,7 @@ fn instruction_exists(image: &[u8], table: &[usize; 128], v: usize, b: usize, p:
         kinds::POKE => poke_exists(image, v, b, p),
         kinds::CALL => call_exists(image, table, v, b, p),
         kinds::DISPATCH => dispatch_exists(image, table, v, b, p),
+        kinds::SKIP => all_exist(image, p, 0, 1, 1, registers),
         _ => all_exist(image, p, 0, 1, 1, registers),
     }
 }

@@ -1,7 +1,7 @@
 pub mod Follows
-pub mod Walked
-pub mod Suffixes
-pub mod Touches
-pub mod Calm
-pub mod Fitting
+pub mod Needs
+pub mod Prefixes
 pub mod Rules
+pub mod Touches
+pub mod Walked
+pub mod Ways

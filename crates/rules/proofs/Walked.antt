@@ -10,15 +10,15 @@ use lib.ListN.{getD, getElem?}
 use lib.Dec.{ltb}
 use borrow.Author.Tests.{ltb-true}
 use Rattle.program.specs.Program.{Block, Version, Program}
-use Rattle.rules.specs.Actions.{Action, reading, touch, actionOf, along, enter, actions}
-use Rattle.rules.specs.Walks.{blockAction, acts}
+use Rattle.rules.specs.Actions.{Action, touch, actionOf, skipOf, along, enter, actions}
+use Rattle.rules.specs.Walks.{blockAction, acts, skipsOf}
 
 -- the block b with the blocks that it enters, where `does` says what each block does
 abbrev walked : Program → ℕ → (ℕ → Option Action) → Block → Option Action
-walked P b does x = along (λ i. actionOf (λ e. cond (ltb b e) (does e) none) (touch P i)) (x .result) (reading []) (x .code)
+walked P b does x = along (skipsOf P) (λ i. actionOf (λ e. cond (ltb b e) (does e) none) (touch P i)) (x .result) (x .code)
 
 walked-ext : (P : Program) (b : ℕ) (f g : ℕ → Option Action) (x : Block) → ((e : ℕ) → b < e → f e ≡ g e) → walked P b f x ≡ walked P b g x
-walked-ext P b f g x h = ap (λ (k : ℕ → Option Action). along (λ i. actionOf k (touch P i)) (x .result) (reading []) (x .code)) (fun-ext (λ e. go e (ltb b e) refl))
+walked-ext P b f g x h = ap (λ (k : ℕ → Option Action). along (skipsOf P) (λ i. actionOf k (touch P i)) (x .result) (x .code)) (fun-ext (λ e. go e (ltb b e) refl))
   where
     go : (e : ℕ) (t : Bool) → ltb b e ≡ t → cond t (f e) none ≡ cond t (g e) none
     go e true p = h e (ltb-true b e p)
@@ -38,7 +38,7 @@ walked-from P n (b ∷ bs) (suc i) x h =
     ∙ rw m (walked-ext P (n + 1 + i) (λ e. getD (actions P (n + 1) bs) (e - (n + 1)) none) (λ e. getD (actions P n (b ∷ bs)) (e - n) none) x (λ e lt. later n e (getD (actions P n (b ∷ bs)) 0 none) (actions P (n + 1) bs) (omega arith)))
 
 -- THE LAW of flow: what the block b of a version does, by what the blocks that it enters do
-pub walked-at : (P : Program) (v : Version) (b : ℕ) (x : Block) → getElem? (v .blocks) b ≡ some x → blockAction P v b ≡ along (acts P v b) (x .result) (reading []) (x .code)
+pub walked-at : (P : Program) (v : Version) (b : ℕ) (x : Block) → getElem? (v .blocks) b ≡ some x → blockAction P v b ≡ along (skipsOf P) (acts P v b) (x .result) (x .code)
 walked-at P v b x h = simp (zero-add, sub-zero) at (walked-from P 0 (v .blocks) b x h)
 
 -- a block that is not there does nothing that is allowed

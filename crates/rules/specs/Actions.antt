@@ -3,11 +3,11 @@ use mathlib.Core.List.{List, [], _∷_, map}
 use mathlib.Core.Option.{Option, none, some, Option·elim}
 use mathlib.Core.Bool.{Bool, cond, _||_}
 use Prim.Native.Nat.{ℕ, _+_, _-_}
-use lib.ListN.{getD}
+use lib.ListN.{length, take, drop, getD, set, replicate}
 use lib.Dec.{ltb}
-use Rattle.layout.specs.Bounds.{REGISTERS}
-use Rattle.sets.specs.Sets.{Set, empty, those, _∪_, _∖_, meets}
-use Rattle.program.specs.Program.{Argument, Instr, LIT, MOVE, USE, DUP, VEC, LEN, GET, SET, ARITH, SELECT, CAST, NAMED, STORE, PROM, FORCE, PEEK, POKE, CALL, DISPATCH, Line, Block, Version, Program, findVersion, given}
+use Rattle.layout.specs.Bounds.{REGISTERS, INSTRUCTIONS}
+use Rattle.sets.specs.Sets.{Set, empty, those, _∪_, _∩_, _∖_, meets}
+use Rattle.program.specs.Program.{Argument, Instr, LIT, MOVE, USE, DUP, VEC, LEN, GET, SET, ARITH, SELECT, CAST, NAMED, STORE, PROM, FORCE, PEEK, POKE, CALL, DISPATCH, SKIP, Line, Block, Version, Program, findVersion, given}
 use Rattle.rules.specs.Types.{isOwned}
 
 -- four sets: R read before assigned, W assigned, U emptied, C captured
@@ -53,12 +53,14 @@ unfoldable pub promised : Option Action → Option Action
 promised none = none
 promised (some a) = some (record { R = a .R; W = ∅; U = a .U; C = a .R ∪ a .W ∪ a .U ∪ a .C })
 
--- an instruction reads its operands, then empties, then assigns; PROM enters a block, then assigns
+-- an instruction reads its operands, then empties, then assigns; PROM enters a block, then assigns; SKIP reads, and may pass over n instructions
 infix 20 reads_empties_assigns_
 infix 20 enters_assigns_
+infix 20 reads_skips_
 pub data Touch : Type 0 where
   reads_empties_assigns_ : List ℕ → List ℕ → List ℕ → Touch
   enters_assigns_ : ℕ → List ℕ → Touch
+  reads_skips_ : List ℕ → ℕ → Touch
 
 -- the registers of a call's owned parameters
 unfoldable pub emptied : List Argument → List ℕ
@@ -86,16 +88,59 @@ touch P (PEEK d a x) = reads a ∷ [] empties [] assigns d ∷ []
 touch P (POKE a x e) = reads a ∷ e ∷ [] empties [] assigns []
 touch P (CALL d f w rs) = reads rs empties (Option·elim (findVersion P f w) [] (λ c. emptied (given c rs))) assigns d ∷ []
 touch P (DISPATCH d f mark ret pairs) = reads (map (λ (a : Argument). a .register) pairs) empties (emptied pairs) assigns d ∷ []
+touch P (SKIP a n) = reads a ∷ [] skips n
 
 -- what an instruction does, where `enter` says what a block does
 unfoldable pub actionOf : (ℕ → Option Action) → Touch → Option Action
 actionOf enter (reads rs empties us assigns ds) = reading rs then emptying us then assigning ds
 actionOf enter (enters block assigns ds) = promised (enter block) then assigning ds
+actionOf enter (reads rs skips n) = reading rs
 
--- instructions one after the other behind what was done before them; the result register is read last
-unfoldable pub along : (Instr → Option Action) → ℕ → Option Action → List Line → Option Action
-along act result a [] = a then reading (result ∷ [])
-along act result a (l ∷ ls) = along act result (a then act (l .does)) ls
+-- how many instructions it may pass over
+unfoldable pub skipOf : Touch → Option ℕ
+skipOf (reads rs empties us assigns ds) = none
+skipOf (enters block assigns ds) = none
+skipOf (reads rs skips n) = some n
+
+-- two ways joined: R, U and C by union, W by what both assign
+unfoldable pub either : Action → Action → Action
+either a b = record { R = a .R ∪ b .R; W = a .W ∩ b .W; U = a .U ∪ b .U; C = a .C ∪ b .C }
+
+-- at a place in a block. `done`: what was done on the way through the instruction before (none: not allowed). `ways`: for each place from here to the block's end, what was done on the skips that lead there, joined (none: no skip leads there)
+pub record Walk : Type 0 where
+  pub done : Option Action
+  pub ways : List (Option Action)
+
+-- a way, joined by one that a skip took, if there is one
+unfoldable pub join : Option Action → Option Action → Option Action
+join none w = none
+join (some a) none = some a
+join (some a) (some w) = some (either a w)
+
+-- what was done before the instruction here, on all ways
+unfoldable pub here : Walk → Option Action
+here w = join (w .done) (getD (w .ways) 0 none)
+
+-- past an instruction that does b, by what it may pass over; a way past the end of the block is not allowed
+unfoldable pub past : Option ℕ → Option Action → Walk → Walk
+past none b w = record { done = here w then b; ways = drop 1 (w .ways) }
+past (some n) b w =
+    let a = here w then b in
+    let later = drop 1 (w .ways) in
+    record { done = cond (ltb n (length later)) a none; ways = set later n (join a (getD later n none)) }
+
+-- instructions one after the other
+unfoldable pub walk : (Instr → Option ℕ) → (Instr → Option Action) → Walk → List Line → Walk
+walk skip act w [] = w
+walk skip act w (l ∷ ls) = walk skip act (past (skip (l .does)) (act (l .does)) w) ls
+
+-- before a block: no way has been taken to its first 48 instructions and to its end
+abbrev pub start : List Line → Walk
+start code = record { done = reading []; ways = replicate (length (take INSTRUCTIONS code) + 1) none }
+
+-- a block: its instructions, and the result register is read last
+abbrev pub along : (Instr → Option ℕ) → (Instr → Option Action) → ℕ → List Line → Option Action
+along skip act result code = here (walk skip act (start code) code) then reading (result ∷ [])
 
 -- PROM enters a block above its own, n, where `above` says what those do
 unfoldable pub enter : ℕ → List (Option Action) → ℕ → Option Action
@@ -106,7 +151,7 @@ unfoldable pub actions : Program → ℕ → List Block → List (Option Action)
 actions P n [] = []
 actions P n (b ∷ bs) =
     let above = actions P (n + 1) bs in
-    along (λ i. actionOf (enter n above) (touch P i)) (b .result) (reading []) (b .code) ∷ above
+    along (λ i. skipOf (touch P i)) (λ i. actionOf (enter n above) (touch P i)) (b .result) (b .code) ∷ above
 
 -- what the body does
 abbrev pub bodyAction : Program → Version → Option Action

@@ -2,7 +2,7 @@
 use mathlib.Core.Bool.{Bool, true, false, not, _||_}
 use lib.Dec.{eqb}
 use Rattle.layout.specs.Tests.{any, found}
-use Rattle.program.specs.Program.{Instr, LIT, MOVE, USE, DUP, VEC, LEN, GET, SET, ARITH, SELECT, CAST, NAMED, STORE, PROM, FORCE, PEEK, POKE, CALL, DISPATCH, Line, Block, Version, Program, findVersion, markOf}
+use Rattle.program.specs.Program.{Instr, LIT, MOVE, USE, DUP, VEC, LEN, GET, SET, ARITH, SELECT, CAST, NAMED, STORE, PROM, FORCE, PEEK, POKE, CALL, DISPATCH, SKIP, Line, Block, Version, Program, findVersion, markOf}
 use Rattle.rules.specs.Fits.{declaredKind}
 
 -- effect is reflective with PEEK, POKE, FORCE of kind 5, CALL of a reflective version, or a reflective DISPATCH mark; PROM itself is quiet
@@ -26,6 +26,7 @@ reflective P v (PEEK d a x) = true
 reflective P v (POKE a x e) = true
 reflective P v (CALL d f w rs) = found (findVersion P f w) (λ c. eqb (markOf c) 1)
 reflective P v (DISPATCH d f mark ret pairs) = eqb mark 1
+reflective P v (SKIP a k) = false
 
 -- does the mark of a block cover its effect?
 unfoldable pub covered : Program → Version → Block → Bool

@@ -5,7 +5,7 @@ use Prim.Native.Nat.{ℕ, _+_}
 use lib.ListN.{getD, getElem?}
 use lib.Dec.{eqb}
 use Rattle.layout.specs.Tests.{_and_, all, any, count, found}
-use Rattle.program.specs.Program.{Argument, Instr, LIT, MOVE, USE, DUP, VEC, LEN, GET, SET, ARITH, SELECT, CAST, NAMED, STORE, PROM, FORCE, PEEK, POKE, CALL, DISPATCH, Block, Version, Program, findVersion, given}
+use Rattle.program.specs.Program.{Argument, Instr, LIT, MOVE, USE, DUP, VEC, LEN, GET, SET, ARITH, SELECT, CAST, NAMED, STORE, PROM, FORCE, PEEK, POKE, CALL, DISPATCH, SKIP, Block, Version, Program, findVersion, given}
 use Rattle.rules.specs.Types.{kindOf, isShared, isOwned, isBorrowed, isInteger, isVector, isPromise, within}
 
 -- the declared type of a register
@@ -92,6 +92,7 @@ fits P v n (PEEK d a x) = promise v a and plain v d 1
 fits P v n (POKE a x e) = promise v a and value v e
 fits P v n (CALL d f w rs) = found (findVersion P f w) (λ c. fitsCall v n d (given c rs) (c .return))
 fits P v n (DISPATCH d f mark ret pairs) = fitsCall v n d pairs ret
+fits P v n (SKIP a k) = integer v a
 
 -- the result register: of the body within the return kind, owned if the return is, else shared or owned; of a promise block an integer
 unfoldable pub fitsResult : Version → ℕ → Block → Bool

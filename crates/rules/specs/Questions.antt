@@ -3,7 +3,7 @@ use mathlib.Core.Bool.{Bool, true, cond}
 use Prim.Native.Nat.{ℕ}
 use lib.Dec.{ltb}
 use Rattle.layout.specs.Tests.{_and_, all, allFrom}
-use Rattle.program.specs.Program.{Argument, Instr, LIT, MOVE, USE, DUP, VEC, LEN, GET, SET, ARITH, SELECT, CAST, NAMED, STORE, PROM, FORCE, PEEK, POKE, CALL, DISPATCH, Version, Program}
+use Rattle.program.specs.Program.{Argument, Instr, LIT, MOVE, USE, DUP, VEC, LEN, GET, SET, ARITH, SELECT, CAST, NAMED, STORE, PROM, FORCE, PEEK, POKE, CALL, DISPATCH, SKIP, Version, Program}
 use Rattle.program.specs.Search.{Question, free}
 use Rattle.rules.specs.Types.{parameterType, registerType, returnType}
 use Rattle.rules.specs.Fits.{fits, fitsResult}
@@ -38,6 +38,7 @@ typesAllowed (PEEK d a x) = true
 typesAllowed (POKE a x e) = true
 typesAllowed (CALL d f w rs) = true
 typesAllowed (DISPATCH d f mark ret pairs) = returnType ret and all (λ (a : Argument). parameterType (a .type)) pairs
+typesAllowed (SKIP a k) = true
 
 -- 6, as a question to the program
 abbrev pub question6 : Question

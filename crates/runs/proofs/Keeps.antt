@@ -3,19 +3,20 @@ use mathlib.Core.Path.{_≡_, refl, sym, ap, _∙_}
 use mathlib.Core.Logic.{_≢_}
 use mathlib.Core.List.{List, [], _∷_}
 use mathlib.Core.Option.{none, some}
-use mathlib.Core.Bool.{Bool, true, false, not, true≢false}
-use Prim.Native.Nat.{ℕ, zero, suc, _≤_, _<_}
+use mathlib.Core.Bool.{Bool, true, false, cond, not, true≢false}
+use Prim.Native.Nat.{ℕ, zero, suc, _+_, _-_, _≤_, _<_}
 use native.Mathlib.Decide.{decLt}
 use native.Mathlib.Omega.{arith}
 use lib.ListN.{length, getElem?, set, take}
-use lib.Dec.{ltb}
-use Rattle.program.specs.Program.{Instr, LIT, MOVE, USE, DUP, VEC, LEN, GET, SET, ARITH, SELECT, CAST, NAMED, STORE, PROM, FORCE, PEEK, POKE, CALL, DISPATCH, Version, Program}
+use lib.Dec.{leb, ltb}
+use Rattle.layout.specs.Bounds.{INSTRUCTIONS}
+use Rattle.program.specs.Program.{Instr, LIT, MOVE, USE, DUP, VEC, LEN, GET, SET, ARITH, SELECT, CAST, NAMED, STORE, PROM, FORCE, PEEK, POKE, CALL, DISPATCH, SKIP, Version, Program}
 use Rattle.rules.specs.Types.{kindOf, isOwned, within}
 use Rattle.machine.specs.Try.{Try, got, stuck, stop, _>>=_, _>>_, stuckUnless, endUnless, at, put, each}
-use Rattle.machine.specs.Values.{index}
+use Rattle.machine.specs.Values.{index, isZero}
 use Rattle.machine.specs.Values as values
-use Rattle.machine.specs.States.{ACTIVATIONS, place, itemsOf, newVector, liveFrames, value, integer, vector, promise, plain, name, kindIn, freeVector, freePromise, pending, withStack, withVector, withPromise, withFrame, withRegister, withName, assign, store}
-use Rattle.machine.specs.Calls.{opened, passed, emptyIf, emptied, force}
+use Rattle.machine.specs.States.{ACTIVATIONS, place, itemsOf, newVector, liveFrames, liveActivations, value, integer, vector, promise, plain, name, kindIn, freeVector, freePromise, pending, withStack, withVector, withPromise, withFrame, withRegister, withName, assign, store}
+use Rattle.machine.specs.Calls.{opened, passed, emptyIf, emptied, force, skipped}
 use Rattle.machine.specs.Steps.{alone, execute}
 use Rattle.machine.specs.declared.Activation.{Activation}
 use Rattle.machine.specs.declared.Cache.{Cache}
@@ -200,6 +201,12 @@ unfolding force
 force-keeps s k d p q (Cache.Forced z) = assign-keeps s k d (Value.Integer z)
 force-keeps s k d p q Cache.Unforced = gives-next _ (endUnless End.Undef (not (pending s p))) _ (λ x e. opened-keeps s _)
 
+-- a skip moves the activation on top
+skip-keeps : (b : Bool) (s : State) (n : ℕ) → Gives (Keeps s) (cond b (skipped s n) (got s))
+unfolding skipped withStack Gives
+skip-keeps true s n = gives-then _ (at (liveActivations s) (s .depth - 1)) _ (λ a _. gives-next _ (stuckUnless (leb (a .next + n) INSTRUCTIONS)) _ (λ _ _. record { count = refl; status = refl; frames = λ k. refl }))
+skip-keeps false s n = record { count = refl; status = refl; frames = λ k. refl }
+
 -- ---- instructions
 
 -- no other instruction than CALL and DISPATCH changes the calls
@@ -230,3 +237,4 @@ execute-keeps P s k f W (PEEK d a x) n =
 execute-keeps P s k f W (POKE a x e) n = gives-then _ (promise f a) _ (λ p _. gives-then _ (at (s .promises) p) _ (λ q _. gives-then _ (plain f e) _ (λ v _. store-keeps s (q .frame) x v)))
 execute-keeps P s k f W (CALL d g w rs) n = absurd (true≢false n)
 execute-keeps P s k f W (DISPATCH d g mark ret pairs) n = absurd (true≢false n)
+execute-keeps P s k f W (SKIP a m) n = gives-then _ (integer f a) _ (λ z _. skip-keeps (isZero z) s m)

@@ -16,7 +16,7 @@ use Rattle.layout.specs.Tests.{_and_, found}
 use Rattle.layout.proofs.Bools.{and-both}
 use Rattle.layout.proofs.Lists.{get-other, get-same}
 use Rattle.machine.proofs.Tries.{or-stuck, put-there}
-use Rattle.program.specs.Program.{Argument, Instr, LIT, MOVE, USE, DUP, VEC, LEN, GET, SET, ARITH, SELECT, CAST, NAMED, STORE, PROM, FORCE, PEEK, POKE, CALL, DISPATCH, Version, Program, findVersion, parameterTypes}
+use Rattle.program.specs.Program.{Argument, Instr, LIT, MOVE, USE, DUP, VEC, LEN, GET, SET, ARITH, SELECT, CAST, NAMED, STORE, PROM, FORCE, PEEK, POKE, CALL, DISPATCH, SKIP, Version, Program, findVersion, parameterTypes}
 use Rattle.rules.specs.Types.{kindOf, within}
 use Rattle.checker.specs.Verdicts.{verdictOf}
 use Rattle.checker.specs.declared.Verdict.{Verdict}
@@ -218,6 +218,7 @@ execute-lives P s a fr W (PEEK d r x) = other-lives P s a fr W (PEEK d r x) refl
 execute-lives P s a fr W (POKE r x e) = other-lives P s a fr W (POKE r x e) refl
 execute-lives P s a fr W (CALL d f w rs) = call-lives P s a fr W d f w rs
 execute-lives P s a fr W (DISPATCH d f mark ret pairs) = dispatch-lives P s a fr W d f mark ret pairs
+execute-lives P s a fr W (SKIP r n) = other-lives P s a fr W (SKIP r n) refl
 
 -- a block end, by what opened it
 end-lives : (P : Program) (s : State) (a : Activation) (W : Version) (v : Value) (o : Opener) → a .opener ≡ o → Gives (LivesOn s a blockEnd) (finish P s a W v o)

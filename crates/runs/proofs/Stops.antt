@@ -6,16 +6,17 @@ use mathlib.Core.Bool.{Bool, true, false, cond, not}
 use Prim.Native.Nat.{ℕ, zero, suc, _+_, _-_}
 use lib.IntN.{ℤ, pos, negsuc}
 use lib.ListN.{length, getElem?}
-use lib.Dec.{eqb, ltb}
+use lib.Dec.{eqb, leb, ltb}
+use Rattle.layout.specs.Bounds.{INSTRUCTIONS}
 use lib.Signed.{mag}
 use Rattle.layout.specs.Records.{choose}
 use Rattle.layout.specs.Tests.{_and_, found}
-use Rattle.program.specs.Program.{Instr, LIT, MOVE, USE, DUP, VEC, LEN, GET, SET, ARITH, SELECT, CAST, NAMED, STORE, PROM, FORCE, PEEK, POKE, CALL, DISPATCH, Version, Program, findVersion, parameterTypes}
+use Rattle.program.specs.Program.{Instr, LIT, MOVE, USE, DUP, VEC, LEN, GET, SET, ARITH, SELECT, CAST, NAMED, STORE, PROM, FORCE, PEEK, POKE, CALL, DISPATCH, SKIP, Version, Program, findVersion, parameterTypes}
 use Rattle.rules.specs.Types.{kindOf, isOwned, within}
 use Rattle.machine.specs.Try.{Try, got, stuck, stop, _>>=_, _>>_, stuckUnless, endUnless, orStuck, at, put, each}
 use Rattle.machine.specs.Values.{ranged, isZero, divided, arith, index}
 use Rattle.machine.specs.States.{ACTIVATIONS, place, itemsOf, liveFrames, liveActivations, register, named, full, anInteger, aVector, aPromise, noPromise, isSet, value, integer, vector, promise, plain, name, kindIn, vectorCounts, free, freeVector, freePromise, pending, withVector, withPromise, withRegister, withName, assign, store}
-use Rattle.machine.specs.Calls.{opened, passed, matching, emptyIf, emptied, frameFor, enter, lowest, picked, force, done, back, finish}
+use Rattle.machine.specs.Calls.{opened, passed, matching, emptyIf, emptied, frameFor, enter, lowest, picked, force, skipped, done, back, finish}
 use Rattle.machine.specs.Steps.{alone, registersOf, execute, Here, here, Position, instruction, blockEnd, outside, positionOf, proceed, advance}
 use Rattle.machine.specs.declared.Activation.{Activation}
 use Rattle.machine.specs.declared.Cache.{Cache}
@@ -285,6 +286,12 @@ unfolding force
 force-halts s k d p q (Cache.Forced z) = assign-halts s k d (Value.Integer z)
 force-halts s k d p q Cache.Unforced = next _ _ (undef-halts (not (pending s p))) (opened-halts s _)
 
+-- a skip
+skip-halts : (b : Bool) (s : State) (n : ℕ) → Halts (cond b (skipped s n) (got s))
+unfolding skipped Halts
+skip-halts true s n = bind _ _ (at-halts (liveActivations s) (s .depth - 1)) (λ a. next _ _ (test-halts (leb (a .next + n) INSTRUCTIONS)) tt)
+skip-halts false s n = tt
+
 -- ---- instructions
 
 -- every instruction
@@ -312,6 +319,7 @@ execute-halts P s k f W (CALL d g w rs) = bind _ _ (or-halts (findVersion P g w)
     next _ _ (test-halts (matching ks (parameterTypes X))) (enter-halts s k d X rs vs))))
 execute-halts P s k f W (DISPATCH d g mark ret pairs) = bind _ _ (each-halts (value f) (registersOf pairs) (value-halts f)) (λ vs. bind _ _ (each-halts (kindIn P s) vs (kind-halts P s)) (λ ks.
     bind _ _ (lowest-halts P g _ _ 0) (λ X. enter-halts s k d X (registersOf pairs) vs)))
+execute-halts P s k f W (SKIP a n) = bind _ _ (integer-halts f a) (λ z. skip-halts (isZero z) s n)
 
 -- ---- block ends
 

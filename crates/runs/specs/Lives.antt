@@ -7,7 +7,7 @@ use mathlib.Core.Bool.{Bool, true, false, not}
 use Prim.Native.Nat.{ℕ, _+_}
 use lib.IntN.{ℤ}
 use lib.ListN.{getElem?}
-use Rattle.program.specs.Program.{Argument, Instr, LIT, MOVE, USE, DUP, VEC, LEN, GET, SET, ARITH, SELECT, CAST, NAMED, STORE, PROM, FORCE, PEEK, POKE, CALL, DISPATCH, Program}
+use Rattle.program.specs.Program.{Argument, Instr, LIT, MOVE, USE, DUP, VEC, LEN, GET, SET, ARITH, SELECT, CAST, NAMED, STORE, PROM, FORCE, PEEK, POKE, CALL, DISPATCH, SKIP, Program}
 use Rattle.machine.specs.Try.{got}
 use Rattle.machine.specs.States.{liveFrames}
 use Rattle.machine.specs.Steps.{Here, Position, instruction, blockEnd, here, positionOf, advance}
@@ -97,6 +97,7 @@ isCall (PEEK d a x) = false
 isCall (POKE a x e) = false
 isCall (CALL d f w rs) = true
 isCall (DISPATCH d f mark ret pairs) = true
+isCall (SKIP a n) = false
 
 -- by a step from s to t, by where its activation a stands; nothing else can happen
 pub data Happens (s t : State) (a : Activation) : Position → Type 0 where

@@ -39,6 +39,11 @@ infixl 60 _∖_
 abbrev pub _∖_ : Set → Set → Set
 s ∖ t = both (λ a b. a && not b) s t
 
+-- Flow, ∩: in one and in the other
+infixl 60 _∩_
+abbrev pub _∩_ : Set → Set → Set
+s ∩ t = both _&&_ s t
+
 -- of k registers, those of a list
 unfoldable pub those : ℕ → List ℕ → Set
 those k [] = empty k

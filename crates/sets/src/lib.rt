@@ -1,6 +1,6 @@
 //! Register sets as 16-bit masks: register r is in the set when digit r of the mask is 1.
 ghost use mathlib.Core.Path.{_≡_};
-ghost use Rattle.sets.specs.Sets.{setOf, _∪_, _∖_, meets, below, only, has, size};
+ghost use Rattle.sets.specs.Sets.{setOf, _∪_, _∩_, _∖_, meets, below, only, has, size};
 
 /// The binary digits of a mask: one for each register.
 pub const WIDTH: usize = 16;
@@ -10,6 +10,13 @@ pub fn union(a: u16, b: u16) -> u16
     ensures { λ r. ⌜ setOf 16 r ≡ setOf 16 a ∪ setOf 16 b ⌝ }
 {
     a | b
+}
+
+/// The registers in `a` and in `b`.
+pub fn intersection(a: u16, b: u16) -> u16
+    ensures { λ r. ⌜ setOf 16 r ≡ setOf 16 a ∩ setOf 16 b ⌝ }
+{
+    a & b
 }
 
 /// The registers in `a` that are not in `b`.

@@ -15,7 +15,7 @@ use Rattle.layout.proofs.Fields.{all-map}
 use Rattle.layout.proofs.Bools.{and-both, found-some, found-none}
 use Rattle.layout.proofs.Lists.{get-in, get-some, get-take, take-in}
 use Rattle.sets.specs.Sets.{has}
-use Rattle.program.specs.Program.{Argument, Instr, CALL, DISPATCH, Line, Version, Program, findVersion, markOf, parameterTypes, beside, given}
+use Rattle.program.specs.Program.{Argument, Instr, CALL, DISPATCH, SKIP, Line, Version, Program, findVersion, markOf, parameterTypes, beside, given}
 use Rattle.program.specs.Questions.{registerExists, exists}
 use Rattle.program.proofs.Laid.{instrBounded}
 use Rattle.rules.specs.Types.{kindOf, ownershipOf, isShared, isOwned, isBorrowed, within}
@@ -252,7 +252,7 @@ module _ (P : Program) (sure : Sure P) (s : State) (a : Activation) (rest : List
             let y = get-map (cellAt (s .frames) (a .frame)) rs j (x .0) (x .1) in
             let q = there-at j (y .0) (y .1) in
             rw (← x .2, ← y .2) (within-trans _ _ (kindOf t)
-            (kind-within P (s .frames) (s .promises) (a .frame) (typeOf Y (y .0)) (cellAt (s .frames) (a .frame) (y .0)) (q .1) (typed P sure s a rest l W (y .0) (place-in P sure s a rest l W (y .0) (q .0))))
+            (kind-within P (W .keep) (s .frames) (s .promises) (a .frame) (typeOf Y (y .0)) (cellAt (s .frames) (a .frame) (y .0)) (q .1) (typed P sure s a rest l W (y .0) (place-in P sure s a rest l W (y .0) (q .0))))
             (kind-at j (y .0) (y .1) t h))
 
     call-rules : Enters P sure s a rest l W C rs d

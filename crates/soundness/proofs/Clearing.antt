@@ -25,7 +25,7 @@ use Rattle.machine.specs.declared.Promise.{Promise}
 use Rattle.machine.specs.declared.State.{State}
 use Rattle.machine.specs.declared.Value.{Value}
 use Rattle.soundness.proofs.Cells.{Sized, Apart, frameAt, cellAt, writeAt, wrote, at-same, at-other, at-function, at-version, write-sized, assign-is}
-use Rattle.soundness.proofs.Invariant.{versionAt, typeAt, isFull, keep, kept, Fits, Unshared, Heap, Ext, every}
+use Rattle.soundness.proofs.Invariant.{versionAt, typeAt, isFull, Fits, Unshared, Heap, Ext, every}
 use Rattle.soundness.proofs.Types.{clash, eqb-same}
 use Rattle.soundness.proofs.Heap.{same-version, fits-ext, known-ext}
 
@@ -85,26 +85,26 @@ module _ (fs fs′ : List Frame) (f : ℕ) (E : ℕ → Bool) (C : Cleared fs fs
   pub ext-older : Ext f every fs fs′
   ext-older = record { functions = λ k _. C .functions k; versions = λ k _. C .versions k; grow = λ k r h _ q. rw (C .same k r (λ e _. absurd (omega arith))) q }
 
-  module _ (P : Program) (n : ℕ) (ps : List Promise) (H : Heap P fs n ps) (spare : (r : ℕ) → E r ≡ true → keep P (versionAt P fs f) r ≡ false) where
-    pub ext-clear : Ext n (kept P fs) fs fs′
+  module _ (P : Program) {K : ℕ → ℕ → Bool} (n : ℕ) (ps : List Promise) (H : Heap P K fs n ps) (spare : (r : ℕ) → E r ≡ true → K f r ≡ false) where
+    pub ext-clear : Ext n (K) fs fs′
     ext-clear = record { functions = λ k _. C .functions k; versions = λ k _. C .versions k; grow = λ k r _ h q. go k r h q (cleared? k r) }
       where
-        go : (k r : ℕ) → kept P fs k r ≡ true → isFull (cellAt fs k r) ≡ true → ((k ≡ f) × (E r ≡ true)) ⊎ (cellAt fs′ k r ≡ cellAt fs k r) → isFull (cellAt fs′ k r) ≡ true
+        go : (k r : ℕ) → K k r ≡ true → isFull (cellAt fs k r) ≡ true → ((k ≡ f) × (E r ≡ true)) ⊎ (cellAt fs′ k r ≡ cellAt fs k r) → isFull (cellAt fs′ k r) ≡ true
         go k r h q (inl x) = clash (rw (x .0) at h) (spare r (x .1))
         go k r h q (inr x) = rw x q
 
-    pub heap-clear : Heap P fs′ n ps
+    pub heap-clear : Heap P K fs′ n ps
     unfolding Unshared Fits typeAt
     heap-clear = record {
       sized = C .sized;
       bound = H .bound;
       pool = H .pool;
       known = λ k h. known-ext P ext-clear k h (H .known k h);
-      typed = λ k r h. rw (same-version P ext-clear k h) (fits-ext P n fs fs′ ps k (typeAt P fs k r) ext-clear h (cellAt fs′ k r) (old k r h (cleared? k r)));
+      typed = λ k r h. rw (same-version P ext-clear k h) (fits-ext P K n fs fs′ ps k (typeAt P fs k r) ext-clear h (cellAt fs′ k r) (old k r h (cleared? k r)));
       own = λ k r k′ r′ w h h′ e e′ o. rw (same-version P ext-clear k′ h′) (H .own k r k′ r′ w h h′ (still k r w e) (still k′ r′ w e′) (rw (same-version P ext-clear k h) at o));
     }
       where
-        old : (k r : ℕ) → k < n → ((k ≡ f) × (E r ≡ true)) ⊎ (cellAt fs′ k r ≡ cellAt fs k r) → Fits P fs ps k (typeAt P fs k r) (cellAt fs′ k r)
+        old : (k r : ℕ) → k < n → ((k ≡ f) × (E r ≡ true)) ⊎ (cellAt fs′ k r ≡ cellAt fs k r) → Fits P K fs ps k (typeAt P fs k r) (cellAt fs′ k r)
         old k r h (inl x) = rw (x .0, C .gone r (x .1)) tt
         old k r h (inr x) = rw x (H .typed k r h)
 

@@ -46,7 +46,7 @@ StepSafe P = (s : State) → Inv P s → s .status ≡ Status.Running → Good (
 -- an end keeps all but the stack, which is spoken of only while the run goes on
 pub end-keeps : (P : Program) (s : State) (xs : List ℤ) (e : End) → Inv P s → Inv P (withEnd s xs e)
 unfolding withEnd
-end-keeps P s xs e inv = record { heap = inv .heap; vectors = inv .vectors; room = inv .room; deep = inv .deep; stack = λ h. absurd (not-running e h) }
+end-keeps P s xs e inv = record { keep = inv .keep; heap = inv .heap; vectors = inv .vectors; room = inv .room; deep = inv .deep; stack = λ h. absurd (not-running e h) }
 
 -- ---- the invariant is kept
 
@@ -229,11 +229,11 @@ empty-is (Value.Promise p) e = absurd (false≢true (sym e))
 
 module _ (P : Program) (sure : Sure P) (s : State) (inv : Inv P s) where
   -- a value that fits is of its type
-  of-type : (k t : ℕ) (v : Value) → k < s .calls → Fits P (s .frames) (s .promises) k t v → OfType P s t v
+  of-type : (k t : ℕ) (v : Value) → k < s .calls → Fits P (inv .keep) (s .frames) (s .promises) k t v → OfType P s t v
   of-type k t v h fit = go (isFull v) refl
     where
       go : (b : Bool) → isFull v ≡ b → OfType P s t v
-      go true e = ofKind v (valueKind P (s .frames) (s .promises) v) (kind-got P s (inv .heap) (inv .vectors) k t h v e fit) (kind-within P (s .frames) (s .promises) k t v e fit)
+      go true e = ofKind v (valueKind P (s .frames) (s .promises) v) (kind-got P s (inv .heap) (inv .vectors) k t h v e fit) (kind-within P (inv .keep) (s .frames) (s .promises) k t v e fit)
       go false e = rw (empty-is v e) nothing
 
   module _ (k : ℕ) (f : Frame) (live : Live s k f) where

@@ -9,7 +9,7 @@ use native.Mathlib.Numerals.{add-one}
 use native.Mathlib.Omega.{arith}
 use lib.ListN.{length, getD, getElem?, set, length-set, length-map}
 use lib.Dec.{eqb, ltb}
-use borrow.Author.Tests.{ltb-true}
+use borrow.Author.Tests.{ltb-true, ne-eqb}
 use Rattle.layout.specs.Bounds.{REGISTERS}
 use Rattle.layout.proofs.Lists.{get-in, get-some, get-take}
 use Rattle.machine.proofs.Tries.{put-in}
@@ -18,8 +18,8 @@ use Rattle.program.specs.Program.{Line, Version, Program, findVersion, markOf, 
 use Rattle.program.specs.Questions.{registerExists}
 use Rattle.rules.specs.Types.{kindOf, isShared, isOwned, isBorrowed, within}
 use Rattle.rules.specs.Fits.{typeOf, fitsReturn}
-use Rattle.rules.specs.Actions.{emptied as freed}
-use Rattle.rules.proofs.Follows.{or-left, or-right, not-true as not-false}
+use Rattle.rules.specs.Actions.{∅, emptied as freed}
+use Rattle.rules.proofs.Follows.{has-empty, or-left, or-right, not-true as not-false}
 use Rattle.checker.proofs.Accepted.{Checked}
 use Rattle.machine.specs.Try.{Try, got, _>>=_, _>>_, endUnless}
 use Rattle.machine.specs.States.{ACTIVATIONS, withStack}
@@ -31,16 +31,16 @@ use Rattle.machine.specs.declared.Opener.{Opener}
 use Rattle.machine.specs.declared.State.{State}
 use Rattle.machine.specs.declared.Value.{Value}
 use Rattle.soundness.proofs.Cells.{cell, cellAt, Apart, place?}
-use Rattle.soundness.proofs.Invariant.{Sure, versionAt, blockAt, cellType, typeAt, isFull, keep, kept, Fits, Unshared, Heap, Ext, every, Pend, top, waits, isPend, Gets, Stands, Opened, below, gives, awaited, Base, Stack, stackOf, Inv}
+use Rattle.soundness.proofs.Invariant.{Sure, versionAt, blockAt, cellType, typeAt, isFull, Fits, Unshared, Heap, Ext, every, Pend, top, waits, isPend, Gets, Stands, Opened, below, gives, awaited, Base, Stack, stackOf, Inv}
 use Rattle.soundness.proofs.Progress.{Good, good, good-got}
 use Rattle.soundness.proofs.Types.{clash, eqb-same, register-type}
-use Rattle.soundness.proofs.Heap.{same-version, same-type, ext-less, fits-ext, stack-ext, ext-push, version-new, cell-new, heap-push}
+use Rattle.soundness.proofs.Heap.{same-version, same-type, ext-less, fits-ext, stack-ext, ext-push, version-new, cell-new, heap-push, heap-keep, fits-keep, stack-keep, ext-both}
 use Rattle.checker.proofs.Limits.{limited}
 use Rattle.soundness.proofs.LiveCalls.{mark-is}
 use Rattle.soundness.proofs.NewFrames.{frame-function, frame-version, frame-whole, frame-cell, body-stands}
 use Rattle.soundness.proofs.KindsOf.{valueKind, kind-fits}
 use Rattle.soundness.proofs.Clearing.{isIn, Cleared, still, full-still, ext-older, ext-clear, heap-clear, emptied-ok}
-use Rattle.soundness.proofs.Standing.{At, moved, live, place-in, type-is, typed, meets, onward, under-le, spare, not-owned}
+use Rattle.soundness.proofs.Standing.{At, moved, live, place-in, type-is, typed, meets, onward, under-le, spare, not-owned, keepOn, keep-more, under-on}
 use Rattle.soundness.proofs.Vectors.{sole, under-body}
 use Rattle.soundness.proofs.Promises.{stack-push}
 
@@ -75,11 +75,11 @@ freed-owned (u ∷ ts) (q ∷ rs) (suc c) t r e g o = go (isOwned u) (freed-owne
 -- ---- frames and activations
 
 -- no more frames are live than activations
-stack-count : (P : Program) (fs : List Frame) (pend : Pend) (n : ℕ) (l : List Activation) → Stack P fs pend n l → n ≤ length l
+stack-count : (P : Program) (K : ℕ → ℕ → Bool) (fs : List Frame) (pend : Pend) (n : ℕ) (l : List Activation) → Stack P K fs pend n l → n ≤ length l
 unfolding Stack Base Opened below
-stack-count P fs top n [] s = absurd s
-stack-count P fs (waits d t m) n [] s = omega arith
-stack-count P fs pend n (a ∷ rest) s = go (a .opener) (s .1) (stack-count P fs (awaited P fs a) (below n (a .frame) (a .opener)) rest (s .2))
+stack-count P K fs top n [] s = absurd s
+stack-count P K fs (waits d t m) n [] s = omega arith
+stack-count P K fs pend n (a ∷ rest) s = go (a .opener) (s .1) (stack-count P K fs (awaited P fs a) (below n (a .frame) (a .opener)) rest (s .2))
   where
     go : (o : Opener) → Opened n (a .frame) (a .block) o → below n (a .frame) o ≤ length rest → n ≤ suc (length rest)
     go Opener.Call x h = omega arith
@@ -145,17 +145,17 @@ module _ (P : Program) (sure : Sure P) (s : State) (a : Activation) (rest : List
   hf = live P sure s a rest l W
 
   calls-few : s .depth < ACTIVATIONS → s .calls < ACTIVATIONS
-  calls-few h = omega (arith, below-suc (s .calls) (a .frame) (a .block) (a .opener) (W .opened), stack-count P (s .frames) _ _ rest (W .under), ap length (W .stacked), stack-length (s .activations) (s .depth))
+  calls-few h = omega (arith, below-suc (s .calls) (a .frame) (a .block) (a .opener) (W .opened), stack-count P (W .keep) (s .frames) _ _ rest (W .under), ap length (W .stacked), stack-length (s .activations) (s .depth))
 
   -- fs₁ has the registers of owned parameters emptied
   module _ (fs₁ : List Frame) (Z : Cleared (s .frames) fs₁ (a .frame) (isIn (freed (beside (parameterTypes C) rs)))) (hn : s .calls < ACTIVATIONS) where
-    spared : (r : ℕ) → isIn (freed (beside (parameterTypes C) rs)) r ≡ true → keep P (versionAt P (s .frames) (a .frame)) r ≡ false
+    spared : (r : ℕ) → isIn (freed (beside (parameterTypes C) rs)) r ≡ true → W .keep (a .frame) r ≡ false
     spared r h = spare P sure s a rest l W r (K .body r h) (K .empties r h)
 
-    H₁ : Heap P fs₁ (s .calls) (s .promises)
+    H₁ : Heap P (W .keep) fs₁ (s .calls) (s .promises)
     H₁ = heap-clear (s .frames) fs₁ (a .frame) _ Z P (s .calls) (s .promises) (W .heap) spared
 
-    E₁ : Ext (s .calls) (kept P (s .frames)) (s .frames) fs₁
+    E₁ : Ext (s .calls) (W .keep) (s .frames) fs₁
     E₁ = ext-clear (s .frames) fs₁ (a .frame) _ Z P (s .calls) (s .promises) (W .heap) spared
 
     g : Frame
@@ -175,14 +175,14 @@ module _ (P : Program) (sure : Sure P) (s : State) (a : Activation) (rest : List
         go (inl x) = (x .0, x .1, sym (x .2) ∙ e)
         go (inr x) = let z : _≡_ {A = ℕ} 0 1 = cc in absurd (omega arith)
 
-    fit : (c : ℕ) → Fits P fs₁ (s .promises) (a .frame) (cellType C c) (cell (frameFor C (map (cellAt (s .frames) (a .frame)) rs)) c)
+    fit : (c : ℕ) → Fits P (W .keep) fs₁ (s .promises) (a .frame) (cellType C c) (cell (frameFor C (map (cellAt (s .frames) (a .frame)) rs)) c)
     unfolding Fits
     fit c = go (new-cell c)
       where
-        go : ((r : ℕ) × (getElem? rs c ≡ some r) × (cell (frameFor C (map (cellAt (s .frames) (a .frame)) rs)) c ≡ cellAt (s .frames) (a .frame) r)) ⊎ (cell (frameFor C (map (cellAt (s .frames) (a .frame)) rs)) c ≡ Value.Empty) → Fits P fs₁ (s .promises) (a .frame) (cellType C c) (cell (frameFor C (map (cellAt (s .frames) (a .frame)) rs)) c)
+        go : ((r : ℕ) × (getElem? rs c ≡ some r) × (cell (frameFor C (map (cellAt (s .frames) (a .frame)) rs)) c ≡ cellAt (s .frames) (a .frame) r)) ⊎ (cell (frameFor C (map (cellAt (s .frames) (a .frame)) rs)) c ≡ Value.Empty) → Fits P (W .keep) fs₁ (s .promises) (a .frame) (cellType C c) (cell (frameFor C (map (cellAt (s .frames) (a .frame)) rs)) c)
         go (inl x) =
             let t = typed P sure s a rest l W (x .0) (place-in P sure s a rest l W (x .0) (K .exist c (x .0) (x .1))) in
-            rw (x .2, parameter c (x .0) (x .1) .1) (fits-ext P (s .calls) (s .frames) fs₁ (s .promises) (a .frame) (typeOf C c) E₁ hf (cellAt (s .frames) (a .frame) (x .0)) (kind-fits P (s .frames) (s .promises) (a .frame) (typeOf (versionAt P (s .frames) (a .frame)) (x .0)) (typeOf C c) (cellAt (s .frames) (a .frame) (x .0)) t (K .matches c (x .0) (x .1))))
+            rw (x .2, parameter c (x .0) (x .1) .1) (fits-ext P (W .keep) (s .calls) (s .frames) fs₁ (s .promises) (a .frame) (typeOf C c) E₁ hf (cellAt (s .frames) (a .frame) (x .0)) (kind-fits P (W .keep) (s .frames) (s .promises) (a .frame) (typeOf (versionAt P (s .frames) (a .frame)) (x .0)) (typeOf C c) (cellAt (s .frames) (a .frame) (x .0)) t (K .matches c (x .0) (x .1))))
         go (inr x) = rw x tt
 
     -- the vector of an owned parameter is in no cell any more
@@ -225,8 +225,23 @@ module _ (P : Program) (sure : Sure P) (s : State) (a : Activation) (rest : List
         go (inl z) = k .1 c′ (x′ .1 ∙ ap some (z .1))
         go (inr z) = absurd (omega (arith, z .1))
 
-    H₂ : Heap P (set fs₁ (s .calls) (frameFor C (map (cellAt (s .frames) (a .frame)) rs))) (suc (s .calls)) (s .promises)
-    H₂ = heap-push P fs₁ (s .calls) (s .promises) H₁ C _ hn (frame-whole C _) is-new (a .frame) hf fit lone once
+    -- the caller keeps what it has captured, the new frame nothing
+    abbrev K₁ : ℕ → ℕ → Bool
+    K₁ = keepOn (a .block) (W .keep) (a .frame) (meets P sure s a rest l W .next)
+
+    abbrev K₂ : ℕ → ℕ → Bool
+    K₂ = keepOn 0 (keepOn (a .block) (W .keep) (a .frame) (meets P sure s a rest l W .next)) (s .calls) (record { R = ∅; W = ∅; U = ∅; C = ∅ })
+
+    keeps-old : (k r : ℕ) → k < s .calls → K₂ k r ≡ K₁ k r
+    unfolding keepOn
+    keeps-old k r h = rw (ne-eqb k (s .calls) (λ z. absurd (omega arith))) refl
+
+    keeps-more : (k r : ℕ) → k < s .calls → W .keep k r ≡ true → K₂ k r ≡ true
+    keeps-more k r h q = keeps-old k r h ∙ keep-more P sure s a rest l W (meets P sure s a rest l W .next) (meets P sure s a rest l W .joins) k r q
+
+    H₂ : Heap P (keepOn 0 (keepOn (a .block) (W .keep) (a .frame) (meets P sure s a rest l W .next)) (s .calls) (record { R = ∅; W = ∅; U = ∅; C = ∅ })) (set fs₁ (s .calls) (frameFor C (map (cellAt (s .frames) (a .frame)) rs))) (suc (s .calls)) (s .promises)
+    H₂ = heap-push P fs₁ (s .calls) (s .promises) (heap-keep P (W .keep) K₂ fs₁ (s .calls) keeps-more (s .promises) H₁) C _ hn (frame-whole C _) is-new (a .frame) hf
+        (λ c. fits-keep P (W .keep) K₂ fs₁ (s .calls) keeps-more (s .promises) (a .frame) (cellType C c) hf (cell (frameFor C (map (cellAt (s .frames) (a .frame)) rs)) c) (fit c)) lone once
 
     E₂ : (L : ℕ → ℕ → Bool) → Ext (s .calls) L fs₁ (set fs₁ (s .calls) (frameFor C (map (cellAt (s .frames) (a .frame)) rs)))
     E₂ L = ext-push P fs₁ (s .calls) (s .promises) H₁ C _ hn (frame-whole C _) is-new L
@@ -238,23 +253,23 @@ module _ (P : Program) (sure : Sure P) (s : State) (a : Activation) (rest : List
     is-C = version-new P fs₁ (s .calls) (s .promises) H₁ C _ hn (frame-whole C _) is-new
 
     -- the body of the called version at its start
-    body-at : Stands P (set fs₁ (s .calls) (frameFor C (map (cellAt (s .frames) (a .frame)) rs))) top (s .calls) 0 0
-    body-at = body-stands P _ (s .calls) (rw is-C callee) (λ r h. filled r (rw is-C at h))
+    body-at : Stands P (keepOn 0 (keepOn (a .block) (W .keep) (a .frame) (meets P sure s a rest l W .next)) (s .calls) (record { R = ∅; W = ∅; U = ∅; C = ∅ })) (set fs₁ (s .calls) (frameFor C (map (cellAt (s .frames) (a .frame)) rs))) top (s .calls) 0 0
+    unfolding keepOn
+    body-at = body-stands P K₂ _ (s .calls) (rw is-C callee) (λ r h. filled r (rw is-C at h)) (λ r. rw (eqb-same (s .calls)) (has-empty 16 r))
       where
         filled : (r : ℕ) → r < C .parameters → isFull (cellAt (set fs₁ (s .calls) (frameFor C (map (cellAt (s .frames) (a .frame)) rs))) (s .calls) r) ≡ true
         filled r h = let e = get-some rs r 0 (omega (arith, K .count)) in
             rw (cell-new P fs₁ (s .calls) (s .promises) H₁ C _ hn (frame-whole C _) is-new r, frame-cell C (map (cellAt (s .frames) (a .frame)) rs) r few, argument-in (cellAt (s .frames) (a .frame)) rs r (getD rs r 0) e) (K .full r (getD rs r 0) e)
 
     -- the caller waits for its result
-    waiting : Stack P (set fs₁ (s .calls) (frameFor C (map (cellAt (s .frames) (a .frame)) rs))) (waits d (C .return) (blockAt C 0 .mark)) (s .calls) (moved a ∷ rest)
+    waiting : Stack P (keepOn 0 (keepOn (a .block) (W .keep) (a .frame) (meets P sure s a rest l W .next)) (s .calls) (record { R = ∅; W = ∅; U = ∅; C = ∅ })) (set fs₁ (s .calls) (frameFor C (map (cellAt (s .frames) (a .frame)) rs))) (waits d (C .return) (blockAt C 0 .mark)) (s .calls) (moved a ∷ rest)
     unfolding Stack awaited Gets isPend
-    waiting = (
+    waiting = stack-keep P K₁ K₂ _ (s .calls) _ keeps-old (moved a ∷ rest) (
       onward P sure s a rest l W _ (waits d (C .return) (blockAt C 0 .mark)) same (K .d-exists, K .d-fits, rw (mark-is C (limited P C callee .body)) (K .marked))
           (λ r h. inl (rw (K .only r h) (eqb-same d)))
           (λ r h q. E₂ every .grow (a .frame) r hf refl (full-still (s .frames) fs₁ (a .frame) _ Z r (not-false _ (λ z. clash (K .empties r z) h)) q)),
       W .opened,
-      rw same (stack-ext P (below (s .calls) (a .frame) (a .opener)) fs₁ _ _ (ext-less _ (under-le P sure s a rest l W) (E₂ every)) rest
-          (stack-ext P (below (s .calls) (a .frame) (a .opener)) (s .frames) fs₁ _ under-cleared rest (W .under))),
+      under-on P sure s a rest l W (meets P sure s a rest l W .next) (meets P sure s a rest l W .joins) _ same (ext-both under-cleared (ext-less _ (under-le P sure s a rest l W) (E₂ every))),
     )
       where
         under-cleared : Ext (below (s .calls) (a .frame) (a .opener)) every (s .frames) fs₁
@@ -268,6 +283,7 @@ module _ (P : Program) (sure : Sure P) (s : State) (a : Activation) (rest : List
     entered : s .depth < ACTIVATIONS → Inv P (withStack s (set fs₁ (s .calls) (frameFor C (map (cellAt (s .frames) (a .frame)) rs))) (s .calls + 1) (set (s .activations) (s .depth) (record { opener = Opener.Call; d = d; frame = s .calls; block = 0; next = 0 })) (s .depth + 1))
     unfolding withStack Stack awaited gives Opened below
     entered h = record {
+      keep = K₂;
       heap = rw add-one H₂;
       vectors = W .vectors;
       room = length-set (s .activations) (s .depth) _ ∙ W .room;

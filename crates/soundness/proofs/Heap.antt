@@ -4,7 +4,7 @@ use mathlib.Core.Logic.{_⊎_, inl, inr}
 use mathlib.Core.List.{List, [], _∷_}
 use mathlib.Core.Option.{some}
 use mathlib.Core.Bool.{Bool, true, false, _||_}
-use Prim.Native.Nat.{ℕ, suc, _≤_, _<_}
+use Prim.Native.Nat.{ℕ, zero, suc, _≤_, _<_}
 use native.Mathlib.Decide.{decLt}
 use native.Mathlib.Omega.{arith}
 use lib.ListN.{length, set}
@@ -19,7 +19,7 @@ use Rattle.machine.specs.declared.Frame.{Frame}
 use Rattle.machine.specs.declared.Promise.{Promise}
 use Rattle.machine.specs.declared.Value.{Value}
 use Rattle.soundness.proofs.Cells.{CELLS, Whole, Apart, place?, frameAt, cell, cellAt, writeAt, at-same, at-other, at-function, at-version, write-sized, write-all, set-same, set-other, set-sized}
-use Rattle.soundness.proofs.Invariant.{orNone, versionAt, promiseAt, cellType, typeAt, isFull, touches, Alive, kindAt, PromiseFits, Fits, Unshared, Lone, Heap, Ext, every, kept, Pend, isPend, Stands, below, awaited, Stack}
+use Rattle.soundness.proofs.Invariant.{orNone, versionAt, promiseAt, cellType, typeAt, isFull, touches, Alive, kindAt, PromiseFits, Fits, Unshared, Lone, Heap, Ext, every, Pend, isPend, Keeps, Stands, below, awaited, Stack}
 use Rattle.soundness.proofs.Types.{clash}
 use Rattle.soundness.proofs.Stacks.{opened-live, below-le}
 
@@ -63,17 +63,21 @@ touches-captured a r h = or-right (has (a .R) r || has (a .W) r || has (a .U) r)
 
 -- ---- values and activations
 
-module _ (P : Program) where
-  pub alive-ext : (n : ℕ) (fs fs′ : List Frame) (f b : ℕ) → Ext n (kept P fs) fs fs′ → f < n → Alive P fs f b → Alive P fs′ f b
+pub same-awaited : (P : Program) (fs fs′ : List Frame) (a : Activation) → versionAt P fs′ (a .frame) ≡ versionAt P fs (a .frame) → awaited P fs′ a ≡ awaited P fs a
+unfolding awaited
+same-awaited P fs fs′ a e = rw e refl
+
+module _ (P : Program) (K : ℕ → ℕ → Bool) where
+  pub alive-ext : (n : ℕ) (fs fs′ : List Frame) (f b : ℕ) → Ext n (K) fs fs′ → f < n → Alive P K fs f b → Alive P K fs′ f b
   alive-ext n fs fs′ f b e h a = record {
     positive = a .positive;
     action = a .action;
     does = rw (same-version P e f h) (a .does);
     ready = λ r q. e .grow f r h (a .kept r (touches-read (a .action) r q)) (a .ready r q);
-    kept = λ r q. rw (same-version P e f h) (a .kept r q);
+    kept = a .kept;
   }
 
-  pub promise-ext : (n : ℕ) (fs fs′ : List Frame) (q : Promise) (k t : ℕ) → Ext n (kept P fs) fs fs′ → k < n → PromiseFits P fs q k t → PromiseFits P fs′ q k t
+  pub promise-ext : (n : ℕ) (fs fs′ : List Frame) (q : Promise) (k t : ℕ) → Ext n (K) fs fs′ → k < n → PromiseFits P K fs q k t → PromiseFits P K fs′ q k t
   unfolding kindAt
   promise-ext n fs fs′ q k t e h a = let l : q .frame < n = omega (arith, a .older) in record {
     kind = rw (same-version P e (q .frame) l) (a .kind);
@@ -81,14 +85,14 @@ module _ (P : Program) where
     alive = alive-ext n fs fs′ (q .frame) (q .block) e l (a .alive);
   }
 
-  pub fits-ext : (n : ℕ) (fs fs′ : List Frame) (ps : List Promise) (k t : ℕ) → Ext n (kept P fs) fs fs′ → k < n → (x : Value) → Fits P fs ps k t x → Fits P fs′ ps k t x
+  pub fits-ext : (n : ℕ) (fs fs′ : List Frame) (ps : List Promise) (k t : ℕ) → Ext n (K) fs fs′ → k < n → (x : Value) → Fits P K fs ps k t x → Fits P K fs′ ps k t x
   unfolding Fits
   fits-ext n fs fs′ ps k t e h Value.Empty f = tt
   fits-ext n fs fs′ ps k t e h (Value.Integer z) f = f
   fits-ext n fs fs′ ps k t e h (Value.Vector i) f = f
   fits-ext n fs fs′ ps k t e h (Value.Promise p) f = (f .0, promise-ext n fs fs′ (promiseAt ps p) k t e h (f .1))
 
-  pub fits-up : (fs : List Frame) (ps : List Promise) (k k′ t : ℕ) → k ≤ k′ → (x : Value) → Fits P fs ps k t x → Fits P fs ps k′ t x
+  pub fits-up : (fs : List Frame) (ps : List Promise) (k k′ t : ℕ) → k ≤ k′ → (x : Value) → Fits P K fs ps k t x → Fits P K fs ps k′ t x
   unfolding Fits
   fits-up fs ps k k′ t l Value.Empty f = tt
   fits-up fs ps k k′ t l (Value.Integer z) f = f
@@ -96,15 +100,15 @@ module _ (P : Program) where
   fits-up fs ps k k′ t l (Value.Promise p) f = (f .0, record { kind = f .1 .kind; older = omega (arith, f .1 .older); alive = f .1 .alive })
 
   -- activations under the top, whose frames lie below n
-  pub stands-ext : (n : ℕ) (fs fs′ : List Frame) (pend : Pend) (f b i : ℕ) → Ext n every fs fs′ → f < n → Stands P fs pend f b i → Stands P fs′ pend f b i
+  pub stands-ext : (n : ℕ) (fs fs′ : List Frame) (pend : Pend) (f b i : ℕ) → Ext n every fs fs′ → f < n → Stands P K fs pend f b i → Stands P K fs′ pend f b i
   stands-ext n fs fs′ pend f b i e h a = record {
     action = a .action;
     does = rw (same-version P e f h) (a .does);
     inside = rw (same-version P e f h) (a .inside);
-    rest = a .rest;
-    is-rest = rw (same-version P e f h) (a .is-rest);
-    ready = λ r q. go r (a .ready r q);
-    captured = λ r q. rw (same-version P e f h) (a .captured r q);
+    done = a .done;
+    is-done = rw (same-version P e f h) (a .is-done);
+    ready = λ r q u n. go r (a .ready r q u (rw (same-version P e f h) at n));
+    keeps = a .keeps;
     gets = rw (same-version P e f h) (a .gets);
   }
     where
@@ -112,21 +116,52 @@ module _ (P : Program) where
       go r (inl p) = inl p
       go r (inr p) = inr (e .grow f r h refl p)
 
-  pub same-awaited : (fs fs′ : List Frame) (a : Activation) → versionAt P fs′ (a .frame) ≡ versionAt P fs (a .frame) → awaited P fs′ a ≡ awaited P fs a
-  unfolding awaited
-  same-awaited fs fs′ a e = rw e refl
-
-  pub stack-ext : (n : ℕ) (fs fs′ : List Frame) (pend : Pend) → Ext n every fs fs′ → (l : List Activation) → Stack P fs pend n l → Stack P fs′ pend n l
+  pub stack-ext : (n : ℕ) (fs fs′ : List Frame) (pend : Pend) → Ext n every fs fs′ → (l : List Activation) → Stack P K fs pend n l → Stack P K fs′ pend n l
   unfolding Stack
   stack-ext n fs fs′ pend e [] s = s
   stack-ext n fs fs′ pend e (a ∷ rest) s =
       let h = opened-live n (a .frame) (a .block) (a .opener) (s .1) in
       let m = below n (a .frame) (a .opener) in
-      (stands-ext n fs fs′ pend (a .frame) (a .block) (a .next) e h (s .0), s .1, rw (same-awaited fs fs′ a (same-version P e (a .frame) h)) (stack-ext m fs fs′ (awaited P fs a) (ext-less m (below-le n (a .frame) (a .block) (a .opener) (s .1)) e) rest (s .2)))
+      (stands-ext n fs fs′ pend (a .frame) (a .block) (a .next) e h (s .0), s .1, rw (same-awaited P fs fs′ a (same-version P e (a .frame) h)) (stack-ext m fs fs′ (awaited P fs a) (ext-less m (below-le n (a .frame) (a .block) (a .opener) (s .1)) e) rest (s .2)))
+
+-- ---- frames keep more
+
+module _ (P : Program) (K K′ : ℕ → ℕ → Bool) (fs : List Frame) (n : ℕ) (more : (k r : ℕ) → k < n → K k r ≡ true → K′ k r ≡ true) where
+  pub alive-keep : (f b : ℕ) → f < n → Alive P K fs f b → Alive P K′ fs f b
+  alive-keep f b h a = record { positive = a .positive; action = a .action; does = a .does; ready = a .ready; kept = λ r q. more f r h (a .kept r q) }
+
+  pub fits-keep : (ps : List Promise) (k t : ℕ) → k < n → (x : Value) → Fits P K fs ps k t x → Fits P K′ fs ps k t x
+  unfolding Fits
+  fits-keep ps k t h Value.Empty f = tt
+  fits-keep ps k t h (Value.Integer z) f = f
+  fits-keep ps k t h (Value.Vector i) f = f
+  fits-keep ps k t h (Value.Promise p) f =
+      (f .0, record { kind = f .1 .kind; older = f .1 .older; alive = alive-keep (promiseAt ps p .frame) (promiseAt ps p .block) (omega (arith, f .1 .older)) (f .1 .alive) })
+
+  pub heap-keep : (ps : List Promise) → Heap P K fs n ps → Heap P K′ fs n ps
+  heap-keep ps H = record { sized = H .sized; bound = H .bound; pool = H .pool; known = H .known; typed = λ k c h. fits-keep ps k (typeAt P fs k c) h (cellAt fs k c) (H .typed k c h); own = H .own }
+
+-- the frames of a stack keep the same
+keeps-same : (b : ℕ) (k k′ : ℕ → Bool) (done action : Action) → ((r : ℕ) → k′ r ≡ k r) → Keeps b k done action → Keeps b k′ done action
+unfolding Keeps
+keeps-same zero k k′ done action e h = λ r. e r ∙ h r
+keeps-same (suc b) k k′ done action e h = λ r q. e r ∙ h r q
+
+pub stack-keep : (P : Program) (K K′ : ℕ → ℕ → Bool) (fs : List Frame) (n : ℕ) (pend : Pend) → ((k r : ℕ) → k < n → K′ k r ≡ K k r) → (l : List Activation) → Stack P K fs pend n l → Stack P K′ fs pend n l
+unfolding Stack
+stack-keep P K K′ fs n pend same [] s = s
+stack-keep P K K′ fs n pend same (a ∷ rest) s =
+    let x = s .0 in
+    let h = opened-live n (a .frame) (a .block) (a .opener) (s .1) in
+    let m = below-le n (a .frame) (a .block) (a .opener) (s .1) in (
+      record { action = x .action; does = x .does; inside = x .inside; done = x .done; is-done = x .is-done; ready = x .ready; keeps = keeps-same (a .block) (K (a .frame)) (K′ (a .frame)) (x .done) (x .action) (λ r. same (a .frame) r h) (x .keeps); gets = x .gets },
+      s .1,
+      stack-keep P K K′ fs (below n (a .frame) (a .opener)) (awaited P fs a) (λ k r g. same k r (omega arith)) rest (s .2),
+    )
 
 -- ---- one cell of a live frame gets a value
 
-module _ (P : Program) (fs : List Frame) (n : ℕ) (ps : List Promise) (H : Heap P fs n ps) (k c : ℕ) (hk : k < n) (hc : c < CELLS) where
+module _ (P : Program) {K : ℕ → ℕ → Bool} (fs : List Frame) (n : ℕ) (ps : List Promise) (H : Heap P K fs n ps) (k c : ℕ) (hk : k < n) (hc : c < CELLS) where
   inside : k < ACTIVATIONS
   inside = omega (arith, H .bound)
 
@@ -159,18 +194,18 @@ module _ (P : Program) (fs : List Frame) (n : ℕ) (ps : List Promise) (H : Heap
       go (inr p) (inl q) = clash o′ (lone w k₁ c₁ (hit k₂ c₂ (q .0) (q .1) e₂) h₁ (miss k₁ c₁ p e₁) p .1)
       go (inr p) (inr q) = rw (same k₂ h₂) (H .own k₁ c₁ k₂ c₂ w h₁ h₂ (miss k₁ c₁ p e₁) (miss k₂ c₂ q e₂) o′)
 
-  pub heap-write : (v : Value) → Ext n (kept P fs) fs (writeAt fs k c v) → Fits P fs ps k (typeAt P fs k c) v → Lone P fs n k c v → Heap P (writeAt fs k c v) n ps
+  pub heap-write : (v : Value) → Ext n (K) fs (writeAt fs k c v) → Fits P K fs ps k (typeAt P fs k c) v → Lone P fs n k c v → Heap P K (writeAt fs k c v) n ps
   heap-write v e f lone = record {
     sized = write-sized fs (H .sized) k c v inside hc;
     bound = H .bound;
     pool = H .pool;
     known = λ k′ h. known-ext P e k′ h (H .known k′ h);
-    typed = λ k′ c′ h. rw (same-type P e k′ c′ h) (fits-ext P n fs (writeAt fs k c v) ps k′ (typeAt P fs k′ c′) e h (cellAt (writeAt fs k c v) k′ c′) (old k′ c′ h));
+    typed = λ k′ c′ h. rw (same-type P e k′ c′ h) (fits-ext P K n fs (writeAt fs k c v) ps k′ (typeAt P fs k′ c′) e h (cellAt (writeAt fs k c v) k′ c′) (old k′ c′ h));
     own = own-write v (λ k′ h. same-version P e k′ h) lone;
   }
     where
-      old : (k′ c′ : ℕ) → k′ < n → Fits P fs ps k′ (typeAt P fs k′ c′) (cellAt (writeAt fs k c v) k′ c′)
-      old k′ c′ h = write-all fs (H .sized) k c v inside hc (λ k′ c′ x. k′ < n → Fits P fs ps k′ (typeAt P fs k′ c′) x) (λ _. f) (λ k′ c′ _ h. H .typed k′ c′ h) k′ c′ h
+      old : (k′ c′ : ℕ) → k′ < n → Fits P K fs ps k′ (typeAt P fs k′ c′) (cellAt (writeAt fs k c v) k′ c′)
+      old k′ c′ h = write-all fs (H .sized) k c v inside hc (λ k′ c′ x. k′ < n → Fits P K fs ps k′ (typeAt P fs k′ c′) x) (λ _. f) (λ k′ c′ _ h. H .typed k′ c′ h) k′ c′ h
 
 -- what is no vector is lone
 module _ (P : Program) (fs : List Frame) (n k c : ℕ) where
@@ -180,13 +215,13 @@ module _ (P : Program) (fs : List Frame) (n k c : ℕ) where
 
 -- ---- the promises change where no cell refers to them, or in what they have cached
 
-pub heap-promises : (P : Program) (fs : List Frame) (n : ℕ) (ps ps′ : List Promise)
+pub heap-promises : (P : Program) {K : ℕ → ℕ → Bool} (fs : List Frame) (n : ℕ) (ps ps′ : List Promise)
     → ((p k c : ℕ) → k < n → cellAt fs k c ≡ Value.Promise p → (promiseAt ps′ p .frame ≡ promiseAt ps p .frame) × (promiseAt ps′ p .block ≡ promiseAt ps p .block))
-    → length ps′ ≡ PROMISES → Heap P fs n ps → Heap P fs n ps′
+    → length ps′ ≡ PROMISES → Heap P K fs n ps → Heap P K fs n ps′
 unfolding Fits kindAt
-heap-promises P fs n ps ps′ same len H = record { sized = H .sized; bound = H .bound; pool = len; known = H .known; own = H .own; typed = λ k c h. go k c h (cellAt fs k c) refl (H .typed k c h) }
+heap-promises P {K} fs n ps ps′ same len H = record { sized = H .sized; bound = H .bound; pool = len; known = H .known; own = H .own; typed = λ k c h. go k c h (cellAt fs k c) refl (H .typed k c h) }
   where
-    go : (k c : ℕ) → k < n → (x : Value) → cellAt fs k c ≡ x → Fits P fs ps k (typeAt P fs k c) x → Fits P fs ps′ k (typeAt P fs k c) x
+    go : (k c : ℕ) → k < n → (x : Value) → cellAt fs k c ≡ x → Fits P K fs ps k (typeAt P fs k c) x → Fits P K fs ps′ k (typeAt P fs k c) x
     go k c h Value.Empty e f = tt
     go k c h (Value.Integer z) e f = f
     go k c h (Value.Vector i) e f = f
@@ -195,7 +230,7 @@ heap-promises P fs n ps ps′ same len H = record { sized = H .sized; bound = H 
         (f .0, record { kind = rw (s .0, s .1) (f .1 .kind); older = rw (s .0) (f .1 .older); alive = rw (s .0, s .1) (f .1 .alive) })
 
 -- fewer live frames
-pub heap-pop : (P : Program) (fs : List Frame) (n m : ℕ) (ps : List Promise) → m ≤ n → Heap P fs n ps → Heap P fs m ps
+pub heap-pop : (P : Program) {K : ℕ → ℕ → Bool} (fs : List Frame) (n m : ℕ) (ps : List Promise) → m ≤ n → Heap P K fs n ps → Heap P K fs m ps
 unfolding Unshared
 heap-pop P fs n m ps l H = record {
   sized = H .sized;
@@ -215,7 +250,7 @@ old-or-new n k h = go (decLt k n)
     go (yes l) = inl l
     go (no l) = inr (omega arith)
 
-module _ (P : Program) (fs : List Frame) (n : ℕ) (ps : List Promise) (H : Heap P fs n ps) (W : Version) (g : Frame) (hn : n < ACTIVATIONS) (wg : Whole g) (is : findVersion P (g .function) (g .version) ≡ some W) where
+module _ (P : Program) {K : ℕ → ℕ → Bool} (fs : List Frame) (n : ℕ) (ps : List Promise) (H : Heap P K fs n ps) (W : Version) (g : Frame) (hn : n < ACTIVATIONS) (wg : Whole g) (is : findVersion P (g .function) (g .version) ≡ some W) where
   pub ext-push : (L : ℕ → ℕ → Bool) → Ext n L fs (set fs n g)
   unfolding cellAt
   ext-push L = record {
@@ -238,10 +273,10 @@ module _ (P : Program) (fs : List Frame) (n : ℕ) (ps : List Promise) (H : Heap
 
   -- its values fit over the old frames, its vectors are in no owned cell unless borrowed, and its owned ones are nowhere else
   pub heap-push : (f : ℕ) → f < n
-      → ((c : ℕ) → Fits P fs ps f (cellType W c) (cell g c))
+      → ((c : ℕ) → Fits P K fs ps f (cellType W c) (cell g c))
       → ((w c k c′ : ℕ) → cell g c ≡ Value.Vector w → k < n → cellAt fs k c′ ≡ Value.Vector w → (isOwned (cellType W c) ≡ false) × (isOwned (typeAt P fs k c′) ≡ true → isBorrowed (cellType W c) ≡ true))
       → ((w c c′ : ℕ) → cell g c ≡ Value.Vector w → cell g c′ ≡ Value.Vector w → isOwned (cellType W c) ≡ true → c′ ≡ c)
-      → Heap P (set fs n g) (suc n) ps
+      → Heap P K (set fs n g) (suc n) ps
   unfolding Unshared typeAt
   heap-push f hf fit lone once = record {
     sized = set-sized fs (H .sized) n g hn wg;
@@ -262,9 +297,9 @@ module _ (P : Program) (fs : List Frame) (n : ℕ) (ps : List Promise) (H : Heap
       known k (inl h) = known-ext P (ext-push every) k h (H .known k h)
       known k (inr h) = rw (h, version-new, set-same fs (H .sized) n g hn) is
 
-      typed : (k c : ℕ) → (k < n) ⊎ (k ≡ n) → Fits P fs′ ps k (cellType (versionAt P fs′ k) c) (cellAt fs′ k c)
-      typed k c (inl h) = rw (cell-old k c h, same k h) (fits-ext P n fs fs′ ps k (typeAt P fs k c) (ext-push (kept P fs)) h (cellAt fs k c) (H .typed k c h))
-      typed k c (inr h) = rw (h, cell-new c, version-new) (fits-up P fs′ ps f n (cellType W c) (omega arith) (cell g c) (fits-ext P n fs fs′ ps f (cellType W c) (ext-push (kept P fs)) hf (cell g c) (fit c)))
+      typed : (k c : ℕ) → (k < n) ⊎ (k ≡ n) → Fits P K fs′ ps k (cellType (versionAt P fs′ k) c) (cellAt fs′ k c)
+      typed k c (inl h) = rw (cell-old k c h, same k h) (fits-ext P K n fs fs′ ps k (typeAt P fs k c) (ext-push (K)) h (cellAt fs k c) (H .typed k c h))
+      typed k c (inr h) = rw (h, cell-new c, version-new) (fits-up P K fs′ ps f n (cellType W c) (omega arith) (cell g c) (fits-ext P K n fs fs′ ps f (cellType W c) (ext-push (K)) hf (cell g c) (fit c)))
 
       was : (k c w : ℕ) → k < n → cellAt fs′ k c ≡ Value.Vector w → cellAt fs k c ≡ Value.Vector w
       was k c w h e = sym (cell-old k c h) ∙ e

@@ -5,7 +5,7 @@ use mathlib.Core.List.{List, [], _∷_}
 use mathlib.Core.Option.{Option, none, some}
 use mathlib.Core.Bool.{Bool, true, false, cond, _||_}
 use Prim.Native.Nat.{ℕ, zero, suc, _≤_, _<_}
-use lib.ListN.{length, getD, drop}
+use lib.ListN.{length, getD}
 use lib.Dec.{eqb, ltb}
 use Rattle.layout.specs.Bounds.{REGISTERS}
 use Rattle.sets.specs.Sets.{has}
@@ -13,9 +13,10 @@ use Rattle.program.specs.Program.{Block, Version, Program, findVersion}
 use Rattle.program.specs.Questions.{registerExists}
 use Rattle.rules.specs.Types.{kindOf, isOwned, isBorrowed, within}
 use Rattle.rules.specs.Fits.{typeOf, promiseKind, fitsReturn}
-use Rattle.rules.specs.Actions.{Action, bodyAction}
-use Rattle.rules.specs.Walks.{acts, after}
-use Rattle.rules.proofs.Suffixes.{Does}
+use Rattle.rules.specs.Actions.{Action, here}
+use Rattle.rules.specs.Walks.{walkTo}
+use Rattle.rules.proofs.Prefixes.{Does}
+use Rattle.rules.proofs.Needs.{Needed}
 use Rattle.checker.proofs.Accepted.{Checked}
 use Rattle.machine.specs.States.{ACTIVATIONS, VECTORS, PROMISES}
 use Rattle.machine.specs.declared.Activation.{Activation}
@@ -69,44 +70,36 @@ isFull (Value.Integer z) = true
 isFull (Value.Vector v) = true
 isFull (Value.Promise p) = true
 
--- the registers that the body of a version captures: it never empties them
-unfoldable pub captures : Option Action → ℕ → Bool
-captures none r = false
-captures (some a) r = has (a .C) r
-
-unfoldable pub keep : Program → Version → ℕ → Bool
-keep P v r = captures (bodyAction P v) r
-
 -- a promise of the block captures what the block touches
 unfoldable pub touches : Action → ℕ → Bool
 touches a r = has (a .R) r || has (a .W) r || has (a .U) r || has (a .C) r
 
 -- ---- values
 
--- a block b over the frame f that can be entered at any time: what it reads is there, and what it touches is kept
-pub record Alive (P : Program) (fs : List Frame) (f b : ℕ) : Type 0 where
+-- a block b over the frame f that can be entered at any time: what it reads is there, and what it touches is kept; K says which registers each frame keeps
+pub record Alive (P : Program) (K : ℕ → ℕ → Bool) (fs : List Frame) (f b : ℕ) : Type 0 where
   pub positive : 0 < b
   pub action : Action
   pub does : Does P (versionAt P fs f) b (blockAt (versionAt P fs f) b) action
   pub ready : (r : ℕ) → has (action .R) r ≡ true → isFull (cellAt fs f r) ≡ true
-  pub kept : (r : ℕ) → touches action r ≡ true → keep P (versionAt P fs f) r ≡ true
+  pub kept : (r : ℕ) → touches action r ≡ true → K f r ≡ true
 
 -- the kind of a promise
 unfoldable pub kindAt : Program → List Frame → Promise → ℕ
 kindAt P fs q = promiseKind (blockAt (versionAt P fs (q .frame)) (q .block) .mark)
 
 -- a promise in a cell of the frame k and of the type t: its frame is not above k, so it does not end before
-pub record PromiseFits (P : Program) (fs : List Frame) (q : Promise) (k t : ℕ) : Type 0 where
+pub record PromiseFits (P : Program) (K : ℕ → ℕ → Bool) (fs : List Frame) (q : Promise) (k t : ℕ) : Type 0 where
   pub kind : within (kindAt P fs q) (kindOf t) ≡ true
   pub older : q .frame ≤ k
-  pub alive : Alive P fs (q .frame) (q .block)
+  pub alive : Alive P K fs (q .frame) (q .block)
 
 -- the value in a cell of the frame k is of the type t
-unfoldable pub Fits : Program → List Frame → List Promise → ℕ → ℕ → Value → Type 0
-Fits P fs ps k t Value.Empty = Unit {0}
-Fits P fs ps k t (Value.Integer z) = within 2 (kindOf t) ≡ true
-Fits P fs ps k t (Value.Vector v) = (within 3 (kindOf t) ≡ true) × (v < VECTORS)
-Fits P fs ps k t (Value.Promise p) = (p < PROMISES) × PromiseFits P fs (promiseAt ps p) k t
+unfoldable pub Fits : Program → (ℕ → ℕ → Bool) → List Frame → List Promise → ℕ → ℕ → Value → Type 0
+Fits P K fs ps k t Value.Empty = Unit {0}
+Fits P K fs ps k t (Value.Integer z) = within 2 (kindOf t) ≡ true
+Fits P K fs ps k t (Value.Vector v) = (within 3 (kindOf t) ≡ true) × (v < VECTORS)
+Fits P K fs ps k t (Value.Promise p) = (p < PROMISES) × PromiseFits P K fs (promiseAt ps p) k t
 
 -- a vector in an owned cell is in no other one but borrowed ones of newer frames
 unfoldable pub Unshared : Program → List Frame → ℕ → Type 0
@@ -117,13 +110,13 @@ unfoldable pub Lone : Program → List Frame → ℕ → ℕ → ℕ → Value �
 Lone P fs n k c x = (v k′ c′ : ℕ) → x ≡ Value.Vector v → k′ < n → cellAt fs k′ c′ ≡ Value.Vector v → Apart k c k′ c′ → (isOwned (typeAt P fs k c) ≡ false) × (isOwned (typeAt P fs k′ c′) ≡ false)
 
 -- what holds of n live frames and of the promises
-pub record Heap (P : Program) (fs : List Frame) (n : ℕ) (ps : List Promise) : Type 0 where
+pub record Heap (P : Program) (K : ℕ → ℕ → Bool) (fs : List Frame) (n : ℕ) (ps : List Promise) : Type 0 where
   pub sized : Sized fs
   pub bound : n ≤ ACTIVATIONS
   pub pool : length ps ≡ PROMISES
   -- every live frame is of a version of the program
   pub known : (k : ℕ) → k < n → findVersion P (frameAt fs k .function) (frameAt fs k .version) ≡ some (versionAt P fs k)
-  pub typed : (k c : ℕ) → k < n → Fits P fs ps k (typeAt P fs k c) (cellAt fs k c)
+  pub typed : (k c : ℕ) → k < n → Fits P K fs ps k (typeAt P fs k c) (cellAt fs k c)
   pub own : Unshared P fs n
 
 -- frames below n keep their versions, and the cells that L names stay full
@@ -134,9 +127,6 @@ pub record Ext (n : ℕ) (L : ℕ → ℕ → Bool) (fs fs′ : List Frame) : Ty
 
 abbrev pub every : ℕ → ℕ → Bool
 every k c = true
-
-abbrev pub kept : Program → List Frame → ℕ → ℕ → Bool
-kept P fs k c = keep P (versionAt P fs k) c
 
 -- ---- activations
 
@@ -154,15 +144,20 @@ unfoldable pub Gets : Version → ℕ → Pend → Type 0
 Gets v mark top = Unit {0}
 Gets v mark (waits d t m) = (registerExists v d ≡ true) × (fitsReturn v d t ≡ true) × (m ≤ mark)
 
--- an activation of the block b over the frame f at its instruction i
-pub record Stands (P : Program) (fs : List Frame) (pend : Pend) (f b i : ℕ) : Type 0 where
+-- what a frame keeps: by its body what was captured so far, by a promise block all that it captures
+unfoldable pub Keeps : ℕ → (ℕ → Bool) → Action → Action → Type 0
+Keeps zero keep done action = (r : ℕ) → keep r ≡ has (done .C) r
+Keeps (suc b) keep done action = (r : ℕ) → has (action .C) r ≡ true → keep r ≡ true
+
+-- an activation of the block b over the frame f at its instruction i: what the block reads or has assigned and what is needed from there on is there or awaited, unless it is emptied
+pub record Stands (P : Program) (K : ℕ → ℕ → Bool) (fs : List Frame) (pend : Pend) (f b i : ℕ) : Type 0 where
   pub action : Action
   pub does : Does P (versionAt P fs f) b (blockAt (versionAt P fs f) b) action
   pub inside : i ≤ length (blockAt (versionAt P fs f) b .code)
-  pub rest : Action
-  pub is-rest : after (acts P (versionAt P fs f) b) (blockAt (versionAt P fs f) b .result) (drop i (blockAt (versionAt P fs f) b .code)) ≡ some rest
-  pub ready : (r : ℕ) → has (rest .R) r ≡ true → (isPend pend r ≡ true) ⊎ (isFull (cellAt fs f r) ≡ true)
-  pub captured : (r : ℕ) → has (action .C) r ≡ true → keep P (versionAt P fs f) r ≡ true
+  pub done : Action
+  pub is-done : here (walkTo P (versionAt P fs f) b (blockAt (versionAt P fs f) b .code) i) ≡ some done
+  pub ready : (r : ℕ) → (has (action .R) r ≡ true) ⊎ (has (done .W) r ≡ true) → has (done .U) r ≡ false → Needed P (versionAt P fs f) b (blockAt (versionAt P fs f) b) r i → (isPend pend r ≡ true) ⊎ (isFull (cellAt fs f r) ≡ true)
+  pub keeps : Keeps b (K f) done action
   pub gets : Gets (versionAt P fs f) (blockAt (versionAt P fs f) b .mark) pend
 
 -- a call works in the newest frame, a force in any live one
@@ -190,9 +185,9 @@ Base top n = ⊥
 Base (waits d t m) n = n ≡ 0
 
 -- activations, the newest first
-unfoldable pub Stack : Program → List Frame → Pend → ℕ → List Activation → Type 0
-Stack P fs pend n [] = Base pend n
-Stack P fs pend n (a ∷ rest) = Stands P fs pend (a .frame) (a .block) (a .next) × Opened n (a .frame) (a .block) (a .opener) × Stack P fs (awaited P fs a) (below n (a .frame) (a .opener)) rest
+unfoldable pub Stack : Program → (ℕ → ℕ → Bool) → List Frame → Pend → ℕ → List Activation → Type 0
+Stack P K fs pend n [] = Base pend n
+Stack P K fs pend n (a ∷ rest) = Stands P K fs pend (a .frame) (a .block) (a .next) × Opened n (a .frame) (a .block) (a .opener) × Stack P K fs (awaited P fs a) (below n (a .frame) (a .opener)) rest
 
 -- a default, not unfolded in proofs
 pub noActivation : Activation
@@ -204,8 +199,9 @@ stackOf l (suc h) = getD l h noActivation ∷ stackOf l h
 
 -- the invariant
 pub record Inv (P : Program) (s : State) : Type 0 where
-  pub heap : Heap P (s .frames) (s .calls) (s .promises)
+  pub keep : ℕ → ℕ → Bool
+  pub heap : Heap P keep (s .frames) (s .calls) (s .promises)
   pub vectors : length (s .vectors) ≡ VECTORS
   pub room : length (s .activations) ≡ ACTIVATIONS
   pub deep : s .depth ≤ ACTIVATIONS
-  pub stack : s .status ≡ Status.Running → Stack P (s .frames) top (s .calls) (stackOf (s .activations) (s .depth))
+  pub stack : s .status ≡ Status.Running → Stack P keep (s .frames) top (s .calls) (stackOf (s .activations) (s .depth))

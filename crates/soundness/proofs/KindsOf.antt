@@ -2,7 +2,7 @@
 use mathlib.Core.Path.{_≡_, refl}
 use mathlib.Core.List.{List, []}
 use mathlib.Core.Option.{some}
-use mathlib.Core.Bool.{true, false≢true}
+use mathlib.Core.Bool.{Bool, true, false≢true}
 use Prim.Native.Nat.{ℕ, _<_}
 use native.Mathlib.Omega.{arith}
 use lib.ListN.{length}
@@ -24,9 +24,9 @@ valueKind P fs ps (Value.Integer z) = 2
 valueKind P fs ps (Value.Vector v) = 3
 valueKind P fs ps (Value.Promise p) = kindAt P fs (promiseAt ps p)
 
-module _ (P : Program) (fs : List Frame) (ps : List Promise) (k : ℕ) where
+module _ (P : Program) (K : ℕ → ℕ → Bool) (fs : List Frame) (ps : List Promise) (k : ℕ) where
   -- a value's kind is within its type's
-  pub kind-within : (t : ℕ) (x : Value) → isFull x ≡ true → Fits P fs ps k t x → within (valueKind P fs ps x) (kindOf t) ≡ true
+  pub kind-within : (t : ℕ) (x : Value) → isFull x ≡ true → Fits P K fs ps k t x → within (valueKind P fs ps x) (kindOf t) ≡ true
   unfolding valueKind Fits isFull
   kind-within t Value.Empty h f = absurd (false≢true h)
   kind-within t (Value.Integer z) h f = f
@@ -34,7 +34,7 @@ module _ (P : Program) (fs : List Frame) (ps : List Promise) (k : ℕ) where
   kind-within t (Value.Promise p) h f = f .1 .kind
 
   -- and it is of every type whose kind holds it
-  pub kind-fits : (t u : ℕ) (x : Value) → Fits P fs ps k t x → within (valueKind P fs ps x) (kindOf u) ≡ true → Fits P fs ps k u x
+  pub kind-fits : (t u : ℕ) (x : Value) → Fits P K fs ps k t x → within (valueKind P fs ps x) (kindOf u) ≡ true → Fits P K fs ps k u x
   unfolding valueKind Fits
   kind-fits t u Value.Empty f w = tt
   kind-fits t u (Value.Integer z) f w = w
@@ -50,7 +50,7 @@ unfolding orStuck
 version-is P fs k e = rw e refl
 
 -- the step finds it
-pub kind-got : (P : Program) (s : State) → Heap P (s .frames) (s .calls) (s .promises) → length (s .vectors) ≡ VECTORS → (k t : ℕ) → k < s .calls → (x : Value) → isFull x ≡ true → Fits P (s .frames) (s .promises) k t x → kindIn P s x ≡ got (valueKind P (s .frames) (s .promises) x)
+pub kind-got : (P : Program) {K : ℕ → ℕ → Bool} (s : State) → Heap P K (s .frames) (s .calls) (s .promises) → length (s .vectors) ≡ VECTORS → (k t : ℕ) → k < s .calls → (x : Value) → isFull x ≡ true → Fits P K (s .frames) (s .promises) k t x → kindIn P s x ≡ got (valueKind P (s .frames) (s .promises) x)
 unfolding kindIn valueKind kindAt Fits isFull _>>=_ _>>_
 kind-got P s H n k t hk Value.Empty h f = absurd (false≢true h)
 kind-got P s H n k t hk (Value.Integer z) h f = refl

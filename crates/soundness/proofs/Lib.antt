@@ -5,6 +5,7 @@ pub mod Types
 pub mod Heap
 pub mod Versions
 pub mod LiveCalls
+pub mod Skips
 pub mod Stacks
 pub mod NewFrames
 pub mod Standing

@@ -1,6 +1,7 @@
 -- The versions and frames of live calls.
 use mathlib.Core.Path.{_≡_, refl, sym, _∙_}
 use mathlib.Core.List.{List, [], _∷_}
+use mathlib.Core.Bool.{Bool}
 use mathlib.Core.Option.{some}
 use Prim.Native.Nat.{ℕ, _<_}
 use native.Mathlib.Omega.{arith}
@@ -32,5 +33,5 @@ unfolding liveFrames frameAt
 live-frame s k f e = let h = take-in (s .frames) (s .calls) k f e in (h, get-in (s .frames) k noFrame f (sym (get-take (s .frames) (s .calls) k h) ∙ e) .1)
 
 -- the version at a live frame is checked
-pub live-checked : (P : Program) → Sure P → (fs : List Frame) (n : ℕ) (ps : List Promise) → Heap P fs n ps → (k : ℕ) → k < n → Checked P (versionAt P fs k)
+pub live-checked : (P : Program) → Sure P → {K : ℕ → ℕ → Bool} (fs : List Frame) (n : ℕ) (ps : List Promise) → Heap P K fs n ps → (k : ℕ) → k < n → Checked P (versionAt P fs k)
 live-checked P sure fs n ps H k h = sure _ _ _ (H .known k h)

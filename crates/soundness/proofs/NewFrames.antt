@@ -1,7 +1,7 @@
 -- New frames: what is put over a blank list, and the cells of a frame that a call opens.
 use mathlib.Core.Path.{_≡_, refl, sym, ap, _∙_}
 use mathlib.Core.List.{List, [], _∷_, map}
-use mathlib.Core.Logic.{inr}
+use mathlib.Core.Logic.{_⊎_, inl, inr}
 use mathlib.Core.Bool.{Bool, true, false}
 use Prim.Native.Nat.{ℕ, zero, suc, _-_, _≤_, _<_}
 use native.Mathlib.Nat.{le-of-suc-le-suc, not-suc-le-zero}
@@ -13,7 +13,10 @@ use Rattle.layout.specs.Bounds.{REGISTERS, NAMES}
 use Rattle.layout.specs.Tests.{_and_}
 use Rattle.layout.proofs.Lists.{get-some}
 use Rattle.program.specs.Program.{Version, Program}
-use Rattle.rules.proofs.Suffixes.{Does, Begun, begun}
+use Rattle.sets.specs.Sets.{has}
+use Rattle.rules.specs.Actions.{∅}
+use Rattle.rules.proofs.Prefixes.{at-first}
+use Rattle.rules.proofs.Follows.{has-empty}
 use Rattle.rules.proofs.Touches.{Flowing, flows-body}
 use Rattle.checker.proofs.Accepted.{Checked}
 use Rattle.machine.specs.States.{place, over}
@@ -22,7 +25,8 @@ use Rattle.machine.specs.declared.Frame.{Frame}
 use Rattle.machine.specs.declared.Place.{Place}
 use Rattle.machine.specs.declared.Value.{Value}
 use Rattle.soundness.proofs.Cells.{Whole, cell, cellAt}
-use Rattle.soundness.proofs.Invariant.{noBlock, versionAt, blockAt, isFull, captures, keep, top, Gets, Stands}
+use Rattle.soundness.proofs.Types.{clash}
+use Rattle.soundness.proofs.Invariant.{noBlock, versionAt, blockAt, isFull, top, Gets, Keeps, Stands}
 use Rattle.checker.proofs.Limits.{limited}
 
 -- ---- a list put over another
@@ -89,25 +93,23 @@ frame-cell W vs c h = go (ltb c REGISTERS) refl
 
 -- ---- the body of a version at its first instruction
 
--- a call stands at the start of its body, where its parameters are full
-pub body-stands : (P : Program) (fs : List Frame) (f : ℕ) → Checked P (versionAt P fs f) → ((r : ℕ) → r < versionAt P fs f .parameters → isFull (cellAt fs f r) ≡ true) → Stands P fs top f 0 0
-unfolding blockAt keep captures Gets
-body-stands P fs f ck full = record {
+-- a call stands at the start of its body, where its parameters are full; nothing is captured yet
+pub body-stands : (P : Program) (K : ℕ → ℕ → Bool) (fs : List Frame) (f : ℕ) → Checked P (versionAt P fs f) → ((r : ℕ) → r < versionAt P fs f .parameters → isFull (cellAt fs f r) ≡ true) → ((r : ℕ) → K f r ≡ false) → Stands P K fs top f 0 0
+unfolding blockAt Gets Keeps
+body-stands P K fs f ck full none-kept = record {
   action = a .body;
-  does = d;
+  does = record { there = get-some (versionAt P fs f .blocks) 0 noBlock (limited P (versionAt P fs f) ck .body); does = a .is-body };
   inside = omega arith;
-  rest = b .rest;
-  is-rest = b .is-rest;
-  ready = λ r h. inr (full r (a .within r (sym (b .is-R r) ∙ h)));
-  captured = λ r h. rw (a .is-body) h;
+  done = record { R = ∅; W = ∅; U = ∅; C = ∅ };
+  is-done = at-first P (versionAt P fs f) 0 (blockAt (versionAt P fs f) 0);
+  ready = λ r h u _. inr (full r (read r h));
+  keeps = λ r. none-kept r ∙ sym (has-empty 16 r);
   gets = tt;
 }
   where
     a : Flowing P (versionAt P fs f)
     a = flows-body P (versionAt P fs f) (ck .flow .ofVersion)
 
-    d : Does P (versionAt P fs f) 0 (blockAt (versionAt P fs f) 0) (a .body)
-    d = record { there = get-some (versionAt P fs f .blocks) 0 noBlock (limited P (versionAt P fs f) ck .body); does = a .is-body }
-
-    b : Begun P (versionAt P fs f) 0 (blockAt (versionAt P fs f) 0) (a .body)
-    b = begun d
+    read : (r : ℕ) → (has (a .body .R) r ≡ true) ⊎ (has ∅ r ≡ true) → r < versionAt P fs f .parameters
+    read r (inl h) = a .within r h
+    read r (inr h) = clash h (has-empty 16 r)

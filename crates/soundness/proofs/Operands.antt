@@ -92,28 +92,28 @@ module _ (P : Program) (sure : Sure P) (s : State) (a : Activation) (rest : List
 
     pub integer-got : integer (versionAt P (s .frames) (a .frame)) r ≡ true → (z : ℤ) × (states.integer (frameAt (s .frames) (a .frame)) r ≡ got z)
     unfolding states.integer _>>=_ anInteger
-    integer-got t = let x = an-integer P (s .frames) (s .promises) (a .frame) _ (cellAt (s .frames) (a .frame) r) (integer-kind _ t) fr (typed P sure s a rest l W r hr) in
+    integer-got t = let x = an-integer P (W .keep) (s .frames) (s .promises) (a .frame) _ (cellAt (s .frames) (a .frame) r) (integer-kind _ t) fr (typed P sure s a rest l W r hr) in
         (x .0, rw (register-got P sure s a rest l W r hr) (ap anInteger (x .1)))
 
     pub vector-got : vector (versionAt P (s .frames) (a .frame)) r ≡ true → (v : ℕ) × (states.vector (frameAt (s .frames) (a .frame)) r ≡ got v) × (cellAt (s .frames) (a .frame) r ≡ Value.Vector v) × (v < VECTORS)
     unfolding states.vector _>>=_ aVector
-    vector-got t = let x = a-vector P (s .frames) (s .promises) (a .frame) _ (cellAt (s .frames) (a .frame) r) (vector-kind _ t) fr (typed P sure s a rest l W r hr) in
+    vector-got t = let x = a-vector P (W .keep) (s .frames) (s .promises) (a .frame) _ (cellAt (s .frames) (a .frame) r) (vector-kind _ t) fr (typed P sure s a rest l W r hr) in
         (x .0, rw (register-got P sure s a rest l W r hr) (ap aVector (x .1)), x .1, x .2)
 
     pub promise-got : promise (versionAt P (s .frames) (a .frame)) r ≡ true
-        → (p : ℕ) × (states.promise (frameAt (s .frames) (a .frame)) r ≡ got p) × (p < PROMISES) × PromiseFits P (s .frames) (promiseAt (s .promises) p) (a .frame) (typeOf (versionAt P (s .frames) (a .frame)) r)
+        → (p : ℕ) × (states.promise (frameAt (s .frames) (a .frame)) r ≡ got p) × (p < PROMISES) × PromiseFits P (W .keep) (s .frames) (promiseAt (s .promises) p) (a .frame) (typeOf (versionAt P (s .frames) (a .frame)) r)
     unfolding states.promise _>>=_ aPromise
-    promise-got t = let x = a-promise P (s .frames) (s .promises) (a .frame) _ (cellAt (s .frames) (a .frame) r) (promise-kind _ t) fr (typed P sure s a rest l W r hr) in
+    promise-got t = let x = a-promise P (W .keep) (s .frames) (s .promises) (a .frame) _ (cellAt (s .frames) (a .frame) r) (promise-kind _ t) fr (typed P sure s a rest l W r hr) in
         (x .0, rw (register-got P sure s a rest l W r hr) (ap aPromise (x .1)), x .2, x .3)
 
     pub value-got : states.value (frameAt (s .frames) (a .frame)) r ≡ got (cellAt (s .frames) (a .frame) r)
     unfolding states.value _>>=_
     value-got = rw (register-got P sure s a rest l W r hr) (full-value (cellAt (s .frames) (a .frame) r) fr)
 
-    pub fits-value : value (versionAt P (s .frames) (a .frame)) r ≡ true → Fits P (s .frames) (s .promises) (a .frame) 1 (cellAt (s .frames) (a .frame) r)
+    pub fits-value : value (versionAt P (s .frames) (a .frame)) r ≡ true → Fits P (W .keep) (s .frames) (s .promises) (a .frame) 1 (cellAt (s .frames) (a .frame) r)
     unfolding kindOf
-    fits-value t = fits-within P (s .frames) (s .promises) (a .frame) _ 1 (and-both _ _ t .1) (cellAt (s .frames) (a .frame) r) (typed P sure s a rest l W r hr)
+    fits-value t = fits-within P (W .keep) (s .frames) (s .promises) (a .frame) _ 1 (and-both _ _ t .1) (cellAt (s .frames) (a .frame) r) (typed P sure s a rest l W r hr)
 
     pub plain-got : value (versionAt P (s .frames) (a .frame)) r ≡ true → states.plain (frameAt (s .frames) (a .frame)) r ≡ got (cellAt (s .frames) (a .frame) r)
     unfolding states.plain _>>=_
-    plain-got t = rw (register-got P sure s a rest l W r hr) (plain-value (cellAt (s .frames) (a .frame) r) fr (λ p q. fits-promise P (s .frames) (s .promises) (a .frame) 1 p (inl name-kind) (rw q at (fits-value t))))
+    plain-got t = rw (register-got P sure s a rest l W r hr) (plain-value (cellAt (s .frames) (a .frame) r) fr (λ p q. fits-promise P (W .keep) (s .frames) (s .promises) (a .frame) 1 p (inl name-kind) (rw q at (fits-value t))))

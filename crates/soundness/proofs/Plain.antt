@@ -34,7 +34,7 @@ use Rattle.soundness.proofs.Progress.{Good, good, good-then, good-got, 
 use Rattle.soundness.proofs.Types.{plain-kind, fits-within}
 use Rattle.soundness.proofs.Heap.{lone-unless}
 use Rattle.soundness.proofs.KindsOf.{kind-got, kind-within, kind-fits}
-use Rattle.soundness.proofs.Standing.{At, live, place-in, type-is, typed, writes-register, shared-lone}
+use Rattle.soundness.proofs.Standing.{At, live, place-in, type-is, typed, writes-register, shared-lone, fits-on}
 use Rattle.soundness.proofs.Operands.{only-one, fits-i, exists-i, bounded-i, full-at, assigned-in, integer-got, vector-got, value-got}
 
 -- ---- integers
@@ -88,8 +88,8 @@ module _ (P : Program) (sure : Sure P) (s : State) (a : Activation) (rest : List
 
     -- the value of a shared cell c of a live frame k enters a shared d
     pub gives-shared : (k c : ℕ) → k < s .calls → isShared (typeAt P (s .frames) k c) ≡ true → isShared (typeOf X d) ≡ true → isFull (cellAt (s .frames) k c) ≡ true
-        → Fits P (s .frames) (s .promises) (a .frame) (typeOf X d) (cellAt (s .frames) k c) → Good (Inv P) (assign s (a .frame) d (cellAt (s .frames) k c))
-    gives-shared k c hk hs hd fx fits-x = writes-register P sure s a rest l W d (cellAt (s .frames) k c) ed (λ r q. only-one d r (assigned-in P sure s a rest l W i is rs [] (d ∷ []) e r q)) fx fits-x
+        → Fits P (W .keep) (s .frames) (s .promises) (a .frame) (typeOf X d) (cellAt (s .frames) k c) → Good (Inv P) (assign s (a .frame) d (cellAt (s .frames) k c))
+    gives-shared k c hk hs hd fx fits-x = writes-register P sure s a rest l W d (cellAt (s .frames) k c) ed (λ r q. only-one d r (assigned-in P sure s a rest l W i is rs [] (d ∷ []) e r q)) fx (fits-on P sure s a rest l W (a .frame) (typeOf X d) (live P sure s a rest l W) (cellAt (s .frames) k c) fits-x)
         (shared-lone P sure s a rest l W k c (a .frame) d hk hs (rw (type-is P sure s a rest l W d (place-in P sure s a rest l W d ed)) hd))
 
   pub lit : (d : ℕ) (z : ℤ) → l .does ≡ LIT d z → Stepped (LIT d z)
@@ -103,11 +103,11 @@ module _ (P : Program) (sure : Sure P) (s : State) (a : Activation) (rest : List
       let t = move-shared P X (a .block) d r (fits-i P sure s a rest l W _ is) in
       let fr = full-at P sure s a rest l W _ is (r ∷ []) [] (d ∷ []) refl 0 r refl (x .1) in
       let hr = place-in P sure s a rest l W r (x .1) in
-      let f = fits-within P (s .frames) (s .promises) (a .frame) _ (typeOf X d) (t .kind) _ (typed P sure s a rest l W r hr) in
+      let f = fits-within P (W .keep) (s .frames) (s .promises) (a .frame) _ (typeOf X d) (t .kind) _ (typed P sure s a rest l W r hr) in
       good-got (Inv P) _ (cellAt (s .frames) (a .frame) r) _ (value-got P sure s a rest l W _ is r (x .1) fr)
       (good-got (Inv P) _ _ _ (kind-got P s (W .heap) (W .vectors) (a .frame) _ (live P sure s a rest l W) (cellAt (s .frames) (a .frame) r) fr f)
       (good-got (Inv P) _ (typeOf X d) _ (at-in (X .types) d 0 (ltb-true d _ (x .0)))
-      (good-test (Inv P) _ _ (kind-within P (s .frames) (s .promises) (a .frame) (typeOf X d) _ fr f)
+      (good-test (Inv P) _ _ (kind-within P (W .keep) (s .frames) (s .promises) (a .frame) (typeOf X d) _ fr f)
       (gives-shared (MOVE d r) is (r ∷ []) d refl (x .0) (a .frame) r (live P sure s a rest l W) (rw (type-is P sure s a rest l W r hr) (t .from)) (t .to) fr f))))
 
   -- the vector that an operand refers to
@@ -175,4 +175,4 @@ module _ (P : Program) (sure : Sure P) (s : State) (a : Activation) (rest : List
       (good-got (Inv P) _ _ _ (kind-got P s (W .heap) (W .vectors) (a .frame) _ (live P sure s a rest l W) (cellAt (s .frames) (a .frame) r) fr f)
       (good-got (Inv P) _ (typeOf X d) _ (at-in (X .types) d 0 (ltb-true d _ (x .0)))
       (good-end (Inv P) _ _ _ (λ k. gives-shared (CAST d r) is (r ∷ []) d refl (x .0) (a .frame) r (live P sure s a rest l W) (rw (type-is P sure s a rest l W r hr) (t .0)) (t .1) fr
-      (kind-fits P (s .frames) (s .promises) (a .frame) _ _ _ f k)))))
+      (kind-fits P (W .keep) (s .frames) (s .promises) (a .frame) _ _ _ f k)))))

@@ -3,13 +3,13 @@ use mathlib.Core.Path.{_≡_, refl, sym}
 use mathlib.Core.Logic.{_⊎_, inl, inr}
 use mathlib.Core.List.{List, [], _∷_}
 use mathlib.Core.Option.{some}
-use mathlib.Core.Bool.{true, false, _&&_, false≢true}
+use mathlib.Core.Bool.{Bool, true, false, _&&_, false≢true}
 use Prim.Native.Nat.{ℕ, suc, _≤_, _<_}
 use native.Mathlib.Decide.{ℕ-discrete}
 use native.Mathlib.Omega.{arith}
 use lib.ListN.{getElem?}
 use borrow.Author.Tests.{ne-eqb}
-use Rattle.program.specs.Program.{Instr, LIT, MOVE, USE, DUP, VEC, LEN, GET, SET, ARITH, SELECT, CAST, NAMED, STORE, PROM, FORCE, PEEK, POKE, CALL, DISPATCH, Line, Version, Program, markOf}
+use Rattle.program.specs.Program.{Instr, LIT, MOVE, USE, DUP, VEC, LEN, GET, SET, ARITH, SELECT, CAST, NAMED, STORE, PROM, FORCE, PEEK, POKE, CALL, DISPATCH, SKIP, Line, Version, Program, markOf}
 use Rattle.rules.specs.Effects as effect
 use Rattle.machine.specs.Try.{got, _>>=_}
 use Rattle.machine.specs.Steps.{here, position, positionOf}
@@ -44,17 +44,17 @@ own-or-below n f b k Opener.Call h l = go (ℕ-discrete k f)
 own-or-below n f b k (Opener.Force p) h l = inr l
 
 -- the body of every live call has the mark 1 if the block on top has
-bodies-marked : (P : Program) (fs : List Frame) (rest : List Activation) (a : Activation) (n : ℕ) → 1 ≤ markAt P fs a
-    → Opened n (a .frame) (a .block) (a .opener) → Stack P fs (awaited P fs a) (below n (a .frame) (a .opener)) rest → (k : ℕ) → k < n → 1 ≤ blockAt (versionAt P fs k) 0 .mark
+bodies-marked : (P : Program) (K : ℕ → ℕ → Bool) (fs : List Frame) (rest : List Activation) (a : Activation) (n : ℕ) → 1 ≤ markAt P fs a
+    → Opened n (a .frame) (a .block) (a .opener) → Stack P K fs (awaited P fs a) (below n (a .frame) (a .opener)) rest → (k : ℕ) → k < n → 1 ≤ blockAt (versionAt P fs k) 0 .mark
 unfolding Stack Base awaited Gets markAt
-bodies-marked P fs [] a n m o st k h = go (own-or-below n (a .frame) (a .block) k (a .opener) o h)
+bodies-marked P K fs [] a n m o st k h = go (own-or-below n (a .frame) (a .block) k (a .opener) o h)
   where
     go : ((k ≡ a .frame) × (a .block ≡ 0)) ⊎ (k < below n (a .frame) (a .opener)) → 1 ≤ blockAt (versionAt P fs k) 0 .mark
     go (inl e) = rw (e .0) (rw (e .1) at m)
     go (inr l) = absurd (omega (arith, st))
-bodies-marked P fs (b ∷ rest) a n m o st k h =
+bodies-marked P K fs (b ∷ rest) a n m o st k h =
     go (own-or-below n (a .frame) (a .block) k (a .opener) o h)
-    (λ l. bodies-marked P fs rest b (below n (a .frame) (a .opener)) (omega (arith, m, st .0 .gets .2)) (st .1) (st .2) k l)
+    (λ l. bodies-marked P K fs rest b (below n (a .frame) (a .opener)) (omega (arith, m, st .0 .gets .2)) (st .1) (st .2) k l)
   where
     go : ((k ≡ a .frame) × (a .block ≡ 0)) ⊎ (k < below n (a .frame) (a .opener)) → (k < below n (a .frame) (a .opener) → 1 ≤ blockAt (versionAt P fs k) 0 .mark) → 1 ≤ blockAt (versionAt P fs k) 0 .mark
     go (inl e) ih = rw (e .0) (rw (e .1) at m)
@@ -84,6 +84,7 @@ access-reflects P v (PEEK d a x) e = refl
 access-reflects P v (POKE a x y) e = refl
 access-reflects P v (CALL d f w rs) e = absurd (false≢true e)
 access-reflects P v (DISPATCH d f mark ret pairs) e = absurd (false≢true e)
+access-reflects P v (SKIP a n) e = absurd (false≢true e)
 
 -- what stands at a PEEK or POKE is a line with one
 access-line : (ls : List Line) (i : ℕ) → Standing ls i → atAccess (got (position ls i)) ≡ true → (l : Line) × (getElem? ls i ≡ some l) × (isAccess (l .does) ≡ true)
@@ -129,7 +130,7 @@ module _ (P : Program) (sure : Sure P) (s : State) (inv : Inv P s) (run : s .sta
       let h = has-top P s inv run in
       let t = at-top P s inv run (h .0) (h .1) in
       let ck = live-checked P sure (s .frames) (s .calls) (s .promises) (inv .heap) k l in
-      omega (arith, mark-is (versionAt P (s .frames) k) (limited P _ ck .body), bodies-marked P (s .frames) (stackOf (s .activations) (h .0)) (topOf s (h .0)) (s .calls) (top-marked (h .0) (h .1)) (t .1) (t .2) k l)
+      omega (arith, mark-is (versionAt P (s .frames) k) (limited P _ ck .body), bodies-marked P (inv .keep) (s .frames) (stackOf (s .activations) (h .0)) (topOf s (h .0)) (s .calls) (top-marked (h .0) (h .1)) (t .1) (t .2) k l)
 
   -- no live call is quiet
   pub none-quiet : (k : ℕ) (f : Frame) → Live s k f → isQuiet (entered P f) ≡ false

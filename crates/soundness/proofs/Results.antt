@@ -30,23 +30,23 @@ use Rattle.soundness.proofs.Demand.{started}
 
 -- ---- refusals
 
--- of the ten questions, by their numbers
+-- of the questions to an image, by their numbers
 unfoldable Numbered : Verdict → Type 0
-Numbered (Verdict.Refused q p) = (1 ≤ q) × (q ≤ 10)
+Numbered (Verdict.Refused q p) = (1 ≤ q) × (q ≤ 14) × (11 ≤ q → q ≤ 13 → ⊥)
 Numbered (Verdict.Accepted n) = Unit {0}
 
 -- a question refuses by its own number
-ask-numbered : (n : ℕ) (x : Found) (more : Verdict) → 1 ≤ n → n ≤ 10 → Numbered more → Numbered (ask n x more)
+ask-numbered : (n : ℕ) (x : Found) (more : Verdict) → 1 ≤ n → n ≤ 14 → (11 ≤ n → n ≤ 13 → ⊥) → Numbered more → Numbered (ask n x more)
 unfolding ask Numbered
-ask-numbered n Nothing more h l m = m
-ask-numbered n (At p) more h l m = (h, l)
+ask-numbered n Nothing more h l o m = m
+ask-numbered n (At p) more h l o m = (h, l, o)
 
--- so do all ten
+-- so do all questions to an image
 verdict-numbered : (image : List ℕ) → Numbered (verdictOf image)
 unfolding verdictOf Numbered
 verdict-numbered image =
-    ask-numbered 1 _ _ (omega arith) (omega arith) (ask-numbered 2 _ _ (omega arith) (omega arith) (ask-numbered 3 _ _ (omega arith) (omega arith) (ask-numbered 4 _ _ (omega arith) (omega arith) (ask-numbered 5 _ _ (omega arith) (omega arith)
-    (ask-numbered 6 _ _ (omega arith) (omega arith) (ask-numbered 7 _ _ (omega arith) (omega arith) (ask-numbered 8 _ _ (omega arith) (omega arith) (ask-numbered 9 _ _ (omega arith) (omega arith) (ask-numbered 10 _ _ (omega arith) (omega arith) tt)))))))))
+    ask-numbered 1 _ _ (omega arith) (omega arith) (λ x y. omega arith) (ask-numbered 2 _ _ (omega arith) (omega arith) (λ x y. omega arith) (ask-numbered 3 _ _ (omega arith) (omega arith) (λ x y. omega arith) (ask-numbered 4 _ _ (omega arith) (omega arith) (λ x y. omega arith) (ask-numbered 5 _ _ (omega arith) (omega arith) (λ x y. omega arith)
+    (ask-numbered 6 _ _ (omega arith) (omega arith) (λ x y. omega arith) (ask-numbered 7 _ _ (omega arith) (omega arith) (λ x y. omega arith) (ask-numbered 14 _ _ (omega arith) (omega arith) (λ x y. omega arith) (ask-numbered 8 _ _ (omega arith) (omega arith) (λ x y. omega arith) (ask-numbered 9 _ _ (omega arith) (omega arith) (λ x y. omega arith) (ask-numbered 10 _ _ (omega arith) (omega arith) (λ x y. omega arith) tt))))))))))
 
 -- of an entry
 unfoldable Entered : Entry → Type 0
@@ -55,7 +55,7 @@ Entered (Entry.Refused q p) = Refusal q p
 
 -- the last three have the offset 0
 late : (q : ℕ) → 11 ≤ q → q ≤ 13 → Refusal q 0
-late q h l = record { first = omega arith; last = l; offset = λ _. refl }
+late q h l = record { first = omega arith; last = omega arith; offset = λ _ _. refl }
 
 -- question 13
 thirteenth : (s : State) (buffer : List ℤ) → Entered (question13 s buffer .entry)
@@ -78,13 +78,13 @@ unfolding question11 refused Entered
 eleventh none words buffer = late 11 (omega arith) (omega arith)
 eleventh (some W) words buffer = twelfth W (arguments (parameterTypes W) words) buffer
 
--- begin refuses by one of the thirteen
+-- begin refuses by one of the questions
 begin-entered : (image : List ℕ) (f v : ℕ) (words buffer : List ℤ) → Entered (beginOf image f v words buffer .entry)
 unfolding beginOf beginAfter enteredOf refused Entered Numbered
 begin-entered image f v words buffer = go (verdictOf image) (verdict-numbered image)
   where
     go : (a : Verdict) → Numbered a → Entered (beginAfter a (programOf image) f v words buffer .entry)
-    go (Verdict.Refused q p) m = record { first = m .0; last = omega (arith, m .1); offset = λ h. absurd (omega (arith, h, m .1)) }
+    go (Verdict.Refused q p) m = record { first = m .0; last = m .1; offset = λ h l. absurd (m .2 h l) }
     go (Verdict.Accepted n) m = eleventh (findVersion (programOf image) f v) words buffer
 
 -- ---- runs

@@ -5,7 +5,7 @@ use mathlib.Core.Option.{some}
 use Prim.Native.Nat.{ℕ, suc, _-_, zero}
 use native.Mathlib.Omega.{arith}
 use lib.ListN.{getElem?, length-set}
-use Rattle.program.specs.Program.{Instr, LIT, MOVE, USE, DUP, VEC, LEN, GET, SET, ARITH, SELECT, CAST, NAMED, STORE, PROM, FORCE, PEEK, POKE, CALL, DISPATCH, Line, Program}
+use Rattle.program.specs.Program.{Instr, LIT, MOVE, USE, DUP, VEC, LEN, GET, SET, ARITH, SELECT, CAST, NAMED, STORE, PROM, FORCE, PEEK, POKE, CALL, DISPATCH, SKIP, Line, Program}
 use Rattle.machine.specs.States.{withStack}
 use Rattle.machine.specs.Calls.{passed}
 use Rattle.machine.specs.Steps.{position, proceed}
@@ -23,6 +23,7 @@ use Rattle.soundness.proofs.Variables.{named-step, store-step, peek, po
 use Rattle.soundness.proofs.Vectors.{dup, vec, set-step}
 use Rattle.soundness.proofs.Uses.{use-step}
 use Rattle.soundness.proofs.Promises.{prom, force-step}
+use Rattle.soundness.proofs.Skips.{skip-step}
 use Rattle.soundness.proofs.Calling.{call-step, dispatch-step}
 use Rattle.soundness.proofs.Ends.{end-ok}
 use Rattle.soundness.proofs.Closing.{StepSafe, history-all}
@@ -53,6 +54,7 @@ executes P sure s a rest l W (PEEK d r x) is = peek P sure s a rest l W d r x is
 executes P sure s a rest l W (POKE r x e) is = poke P sure s a rest l W r x e is
 executes P sure s a rest l W (CALL d f w rs) is = call-step P sure s a rest l W d f w rs is
 executes P sure s a rest l W (DISPATCH d f mark ret pairs) is = dispatch-step P sure s a rest l W d f mark ret pairs is
+executes P sure s a rest l W (SKIP c n) is = skip-step P sure s a rest l W c n is
 
 module _ (P : Program) (sure : Sure P) (s : State) (inv : Inv P s) (run : s .status ≡ Status.Running) (h : ℕ) (d : s .depth ≡ suc h) where
   -- the newest activation moved past an instruction
@@ -62,6 +64,7 @@ module _ (P : Program) (sure : Sure P) (s : State) (inv : Inv P s) (run : s .sta
       let t = at-top P s inv run h d in
       let m : s .depth - 1 ≡ h = omega arith in
       record {
+        keep = inv .keep;
         heap = inv .heap;
         vectors = inv .vectors;
         room = length-set (s .activations) (s .depth - 1) _ ∙ inv .room;
@@ -107,7 +110,7 @@ one-call : (P : Program) (s : State) → Inv P s → s .status ≡ Status.Runnin
 unfolding Stack stackOf Base awaited
 one-call P s inv run d = go (s .depth) d (inv .stack run)
   where
-    go : (n : ℕ) → n ≡ 1 → Stack P (s .frames) top (s .calls) (stackOf (s .activations) n) → s .calls ≡ 1
+    go : (n : ℕ) → n ≡ 1 → Stack P (inv .keep) (s .frames) top (s .calls) (stackOf (s .activations) n) → s .calls ≡ 1
     go zero e st = absurd st
     go (suc zero) e st = opened-one (s .calls) _ _ _ (st .1) (st .2)
     go (suc (suc n)) e st = absurd (omega arith)

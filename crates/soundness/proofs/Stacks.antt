@@ -55,7 +55,7 @@ pub has-top : (P : Program) (s : State) → Inv P s → s .status ≡ Status.Run
 unfolding Stack Base stackOf
 has-top P s inv run = go (s .depth) refl (inv .stack run)
   where
-    go : (d : ℕ) → s .depth ≡ d → Stack P (s .frames) top (s .calls) (stackOf (s .activations) d) → (h : ℕ) × (s .depth ≡ suc h)
+    go : (d : ℕ) → s .depth ≡ d → Stack P (inv .keep) (s .frames) top (s .calls) (stackOf (s .activations) d) → (h : ℕ) × (s .depth ≡ suc h)
     go zero e st = absurd st
     go (suc h) e st = (h, e)
 
@@ -74,7 +74,7 @@ hereOf P s h = record {
 
 module _ (P : Program) (s : State) (inv : Inv P s) (run : s .status ≡ Status.Running) (h : ℕ) (d : s .depth ≡ suc h) where
   -- what holds of the activation on top, and of those below it
-  pub at-top : Stands P (s .frames) top (topOf s h .frame) (topOf s h .block) (topOf s h .next) × Opened (s .calls) (topOf s h .frame) (topOf s h .block) (topOf s h .opener) × Stack P (s .frames) (awaited P (s .frames) (topOf s h)) (below (s .calls) (topOf s h .frame) (topOf s h .opener)) (stackOf (s .activations) h)
+  pub at-top : Stands P (inv .keep) (s .frames) top (topOf s h .frame) (topOf s h .block) (topOf s h .next) × Opened (s .calls) (topOf s h .frame) (topOf s h .block) (topOf s h .opener) × Stack P (inv .keep) (s .frames) (awaited P (s .frames) (topOf s h)) (below (s .calls) (topOf s h .frame) (topOf s h .opener)) (stackOf (s .activations) h)
   unfolding Stack stackOf
   at-top = rw d at (inv .stack run)
 

@@ -89,16 +89,20 @@ values-length [] n = refl
 values-length (integer z ∷ xs) n = ap suc (values-length xs n)
 values-length (vector ys ∷ xs) n = ap suc (values-length xs (suc n))
 
+-- nothing is kept before the first step
+abbrev noneKept : ℕ → ℕ → Bool
+noneKept k r = false
+
 -- each is of its parameter's type
-values-fit : (P : Program) (fs : List Frame) (ps : List Promise) (ts : List ℕ) (xs : List Given) (n c : ℕ) → Matched ts xs → n + length xs ≤ VECTORS → Fits P fs ps 0 (getD ts c 0) (getD (valuesOf xs n) c Value.Empty)
+values-fit : (P : Program) (K : ℕ → ℕ → Bool) (fs : List Frame) (ps : List Promise) (ts : List ℕ) (xs : List Given) (n c : ℕ) → Matched ts xs → n + length xs ≤ VECTORS → Fits P K fs ps 0 (getD ts c 0) (getD (valuesOf xs n) c Value.Empty)
 unfolding Matched valuesOf givenKind Fits
-values-fit P fs ps [] [] n c m h = tt
-values-fit P fs ps [] (x ∷ xs) n c m h = absurd m
-values-fit P fs ps (t ∷ ts) [] n c m h = absurd m
-values-fit P fs ps (t ∷ ts) (integer z ∷ xs) n zero m h = m .0
-values-fit P fs ps (t ∷ ts) (integer z ∷ xs) n (suc c) m h = values-fit P fs ps ts xs n c (m .1) (omega (arith, h))
-values-fit P fs ps (t ∷ ts) (vector ys ∷ xs) n zero m h = (m .0, omega (arith, h))
-values-fit P fs ps (t ∷ ts) (vector ys ∷ xs) n (suc c) m h = values-fit P fs ps ts xs (suc n) c (m .1) (omega (arith, h))
+values-fit P K fs ps [] [] n c m h = tt
+values-fit P K fs ps [] (x ∷ xs) n c m h = absurd m
+values-fit P K fs ps (t ∷ ts) [] n c m h = absurd m
+values-fit P K fs ps (t ∷ ts) (integer z ∷ xs) n zero m h = m .0
+values-fit P K fs ps (t ∷ ts) (integer z ∷ xs) n (suc c) m h = values-fit P K fs ps ts xs n c (m .1) (omega (arith, h))
+values-fit P K fs ps (t ∷ ts) (vector ys ∷ xs) n zero m h = (m .0, omega (arith, h))
+values-fit P K fs ps (t ∷ ts) (vector ys ∷ xs) n (suc c) m h = values-fit P K fs ps ts xs (suc n) c (m .1) (omega (arith, h))
 
 -- none is empty
 values-full : (xs : List Given) (n c : ℕ) → c < length xs → isFull (getD (valuesOf xs n) c Value.Empty) ≡ true
@@ -191,15 +195,15 @@ module _ (P : Program) (sure : Sure P) (f w : ℕ) (W : Version) (found : findVe
   type-is c h = rw (version-is, lt-ltb c REGISTERS (omega (arith, h, lim .parameters))) (sym (getD-take (W .parameters) (W .types) c 0 h))
 
   -- every cell holds what fits
-  cell-fits : (ps : List Promise) (c : ℕ) → Fits P frames ps 0 (typeAt P frames 0 c) (cellAt frames 0 c)
+  cell-fits : (ps : List Promise) (c : ℕ) → Fits P noneKept frames ps 0 (typeAt P frames 0 c) (cellAt frames 0 c)
   unfolding Fits
   cell-fits ps c = go (decLt c (W .parameters))
     where
-      go : Dec (c < W .parameters) → Fits P frames ps 0 (typeAt P frames 0 c) (cellAt frames 0 c)
-      go (yes h) = rw (type-is c h, cell-is c) (values-fit P frames ps (parameterTypes W) xs 0 c m (omega (arith, count, lim .parameters)))
+      go : Dec (c < W .parameters) → Fits P noneKept frames ps 0 (typeAt P frames 0 c) (cellAt frames 0 c)
+      go (yes h) = rw (type-is c h, cell-is c) (values-fit P noneKept frames ps (parameterTypes W) xs 0 c m (omega (arith, count, lim .parameters)))
       go (no h) = rw (cell-is c, List·getD-eq-default (valuesOf xs 0) Value.Empty {n = c} (omega (arith, values-length xs 0, count))) tt
 
-  first-heap : (ps : List Promise) → length ps ≡ PROMISES → Heap P frames 1 ps
+  first-heap : (ps : List Promise) → length ps ≡ PROMISES → Heap P noneKept frames 1 ps
   unfolding Unshared
   first-heap ps l = record {
     sized = first-sized (frameFor W (valuesOf xs 0)) (frame-whole W (valuesOf xs 0));
@@ -214,7 +218,7 @@ module _ (P : Program) (sure : Sure P) (f w : ℕ) (W : Version) (found : findVe
       known zero h = own-version ∙ ap some (sym version-is)
       known (suc k) h = absurd (omega arith)
 
-      typed : (k c : ℕ) → k < 1 → Fits P frames ps k (typeAt P frames k c) (cellAt frames k c)
+      typed : (k c : ℕ) → k < 1 → Fits P noneKept frames ps k (typeAt P frames k c) (cellAt frames k c)
       typed zero c h = cell-fits ps c
       typed (suc k) c h = absurd (omega arith)
 
@@ -224,13 +228,14 @@ module _ (P : Program) (sure : Sure P) (f w : ℕ) (W : Version) (found : findVe
       own (suc k) c zero c′ v h h′ e e′ o = absurd (omega arith)
       own (suc k) c (suc k′) c′ v h h′ e e′ o = absurd (omega arith)
 
-  first-stands : Stands P frames top 0 0 0
-  first-stands = body-stands P frames 0 (rw version-is sure-of) (λ r h. rw (cell-is r) (values-full xs 0 r (omega (arith, h, count, ap (λ (v : Version). v .parameters) version-is))))
+  first-stands : Stands P noneKept frames top 0 0 0
+  first-stands = body-stands P noneKept frames 0 (rw version-is sure-of) (λ r h. rw (cell-is r) (values-full xs 0 r (omega (arith, h, count, ap (λ (v : Version). v .parameters) version-is)))) (λ r. refl)
 
   -- the first state has the invariant
   pub first-inv : Inv P (firstState (frameFor W (valuesOf xs 0) ∷ []) (vectorsOf xs))
   unfolding firstState firstFrames Stack stackOf Opened below Base awaited
   first-inv = record {
+    keep = noneKept;
     heap = first-heap _ (length-replicate {A = Promise} PROMISES (record { frame = 0; block = 0; cache = Cache.Unforced }));
     vectors = over-length (vectorsOf xs) (replicate VECTORS (newVector [])) ∙ length-replicate VECTORS (newVector []);
     room = length-replicate {A = Activation} ACTIVATIONS (record { opener = Opener.Call; d = 0; frame = 0; block = 0; next = 0 });

@@ -218,29 +218,29 @@ fresh-kind v d h = go (or-either (owned v d) (plain v d 3) h)
 
 -- ---- values of a type
 
-module _ (P : Program) (fs : List Frame) (ps : List Promise) (k : ℕ) where
-  pub fits-within : (t u : ℕ) → within (kindOf t) (kindOf u) ≡ true → (x : Value) → Fits P fs ps k t x → Fits P fs ps k u x
+module _ (P : Program) (K : ℕ → ℕ → Bool) (fs : List Frame) (ps : List Promise) (k : ℕ) where
+  pub fits-within : (t u : ℕ) → within (kindOf t) (kindOf u) ≡ true → (x : Value) → Fits P K fs ps k t x → Fits P K fs ps k u x
   unfolding Fits
   fits-within t u w Value.Empty f = tt
   fits-within t u w (Value.Integer z) f = within-trans 2 (kindOf t) (kindOf u) f w
   fits-within t u w (Value.Vector i) f = (within-trans 3 (kindOf t) (kindOf u) (f .0) w, f .1)
   fits-within t u w (Value.Promise p) f = (f .0, record { kind = within-trans (kindAt P fs (promiseAt ps p)) (kindOf t) (kindOf u) (f .1 .kind) w; older = f .1 .older; alive = f .1 .alive })
 
-  pub an-integer : (t : ℕ) (x : Value) → kindOf t ≡ 2 → isFull x ≡ true → Fits P fs ps k t x → (z : ℤ) × (x ≡ Value.Integer z)
+  pub an-integer : (t : ℕ) (x : Value) → kindOf t ≡ 2 → isFull x ≡ true → Fits P K fs ps k t x → (z : ℤ) × (x ≡ Value.Integer z)
   unfolding Fits isFull kindAt
   an-integer t Value.Empty e h f = absurd (false≢true h)
   an-integer t (Value.Integer z) e h f = (z, refl)
   an-integer t (Value.Vector i) e h f = absurd (omega (arith, not-within 3 (kindOf t) (inr refl) (inl e) (f .0)))
   an-integer t (Value.Promise p) e h f = absurd (no-promise _ (kindOf t) (inr (inl e)) (f .1 .kind))
 
-  pub a-vector : (t : ℕ) (x : Value) → kindOf t ≡ 3 → isFull x ≡ true → Fits P fs ps k t x → (i : ℕ) × (x ≡ Value.Vector i) × (i < VECTORS)
+  pub a-vector : (t : ℕ) (x : Value) → kindOf t ≡ 3 → isFull x ≡ true → Fits P K fs ps k t x → (i : ℕ) × (x ≡ Value.Vector i) × (i < VECTORS)
   unfolding Fits isFull kindAt
   a-vector t Value.Empty e h f = absurd (false≢true h)
   a-vector t (Value.Integer z) e h f = absurd (omega (arith, not-within 2 (kindOf t) (inl refl) (inr (inl e)) f))
   a-vector t (Value.Vector i) e h f = (i, refl, f .1)
   a-vector t (Value.Promise p) e h f = absurd (no-promise _ (kindOf t) (inr (inr e)) (f .1 .kind))
 
-  pub a-promise : (t : ℕ) (x : Value) → (kindOf t ≡ 4) ⊎ (kindOf t ≡ 5) → isFull x ≡ true → Fits P fs ps k t x → (p : ℕ) × (x ≡ Value.Promise p) × (p < PROMISES) × PromiseFits P fs (promiseAt ps p) k t
+  pub a-promise : (t : ℕ) (x : Value) → (kindOf t ≡ 4) ⊎ (kindOf t ≡ 5) → isFull x ≡ true → Fits P K fs ps k t x → (p : ℕ) × (x ≡ Value.Promise p) × (p < PROMISES) × PromiseFits P K fs (promiseAt ps p) k t
   unfolding Fits isFull
   a-promise t Value.Empty e h f = absurd (false≢true h)
   a-promise t (Value.Integer z) (inl e) h f = absurd (omega (arith, not-within 2 (kindOf t) (inl refl) (inr (inr (inl e))) f))
@@ -250,14 +250,14 @@ module _ (P : Program) (fs : List Frame) (ps : List Promise) (k : ℕ) where
   a-promise t (Value.Promise p) e h f = (p, refl, f .0, f .1)
 
   -- a value that is no promise
-  pub fits-promise : (t p : ℕ) → (kindOf t ≡ 1) ⊎ (kindOf t ≡ 2) ⊎ (kindOf t ≡ 3) → Fits P fs ps k t (Value.Promise p) → ⊥
+  pub fits-promise : (t p : ℕ) → (kindOf t ≡ 1) ⊎ (kindOf t ≡ 2) ⊎ (kindOf t ≡ 3) → Fits P K fs ps k t (Value.Promise p) → ⊥
   unfolding Fits kindAt
   fits-promise t p e f = no-promise _ (kindOf t) e (f .1 .kind)
 
 -- what is no promise is at home in any frame
-pub fits-down : (P : Program) (fs : List Frame) (ps : List Promise) (k k′ t : ℕ) → (kindOf t ≡ 1) ⊎ (kindOf t ≡ 2) ⊎ (kindOf t ≡ 3) → (x : Value) → Fits P fs ps k t x → Fits P fs ps k′ t x
+pub fits-down : (P : Program) (K : ℕ → ℕ → Bool) (fs : List Frame) (ps : List Promise) (k k′ t : ℕ) → (kindOf t ≡ 1) ⊎ (kindOf t ≡ 2) ⊎ (kindOf t ≡ 3) → (x : Value) → Fits P K fs ps k t x → Fits P K fs ps k′ t x
 unfolding Fits
-fits-down P fs ps k k′ t h Value.Empty f = tt
-fits-down P fs ps k k′ t h (Value.Integer z) f = f
-fits-down P fs ps k k′ t h (Value.Vector i) f = f
-fits-down P fs ps k k′ t h (Value.Promise p) f = absurd (fits-promise P fs ps k t p h f)
+fits-down P K fs ps k k′ t h Value.Empty f = tt
+fits-down P K fs ps k k′ t h (Value.Integer z) f = f
+fits-down P K fs ps k k′ t h (Value.Vector i) f = f
+fits-down P K fs ps k k′ t h (Value.Promise p) f = absurd (fits-promise P K fs ps k t p h f)

@@ -23,11 +23,11 @@ use Rattle.machine.specs.declared.Activation.{Activation}
 use Rattle.machine.specs.declared.State.{State}
 use Rattle.machine.specs.declared.Value.{Value}
 use Rattle.soundness.proofs.Cells.{cellAt, writeAt, wrote, at-same, assign-is, write-sized}
-use Rattle.soundness.proofs.Invariant.{Sure, versionAt, typeAt, isFull, keep, kept, Fits, Lone, Heap, Ext, every, top, Gets, Inv}
+use Rattle.soundness.proofs.Invariant.{Sure, versionAt, typeAt, isFull, Fits, Lone, Heap, Ext, every, top, Gets, Inv}
 use Rattle.soundness.proofs.Progress.{Good, good, good-got}
 use Rattle.soundness.proofs.Types.{clash, owned-owned, fresh-kind, register-type}
 use Rattle.soundness.proofs.Heap.{same-version, ext-every, ext-less, ext-both, ext-full, heap-write}
-use Rattle.soundness.proofs.Standing.{At, moved, inv-of, live, inside, place-in, type-is, meets, onward, stack-on, under-le, spare}
+use Rattle.soundness.proofs.Standing.{At, moved, inv-of, live, inside, place-in, type-is, meets, onward, stack-on, under-le, spare, heap-on}
 use Rattle.soundness.proofs.Operands.{only-one, fits-i, exists-i, touched, full-at, assigned-in, vector-got}
 use Rattle.soundness.proofs.Plain.{Stepped}
 use Rattle.soundness.proofs.Vectors.{gone, under-body}
@@ -57,13 +57,13 @@ module _ (P : Program) (sure : Sure P) (s : State) (a : Activation) (rest : List
         small q (zero, g) = let z : r ≡ q = cc in omega (arith, hr)
         small q (suc i, g) = let z : _≡_ {A = ℕ} 0 1 = cc in absurd (omega arith)
 
-    spared : (q : ℕ) → isIn (r ∷ []) q ≡ true → keep P (versionAt P (s .frames) (a .frame)) q ≡ false
+    spared : (q : ℕ) → isIn (r ∷ []) q ≡ true → W .keep (a .frame) q ≡ false
     spared q h = spare P sure s a rest l W q body (empties q h)
 
-    H₁ : Heap P (writeAt (s .frames) (a .frame) r Value.Empty) (s .calls) (s .promises)
+    H₁ : Heap P (W .keep) (writeAt (s .frames) (a .frame) r Value.Empty) (s .calls) (s .promises)
     H₁ = heap-clear (s .frames) _ (a .frame) (isIn (r ∷ [])) one P (s .calls) (s .promises) (W .heap) spared
 
-    E₁ : Ext (s .calls) (kept P (s .frames)) (s .frames) (writeAt (s .frames) (a .frame) r Value.Empty)
+    E₁ : Ext (s .calls) (W .keep) (s .frames) (writeAt (s .frames) (a .frame) r Value.Empty)
     E₁ = ext-clear (s .frames) _ (a .frame) (isIn (r ∷ [])) one P (s .calls) (s .promises) (W .heap) spared
 
     E₂ : Ext (s .calls) every (writeAt (s .frames) (a .frame) r Value.Empty) (writeAt (writeAt (s .frames) (a .frame) r Value.Empty) (a .frame) d (Value.Vector v))
@@ -73,7 +73,7 @@ module _ (P : Program) (sure : Sure P) (s : State) (a : Activation) (rest : List
     same : versionAt P (writeAt (writeAt (s .frames) (a .frame) r Value.Empty) (a .frame) d (Value.Vector v)) (a .frame) ≡ versionAt P (s .frames) (a .frame)
     same = same-version P E₂ (a .frame) (live P sure s a rest l W) ∙ same-version P E₁ (a .frame) (live P sure s a rest l W)
 
-    H₂ : Heap P (writeAt (writeAt (s .frames) (a .frame) r Value.Empty) (a .frame) d (Value.Vector v)) (s .calls) (s .promises)
+    H₂ : Heap P (W .keep) (writeAt (writeAt (s .frames) (a .frame) r Value.Empty) (a .frame) d (Value.Vector v)) (s .calls) (s .promises)
     unfolding Fits Lone typeAt
     H₂ = heap-write P _ (s .calls) (s .promises) H₁ (a .frame) d (live P sure s a rest l W) (omega (arith, hd)) (Value.Vector v) (ext-every _ E₂)
         (rw (same-version P E₁ (a .frame) (live P sure s a rest l W), register-type X d hd) (fresh-kind X d fd), hv)
@@ -82,7 +82,7 @@ module _ (P : Program) (sure : Sure P) (s : State) (a : Activation) (rest : List
     pub taken-over : Good (Inv P) (assign (wrote s (a .frame) r Value.Empty) (a .frame) d (Value.Vector v))
     unfolding wrote withStack Gets touch isFull
     taken-over = good (Inv P) _ (wrote (wrote s (a .frame) r Value.Empty) (a .frame) d (Value.Vector v)) (assign-is (wrote s (a .frame) r Value.Empty) (H₁ .sized) (a .frame) (live P sure s a rest l W) (W .heap .bound) d (Value.Vector v) hd)
-        (inv-of P s _ (s .calls) (moved a ∷ rest) (W .vectors) (W .room) (W .deep) (W .stacked) H₂
+        (inv-of P s _ (s .calls) (moved a ∷ rest) (W .vectors) (W .room) (W .deep) (W .stacked) (heap-on P sure s a rest l W (meets P sure s a rest l W .next) (meets P sure s a rest l W .joins) H₂)
         (stack-on P sure s a rest l W _ same (ext-both (under-body P sure s a rest l W body (ext-older (s .frames) _ (a .frame) (isIn (r ∷ [])) one)) (ext-less _ (under-le P sure s a rest l W) E₂))
         (onward P sure s a rest l W _ top same tt
         (λ q h. inr (rw (only-one d q (assigned-in P sure s a rest l W _ is (r ∷ []) (r ∷ []) (d ∷ []) refl q h), at-same _ (H₁ .sized) (a .frame) d (Value.Vector v) (inside P sure s a rest l W) (omega (arith, hd))) refl))

@@ -26,7 +26,7 @@ use Rattle.soundness.proofs.Invariant.{Sure, versionAt, typeAt, promise
 use Rattle.soundness.proofs.Progress.{Good, good, good-then, good-got}
 use Rattle.soundness.proofs.Types.{name-type, name-shared, name-kind, plain-shared, plain-kind, fits-within, fits-promise, fits-down}
 use Rattle.soundness.proofs.KindsOf.{promise-is}
-use Rattle.soundness.proofs.Standing.{At, live, place-in, type-is, writes-cell, shared-lone}
+use Rattle.soundness.proofs.Standing.{At, live, place-in, type-is, writes-cell, shared-lone, fits-on}
 use Rattle.soundness.proofs.Operands.{only-none, fits-i, exists-i, full-at, assigned-in, promise-got, fits-value, plain-got}
 use Rattle.soundness.proofs.Plain.{Stepped, gives-shared}
 
@@ -39,7 +39,7 @@ module _ (P : Program) (sure : Sure P) (s : State) (a : Activation) (rest : List
   unfolding typeAt
   name-is-shared k x = rw (name-type (versionAt P (s .frames) k) x) name-shared
 
-  name-fits : (k x : ℕ) → k < s .calls → Fits P (s .frames) (s .promises) k 1 (cellAt (s .frames) k (REGISTERS + x))
+  name-fits : (k x : ℕ) → k < s .calls → Fits P (W .keep) (s .frames) (s .promises) k 1 (cellAt (s .frames) k (REGISTERS + x))
   unfolding typeAt
   name-fits k x hk = rw (name-type (versionAt P (s .frames) k) x) at (W .heap .typed k (REGISTERS + x) hk)
 
@@ -55,14 +55,14 @@ module _ (P : Program) (sure : Sure P) (s : State) (a : Activation) (rest : List
   unfolding name _>>=_ cellAt
   name-got k x hk hx =
       rw (named-is (frameAt (s .frames) k) (W .heap .sized .whole k (omega (arith, W .heap .bound))) x (ltb-true x NAMES hx))
-      (set-value (cellAt (s .frames) k (REGISTERS + x)) (λ p q. fits-promise P (s .frames) (s .promises) k 1 p (inl name-kind) (rw q at (name-fits k x hk))))
+      (set-value (cellAt (s .frames) k (REGISTERS + x)) (λ p q. fits-promise P (W .keep) (s .frames) (s .promises) k 1 p (inl name-kind) (rw q at (name-fits k x hk))))
 
   -- the value of a name x of a live frame k enters d
   gives-name : (i : Instr) (is : l .does ≡ i) (rs : List ℕ) (d : ℕ) (e : touch P i ≡ (reads rs empties [] assigns d ∷ [])) → registerExists X d ≡ true → plain X d 1 ≡ true → (k x : ℕ) → k < s .calls
       → (v : Value) → (v ≡ cellAt (s .frames) k (REGISTERS + x)) × (isFull (cellAt (s .frames) k (REGISTERS + x)) ≡ true) → Good (Inv P) (states.assign s (a .frame) d v)
   gives-name i is rs d e ed pd k x hk v q =
       rw (q .0) (gives-shared P sure s a rest l W i is rs d e ed k (REGISTERS + x) hk (name-is-shared k x) (plain-shared X d 1 pd) (q .1)
-      (fits-within P (s .frames) (s .promises) (a .frame) 1 _ (rw name-kind (plain-kind X d 1 pd)) _ (fits-down P (s .frames) (s .promises) k (a .frame) 1 (inl name-kind) _ (name-fits k x hk))))
+      (fits-within P (W .keep) (s .frames) (s .promises) (a .frame) 1 _ (rw name-kind (plain-kind X d 1 pd)) _ (fits-down P (W .keep) (s .frames) (s .promises) k (a .frame) 1 (inl name-kind) _ (name-fits k x hk))))
 
   pub named-step : (d x : ℕ) → l .does ≡ NAMED d x → Stepped P sure s a rest l W (NAMED d x)
   unfolding execute fits exists touch
@@ -78,7 +78,7 @@ module _ (P : Program) (sure : Sure P) (s : State) (a : Activation) (rest : List
       let lx = ltb-true x NAMES hx in
       good (Inv P) _ (wrote s k (REGISTERS + x) (cellAt (s .frames) (a .frame) r)) (store-is s (W .heap .sized) k hk (W .heap .bound) x _ lx)
       (writes-cell P sure s a rest l W k (REGISTERS + x) _ hk (omega arith) (λ q h. absurd (only-none q (assigned-in P sure s a rest l W i is rs [] [] e q h))) fr
-      (rw (name-type (versionAt P (s .frames) k) x) (fits-down P (s .frames) (s .promises) (a .frame) k 1 (inl name-kind) _ (fits-value P sure s a rest l W i is r er fr vr)))
+      (rw (name-type (versionAt P (s .frames) k) x) (fits-on P sure s a rest l W k 1 hk _ (fits-down P (W .keep) (s .frames) (s .promises) (a .frame) k 1 (inl name-kind) _ (fits-value P sure s a rest l W i is r er fr vr))))
       (shared-lone P sure s a rest l W (a .frame) r k (REGISTERS + x) (live P sure s a rest l W) (rw (type-is P sure s a rest l W r (place-in P sure s a rest l W r er)) (and-both _ _ vr .0)) (name-is-shared k x)))
 
   pub store-step : (x r : ℕ) → l .does ≡ STORE x r → Stepped P sure s a rest l W (STORE x r)

@@ -2,7 +2,7 @@
 use mathlib.Core.Path.{_≡_, refl, sym, ap, _∙_}
 use mathlib.Core.Logic.{_⊎_, inl, inr}
 use mathlib.Core.List.{List, [], _∷_}
-use mathlib.Core.Bool.{true, false}
+use mathlib.Core.Bool.{Bool, true, false}
 use Prim.Native.Nat.{ℕ, suc, _+_, _≤_, _<_}
 use native.Mathlib.Omega.{arith}
 use lib.ListN.{length, length-set}
@@ -31,7 +31,7 @@ use Rattle.soundness.proofs.Progress.{Good, good, good-then, good-got, 
 use Rattle.soundness.proofs.Types.{owned-owned, fresh-kind}
 use Rattle.soundness.proofs.Heap.{ext-same}
 use Rattle.soundness.proofs.Counting.{each-some, vector-free, vector-alone, free-ok}
-use Rattle.soundness.proofs.Standing.{At, moved, live, inside, place-in, type-is, meets, onward, stack-on, writes-register}
+use Rattle.soundness.proofs.Standing.{At, moved, live, inside, place-in, type-is, meets, onward, stack-on, writes-register, heap-on}
 use Rattle.soundness.proofs.Operands.{only-one, fits-i, exists-i, full-at, assigned-in, integer-got, vector-got}
 use Rattle.soundness.proofs.Plain.{Stepped, vector-at, index-ok}
 use Rattle.runs.proofs.Lists.{all-at}
@@ -39,7 +39,7 @@ use Rattle.runs.proofs.Lists.{all-at}
 -- a change of the vectors alone
 pub at-vector : (P : Program) (s : State) (a : Activation) (rest : List Activation) (l : Line) (v : ℕ) (w : Vector) → At P s a rest l → At P (withVector s v w) a rest l
 unfolding withVector
-at-vector P s a rest l v w W = record { heap = W .heap; vectors = length-set (s .vectors) v w ∙ W .vectors; room = W .room; deep = W .deep; stacked = W .stacked; stands = W .stands; opened = W .opened; under = W .under; line = W .line }
+at-vector P s a rest l v w W = record { keep = W .keep; heap = W .heap; vectors = length-set (s .vectors) v w ∙ W .vectors; room = W .room; deep = W .deep; stacked = W .stacked; stands = W .stands; opened = W .opened; under = W .under; line = W .line }
 
 -- a body runs only in the newest frame
 pub opened-newest : (n f b : ℕ) (o : Opener) → Opened n f b o → b ≡ 0 → suc f ≡ n
@@ -62,10 +62,10 @@ alone-got s k r v sz hk hn hr h =
     rw (assign-is s sz k hk hn r Value.Empty hr, vector-alone (wrote s k r Value.Empty) sz′ hn v h) refl
 
 -- a state with a vector changed
-vector-inv : (P : Program) (s : State) (v : ℕ) (w : Vector) (l : List Activation) → Heap P (s .frames) (s .calls) (s .promises) → length (s .vectors) ≡ VECTORS → length (s .activations) ≡ ACTIVATIONS → s .depth ≤ ACTIVATIONS → stackOf (s .activations) (s .depth) ≡ l
-    → Stack P (s .frames) top (s .calls) l → Inv P (withVector s v w)
+vector-inv : (P : Program) {K : ℕ → ℕ → Bool} (s : State) (v : ℕ) (w : Vector) (l : List Activation) → Heap P K (s .frames) (s .calls) (s .promises) → length (s .vectors) ≡ VECTORS → length (s .activations) ≡ ACTIVATIONS → s .depth ≤ ACTIVATIONS → stackOf (s .activations) (s .depth) ≡ l
+    → Stack P K (s .frames) top (s .calls) l → Inv P (withVector s v w)
 unfolding withVector
-vector-inv P s v w l h e r d q k = record { heap = h; vectors = length-set (s .vectors) v w ∙ e; room = r; deep = d; stack = λ _. rw q k }
+vector-inv P {K} s v w l h e r d q k = record { keep = K; heap = h; vectors = length-set (s .vectors) v w ∙ e; room = r; deep = d; stack = λ _. rw q k }
 
 module _ (P : Program) (sure : Sure P) (s : State) (a : Activation) (rest : List Activation) (l : Line) (W : At P s a rest l) where
   abbrev X : Version
@@ -161,5 +161,5 @@ module _ (P : Program) (sure : Sure P) (s : State) (a : Activation) (rest : List
           (λ k c hk q. gone r v k c hr b (rw (type-is P sure s a rest l W r hr) o) e hk q)
 
       changed : (r v : ℕ) (w : Vector) → isFull (cellAt (s .frames) (a .frame) r) ≡ true → ((q : ℕ) → has (meets P sure s a rest l W .now .W) q ≡ true → q ≡ r) → Inv P (withVector s v w)
-      changed r v w fr only = vector-inv P s v w (moved a ∷ rest) (W .heap) (W .vectors) (W .room) (W .deep) (W .stacked)
+      changed r v w fr only = vector-inv P s v w (moved a ∷ rest) (heap-on P sure s a rest l W (meets P sure s a rest l W .next) (meets P sure s a rest l W .joins) (W .heap)) (W .vectors) (W .room) (W .deep) (W .stacked)
           (stack-on P sure s a rest l W (s .frames) refl (ext-same _ every (s .frames)) (onward P sure s a rest l W (s .frames) top refl tt (λ q h. inr (rw (only q h) fr)) (λ q _ g. g)))

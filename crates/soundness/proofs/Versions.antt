@@ -24,9 +24,7 @@ use Rattle.rules.specs.Actions.{Action}
 use Rattle.rules.specs.Walks.{blockAction}
 use Rattle.rules.proofs.Follows.{or-either, not-true as not-false}
 use Rattle.rules.proofs.Rules.{return-kinds, Yields, body-yields, promise-yields}
-use Rattle.rules.proofs.Fitting.{emptied-or-captured}
 use Rattle.checker.proofs.Accepted.{Checked}
-use Rattle.soundness.proofs.Invariant.{captures, keep}
 use Rattle.soundness.proofs.Types.{clash, vector-kind}
 use Rattle.runs.proofs.Lists.{any-at}
 use Rattle.checker.proofs.Limits.{limited}
@@ -88,15 +86,3 @@ module _ (P : Program) (v : Version) (c : Checked P v) where
       go : (eqb (b .mark) 1 ≡ true) ⊎ (not (any (λ (l : Line). reflective P v (l .does)) (b .code)) ≡ true) → b .mark ≡ 1
       go (inl x) = eqb-true _ 1 x
       go (inr x) = clash (any-at (λ (l : Line). reflective P v (l .does)) (b .code) i l g e) (not-true _ x)
-
-  -- ---- question 10
-
-  -- what the body empties, it does not capture
-  pub spares : (a : Action) → blockAction P v 0 ≡ some a → (r : ℕ) → has (a .U) r ≡ true → keep P v r ≡ false
-  unfolding keep captures
-  spares a e r u = rw e (not-false _ (λ q. emptied-or-captured P v (c .fit) a e r u q))
-
-  -- the body keeps what it captures
-  pub keeps : (a : Action) → blockAction P v 0 ≡ some a → (r : ℕ) → has (a .C) r ≡ true → keep P v r ≡ true
-  unfolding keep captures
-  keeps a e r q = rw e q

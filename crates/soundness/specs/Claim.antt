@@ -8,7 +8,7 @@ use Prim.Native.Nat.{ℕ, _<_}
 use lib.IntN.{ℤ}
 use lib.ListN.{getElem?}
 use lib.Dec.{eqb}
-use Rattle.program.specs.Program.{Instr, LIT, MOVE, USE, DUP, VEC, LEN, GET, SET, ARITH, SELECT, CAST, NAMED, STORE, PROM, FORCE, PEEK, POKE, CALL, DISPATCH, Version, Program, findVersion, markOf}
+use Rattle.program.specs.Program.{Instr, LIT, MOVE, USE, DUP, VEC, LEN, GET, SET, ARITH, SELECT, CAST, NAMED, STORE, PROM, FORCE, PEEK, POKE, CALL, DISPATCH, SKIP, Version, Program, findVersion, markOf}
 use Rattle.rules.specs.Types.{kindOf, isOwned, isBorrowed, within}
 use Rattle.machine.specs.Try.{Try, got, stuck, stop, _>>=_}
 use Rattle.machine.specs.States.{kindIn, liveFrames, register, named}
@@ -57,6 +57,7 @@ isAccess (PEEK d a x) = true
 isAccess (POKE a x e) = true
 isAccess (CALL d f w rs) = false
 isAccess (DISPATCH d f mark ret pairs) = false
+isAccess (SKIP a n) = false
 
 -- the run stands at a PEEK or POKE
 unfoldable pub atAccess : Try Position → Bool
@@ -130,7 +131,7 @@ pub record Safe (P : Program) (h : List State) (s : State) : Type 0 where
   -- where one was tried, no call that was live then is quiet.
   pub quiet : (b : State) → List·Memᴰ b h → reflective P b ≡ true → (k : ℕ) (f : Frame) → Live b k f → isQuiet (entered P f) ≡ false
 
--- After every list of events from the state of every run that begin did not refuse, the ten questions among its refusals
+-- After every list of events from the state of every run that begin did not refuse; begin puts the questions to the image too
 unfoldable pub Demand3 : Type 0
 Demand3 =
     (image : List ℕ) (f v : ℕ) (words buffer : List ℤ) → beginOf image f v words buffer .entry ≡ Entry.Begun

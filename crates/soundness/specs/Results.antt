@@ -10,11 +10,11 @@ use Rattle.machine.specs.declared.Answer.{Answer}
 use Rattle.machine.specs.declared.End.{End}
 use Rattle.machine.specs.declared.Ran.{Ran}
 
--- the number of one of the questions 1 to 13, and an offset, which is 0 behind the ten to the image
+-- the number of one of the questions 1 to 14, and an offset, which is 0 for those to a run, 11 to 13
 pub record Refusal (q p : ℕ) : Type 0 where
   pub first : 1 ≤ q
-  pub last : q ≤ 13
-  pub offset : 11 ≤ q → p ≡ 0
+  pub last : q ≤ 14
+  pub offset : 11 ≤ q → q ≤ 13 → p ≡ 0
 
 -- a refusal, STEPS, or an end: DONE, UNDEF, DEEP, VECTORS or PROMISES; there is no other, so none is stuck
 pub data Result : Answer → Type 0 where

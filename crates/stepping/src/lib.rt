@@ -217,7 +217,7 @@ fn go(
                 n += 1;
             }
             Turn::Stack(calls, depth) => {
-                spot = places::locate(image, table, owners, stack, calls, depth);
+                spot = places::locate(image, table, owners, stack, calls, depth, spot);
                 n += 1;
             }
             Turn::Integer(z) => return tally(Turn::Integer(z), spot, n + 1),
@@ -280,7 +280,16 @@ pub fn resume(
         caches,
     );
     let table = index::of(image);
-    let spot = places::locate(image, &table, owners, stack, calls as usize, depth as usize);
+    let nowhere = places::nowhere(calls as usize, depth as usize);
+    let spot = places::locate(
+        image,
+        &table,
+        owners,
+        stack,
+        calls as usize,
+        depth as usize,
+        nowhere,
+    );
     go(
         image,
         &table,

@@ -53,7 +53,7 @@ module _ (f : Instr → Bool) {s : List ℕ} {p n k : ℕ} (m : Whole s p n k) w
 pub is-quiet : (P : Program) (v : Version) (k : ℕ) (b : List ℕ) → (k ≡ kind.FORCE → ⊥) → (k ≡ kind.PEEK → ⊥) → (k ≡ kind.POKE → ⊥) → (k ≡ kind.CALL → ⊥) → (k ≡ kind.DISPATCH → ⊥) → reflective P v (instrOf k b) ≡ false
 unfolding reflective instrOf Rows
 is-quiet P v k b f pe po c d = choose-each (λ (i : Instr). reflective P v i ≡ false) k _ _ refl
-    (λ e. refl, (λ e. refl, (λ e. refl, (λ e. refl, (λ e. refl, (λ e. refl, (λ e. refl, (λ e. refl, (λ e. refl, (λ e. refl, (λ e. refl, (λ e. refl, (λ e. refl, (λ e. absurd (f e), (λ e. absurd (pe e), (λ e. absurd (po e), (λ e. absurd (c e), (λ e. absurd (d e), tt))))))))))))))))))
+    (λ e. refl, (λ e. refl, (λ e. refl, (λ e. refl, (λ e. refl, (λ e. refl, (λ e. refl, (λ e. refl, (λ e. refl, (λ e. refl, (λ e. refl, (λ e. refl, (λ e. refl, (λ e. absurd (f e), (λ e. absurd (pe e), (λ e. absurd (po e), (λ e. absurd (c e), (λ e. absurd (d e), (λ e. refl, tt)))))))))))))))))))
 
 -- a block whose mark covers its effect, by its mark or its effect, and one whose mark does not
 module _ (P : Program) (v : Version) (b : Block) where

@@ -31,4 +31,4 @@ pair-types {m} b k n e = rw e (all-parameters n 0 (every b k 2 n) (rw (length-ev
 pub no-types : (k : ℕ) (b : List ℕ) → (k ≡ kind.DISPATCH → ⊥) → typesAllowed (instrOf k b) ≡ true
 unfolding typesAllowed instrOf Rows
 no-types k b h = choose-each (λ (i : Instr). typesAllowed i ≡ true) k _ _ refl
-    (λ e. refl, (λ e. refl, (λ e. refl, (λ e. refl, (λ e. refl, (λ e. refl, (λ e. refl, (λ e. refl, (λ e. refl, (λ e. refl, (λ e. refl, (λ e. refl, (λ e. refl, (λ e. refl, (λ e. refl, (λ e. refl, (λ e. refl, (λ e. absurd (h e), tt))))))))))))))))))
+    (λ e. refl, (λ e. refl, (λ e. refl, (λ e. refl, (λ e. refl, (λ e. refl, (λ e. refl, (λ e. refl, (λ e. refl, (λ e. refl, (λ e. refl, (λ e. refl, (λ e. refl, (λ e. refl, (λ e. refl, (λ e. refl, (λ e. refl, (λ e. absurd (h e), (λ e. refl, tt)))))))))))))))))))

@@ -278,6 +278,7 @@ pub(crate) fn instruction_fits(
         kinds::POKE => poke_fits(image, v, b, p),
         kinds::CALL => call_fits(image, table, v, b, p),
         kinds::DISPATCH => dispatch_fits(image, v, b, p),
+        kinds::SKIP => registers::is_integer(image, v, p, 0),
         _ => registers::takes_plain(image, v, p, 0, types::INTEGER),
     }
 }

@@ -1,5 +1,5 @@
 -- `instructions::instruct`: each instruction by the function that does it, and its turn by what that has done.
-use Rattle.instructions.proofs.Arms.{lit-arm, arith-arm, select-arm, named-arm, moved-arm, cast-arm, len-arm, get-arm, peek-arm, use-arm, store-arm, poke-arm, prom-arm, set-arm, dup-arm, vec-arm, call-arm, dispatch-arm, cached-arm, opened-arm, unforced-arm, stopped-arm}
+use Rattle.instructions.proofs.Arms.{lit-arm, arith-arm, select-arm, named-arm, moved-arm, cast-arm, len-arm, get-arm, peek-arm, use-arm, store-arm, poke-arm, prom-arm, set-arm, dup-arm, vec-arm, call-arm, dispatch-arm, cached-arm, opened-arm, unforced-arm, stopped-arm, skip-arm}
 use Rattle.instructions.proofs.Forming.{instr-is, lists-is, pairs-is}
 use Rattle.instructions.specs.Forms.{formed, listsOf, pairs}
 use Rattle.memory.specs.declared.Gives.{Gives}
@@ -198,8 +198,8 @@ enum-told c = search needs
 enum-told-2 : tie.Need-enum-told-2
 enum-told-2 c = search needs
 
-add-t156 : tie.Need-add-t156
-add-t156 c = search needs
+add-t158 : tie.Need-add-t158
+add-t158 c = search needs
 
 enum-told-3 : tie.Need-enum-told-3
 enum-told-3 c = search needs
@@ -257,6 +257,12 @@ add-opened-4 c = search needs
 
 opened-requires-2 : tie.Need-opened-requires-2
 opened-requires-2 c κs = search needs
+
+enum-known-a-3 : tie.Need-enum-known-a-3
+enum-known-a-3 c = search needs
+
+skip-requires : tie.Need-skip-requires
+skip-requires c κs = search needs
 
 returns : tie.Need-returns
 unfolding formed
@@ -369,6 +375,12 @@ unfolding formed pairs
 returns-22 c =
     dispatch-arm _ _ _ _ _ _ _ _ _ _ _ _ _ _ _ _ _ _ _ _ _ _ _ _ _ _ (instr-is _ ((c .before .before .before .before .before .before .before .before .before .before .decode) .ensures) _ ((c .before .before .before .before .before .before .before .before .d16) .given .1)) (pairs-is _ ((c .before .before .before .before .before .before .before .before .before .before .decode) .ensures) _ ((c .before .before .before .before .before .before .before .before .d16) .given .1)) ((c .before .dispatch) .ensures) ((c .opened2) .ensures)
 
+returns-23 : tie.Need-returns-23
+unfolding formed
+returns-23 c =
+    skip-arm _ _ _ _ _ _ _ _ _ _ _ _ _ _ _ _ _ _ (instr-is _ (c .before .before .before .before .before .before .before .decode .ensures) _ (c .before .before .before .before .before .a3 .given .1))
+    (c .skip .ensures)
+
 pub instruct-spec : {M : Type 1} → statement M
 instruct-spec =
     tie.close
@@ -427,7 +439,7 @@ instruct-spec =
     force-requires
     enum-told
     enum-told-2
-    add-t156
+    add-t158
     enum-told-3
     enum-known-h
     enum-known-d-14
@@ -447,6 +459,8 @@ instruct-spec =
     add-opened-3
     add-opened-4
     opened-requires-2
+    enum-known-a-3
+    skip-requires
     returns
     returns-2
     returns-3
@@ -468,4 +482,5 @@ instruct-spec =
     returns-19
     returns-20
     returns-21
-    returns-22)
+    returns-22
+    returns-23)

@@ -145,7 +145,12 @@ returns-21 c =
 returns-22 : tie.Need-returns-22
 unfolding lengthOf choose
 returns-22 c =
-    simp (← (c .before .kind-at) .ensures, ne-eqb _ _ ((c .match) .rest .0 .0 .0 .0 .0 .0 .0 .0 .0 .0 .0 .0 .0 .0 .0 .0 .0 .0 .0 .0 .1), ne-eqb _ _ ((c .match) .rest .0 .0 .0 .0 .0 .0 .0 .0 .0 .0 .0 .0 .0 .0 .0 .0 .0 .0 .0 .1), ne-eqb _ _ ((c .match) .rest .0 .0 .0 .0 .0 .0 .0 .0 .0 .0 .0 .0 .0 .0 .0 .0 .0 .0 .1), ne-eqb _ _ ((c .match) .rest .0 .0 .0 .0 .0 .0 .0 .0 .0 .0 .0 .0 .0 .0 .0 .0 .0 .1), ne-eqb _ _ ((c .match) .rest .0 .0 .0 .0 .0 .0 .0 .0 .0 .0 .0 .0 .0 .0 .0 .0 .1), ne-eqb _ _ ((c .match) .rest .0 .0 .0 .0 .0 .0 .0 .0 .0 .0 .0 .0 .0 .0 .0 .1), ne-eqb _ _ ((c .match) .rest .0 .0 .0 .0 .0 .0 .0 .0 .0 .0 .0 .0 .0 .0 .1), ne-eqb _ _ ((c .match) .rest .0 .0 .0 .0 .0 .0 .0 .0 .0 .0 .0 .0 .0 .1), ne-eqb _ _ ((c .match) .rest .0 .0 .0 .0 .0 .0 .0 .0 .0 .0 .0 .0 .1), ne-eqb _ _ ((c .match) .rest .0 .0 .0 .0 .0 .0 .0 .0 .0 .0 .0 .1), ne-eqb _ _ ((c .match) .rest .0 .0 .0 .0 .0 .0 .0 .0 .0 .0 .1), ne-eqb _ _ ((c .match) .rest .0 .0 .0 .0 .0 .0 .0 .0 .0 .1), ne-eqb _ _ ((c .match) .rest .0 .0 .0 .0 .0 .0 .0 .0 .1), ne-eqb _ _ ((c .match) .rest .0 .0 .0 .0 .0 .0 .0 .1), ne-eqb _ _ ((c .match) .rest .0 .0 .0 .0 .0 .0 .1), ne-eqb _ _ ((c .match) .rest .0 .0 .0 .0 .0 .1), ne-eqb _ _ ((c .match) .rest .0 .0 .0 .0 .1), ne-eqb _ _ ((c .match) .rest .0 .0 .0 .1), ne-eqb _ _ ((c .match) .rest .0 .0 .1), ne-eqb _ _ ((c .match) .rest .0 .1), ne-eqb _ _ ((c .match) .rest .1))
+    simp (sym ((c .before .kind-at) .ensures) ∙ (c .match) .keys22)
+
+returns-23 : tie.Need-returns-23
+unfolding lengthOf choose
+returns-23 c =
+    simp (← (c .before .kind-at) .ensures, ne-eqb _ _ ((c .match) .rest .0 .0 .0 .0 .0 .0 .0 .0 .0 .0 .0 .0 .0 .0 .0 .0 .0 .0 .0 .0 .0 .1), ne-eqb _ _ ((c .match) .rest .0 .0 .0 .0 .0 .0 .0 .0 .0 .0 .0 .0 .0 .0 .0 .0 .0 .0 .0 .0 .1), ne-eqb _ _ ((c .match) .rest .0 .0 .0 .0 .0 .0 .0 .0 .0 .0 .0 .0 .0 .0 .0 .0 .0 .0 .0 .1), ne-eqb _ _ ((c .match) .rest .0 .0 .0 .0 .0 .0 .0 .0 .0 .0 .0 .0 .0 .0 .0 .0 .0 .0 .1), ne-eqb _ _ ((c .match) .rest .0 .0 .0 .0 .0 .0 .0 .0 .0 .0 .0 .0 .0 .0 .0 .0 .0 .1), ne-eqb _ _ ((c .match) .rest .0 .0 .0 .0 .0 .0 .0 .0 .0 .0 .0 .0 .0 .0 .0 .0 .1), ne-eqb _ _ ((c .match) .rest .0 .0 .0 .0 .0 .0 .0 .0 .0 .0 .0 .0 .0 .0 .0 .1), ne-eqb _ _ ((c .match) .rest .0 .0 .0 .0 .0 .0 .0 .0 .0 .0 .0 .0 .0 .0 .1), ne-eqb _ _ ((c .match) .rest .0 .0 .0 .0 .0 .0 .0 .0 .0 .0 .0 .0 .0 .1), ne-eqb _ _ ((c .match) .rest .0 .0 .0 .0 .0 .0 .0 .0 .0 .0 .0 .0 .1), ne-eqb _ _ ((c .match) .rest .0 .0 .0 .0 .0 .0 .0 .0 .0 .0 .0 .1), ne-eqb _ _ ((c .match) .rest .0 .0 .0 .0 .0 .0 .0 .0 .0 .0 .1), ne-eqb _ _ ((c .match) .rest .0 .0 .0 .0 .0 .0 .0 .0 .0 .1), ne-eqb _ _ ((c .match) .rest .0 .0 .0 .0 .0 .0 .0 .0 .1), ne-eqb _ _ ((c .match) .rest .0 .0 .0 .0 .0 .0 .0 .1), ne-eqb _ _ ((c .match) .rest .0 .0 .0 .0 .0 .0 .1), ne-eqb _ _ ((c .match) .rest .0 .0 .0 .0 .0 .1), ne-eqb _ _ ((c .match) .rest .0 .0 .0 .0 .1), ne-eqb _ _ ((c .match) .rest .0 .0 .0 .1), ne-eqb _ _ ((c .match) .rest .0 .0 .1), ne-eqb _ _ ((c .match) .rest .0 .1), ne-eqb _ _ ((c .match) .rest .1))
 
 pub length-at-spec : {M : Type 1} → statement M
 length-at-spec =
@@ -182,4 +187,5 @@ length-at-spec =
     returns-19
     returns-20
     returns-21
-    returns-22)
+    returns-22
+    returns-23)

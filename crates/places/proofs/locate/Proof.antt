@@ -1,11 +1,8 @@
 -- `places::locate`: the look-ups one behind the other.
-use Rattle.places.proofs.Locating.{room, owner-found, block-is, idle, deep, dead, unframed, unknown, unblocked, over, short, there}
+use Rattle.places.proofs.Locating.{owner-found, block-is, idle, deep, dead, unframed, unknown, unblocked, over, short, there}
 use Rattle.places.proofs.locate.Statement.{statement}
 use Rattle.places.proofs.locate.Tie as tie
 use borrow.Author.Needs.{needs}
-use mir.Syntax.{w64}
-use mir.Val.{Fits}
-use native.Mathlib.Omega.{arith}
 
 nowhere-requires : tie.Need-nowhere-requires
 nowhere-requires c κs = search needs
@@ -72,7 +69,7 @@ wide-requires-3 : tie.Need-wide-requires-3
 wide-requires-3 c κs = search needs
 
 version-requires : tie.Need-version-requires
-version-requires c κs = (c .before .before .before .before .before .before .before .before .before .before .before) .pre
+version-requires c κs = (c .before .before .before .before .before .before .before .before .before .before .before) .pre .0
 
 enum-known-v : tie.Need-enum-known-v
 enum-known-v c = search needs
@@ -100,7 +97,7 @@ wide-requires-4 : tie.Need-wide-requires-4
 wide-requires-4 c κs = search needs
 
 block-requires : tie.Need-block-requires
-block-requires c κs = (c .before .before .before .before .before .before .before .before .before .before .before .before .before .before .before .before .before) .pre
+block-requires c κs = (c .before .before .before .before .before .before .before .before .before .before .before .before .before .before .before .before .before) .pre .0
 
 enum-known-b : tie.Need-enum-known-b
 enum-known-b c = search needs
@@ -134,15 +131,9 @@ returns-7 : tie.Need-returns-7
 returns-7 c =
     over _ _ _ _ _ _ ((c .nowhere7) .ensures) _ (record { begun = (c .before .before .before .before .before .before .before .before .before .before .before .before .before .before .before .before .before .before .before .before .before .before .before .if1) .left; shallow = (c .before .before .before .before .before .before .before .before .before .before .before .before .before .before .before .before .before .before .before .before .before .before .if2) .left; framed = (c .before .before .before .before .before .before .before .before .before .before .before .before .before .before .before .before .before .before .before .before .wide) .ensures .0; live = (c .before .before .before .before .before .before .before .before .before .before .before .before .before .before .before .before .before .before .before .if3) .left; few = (c .before .before .before .before .before .before .before .before .before .before .before .before .before .before .before .before .before .before .if4) .left }) _ (owner-found _ _ _ _ _ _ ((c .before .before .before .before .before .before .before .before .before .before .before .before .before .before .before .before .wide2) .ensures .0) ((c .before .before .before .before .before .before .before .before .before .before .before .before .before .before .wide3) .ensures .0) ((c .before .before .before .before .before .before .before .before .before .before .before .before .before .version) .ensures) _ ((c .before .before .before .before .before .before .before .before .before .before .before .v) .given .1)) _ (block-is _ _ _ _ _ _ _ ((c .before .before .before .before .before .before .before .before .wide4) .ensures .0) ((c .before .before .before .before .before .before .before .block) .ensures) ((c .before .before .before .before .before .b) .given .1)) _ ((c .before .before .wide5) .ensures .0) ((c .before .if5) .taken)
 
-size-at-requires : tie.Need-size-at-requires
-size-at-requires c κs = search needs
-
-add-skip : tie.Need-add-skip
-add-skip c =
-    let k : Fits w64 ((c .before .before .before .before .before .b) .given .0 .0) = search needs in rw ((c .size-at) .ensures) (record { fits = room _ _ _ (k .fits) (omega arith) })
-
-skip-requires : tie.Need-skip-requires
-skip-requires c κs = search needs
+reach-requires : tie.Need-reach-requires
+reach-requires c κs =
+    (c .before .before .before .before .before .before .before .before .before .before .before .before .before .before .before .before .before .before .before .before .before .before .before .before) .pre .1
 
 enum-known-p : tie.Need-enum-known-p
 enum-known-p c = search needs
@@ -155,11 +146,15 @@ nowhere-requires-8 c κs = search needs
 
 returns-8 : tie.Need-returns-8
 returns-8 c =
-    short _ _ _ _ _ _ ((c .nowhere8) .ensures) _ (record { begun = (c .before .before .before .before .before .before .before .before .before .before .before .before .before .before .before .before .before .before .before .before .before .before .before .before .before .before .before .if1) .left; shallow = (c .before .before .before .before .before .before .before .before .before .before .before .before .before .before .before .before .before .before .before .before .before .before .before .before .before .before .if2) .left; framed = (c .before .before .before .before .before .before .before .before .before .before .before .before .before .before .before .before .before .before .before .before .before .before .before .before .wide) .ensures .0; live = (c .before .before .before .before .before .before .before .before .before .before .before .before .before .before .before .before .before .before .before .before .before .before .before .if3) .left; few = (c .before .before .before .before .before .before .before .before .before .before .before .before .before .before .before .before .before .before .before .before .before .before .if4) .left }) _ (owner-found _ _ _ _ _ _ ((c .before .before .before .before .before .before .before .before .before .before .before .before .before .before .before .before .before .before .before .before .wide2) .ensures .0) ((c .before .before .before .before .before .before .before .before .before .before .before .before .before .before .before .before .before .before .wide3) .ensures .0) ((c .before .before .before .before .before .before .before .before .before .before .before .before .before .before .before .before .before .version) .ensures) _ ((c .before .before .before .before .before .before .before .before .before .before .before .before .before .before .before .v) .given .1)) _ (block-is _ _ _ _ _ _ _ ((c .before .before .before .before .before .before .before .before .before .before .before .before .wide4) .ensures .0) ((c .before .before .before .before .before .before .before .before .before .before .before .block) .ensures) ((c .before .before .before .before .before .before .before .before .before .b) .given .1)) _ ((c .before .before .before .before .before .before .wide5) .ensures .0) _ _ ((c .before .before .before .before .size-at) .ensures) ((c .before .before .before .skip) .ensures) ((c .before .enum-told3) .given .1)
+    let owned = owner-found _ _ _ _ _ _ ((c .before .before .before .before .before .before .before .before .before .before .before .before .before .before .before .before .before .before .before .wide2) .ensures .0) ((c .before .before .before .before .before .before .before .before .before .before .before .before .before .before .before .before .before .wide3) .ensures .0) ((c .before .before .before .before .before .before .before .before .before .before .before .before .before .before .before .before .version) .ensures) _ ((c .before .before .before .before .before .before .before .before .before .before .before .before .before .before .v) .given .1) in
+    let blocked = block-is _ _ _ _ _ _ _ ((c .before .before .before .before .before .before .before .before .before .before .before .wide4) .ensures .0) ((c .before .before .before .before .before .before .before .before .before .before .block) .ensures) ((c .before .before .before .before .before .before .before .before .b) .given .1) in
+    short _ _ _ _ _ _ ((c .nowhere8) .ensures) _ (record { begun = (c .before .before .before .before .before .before .before .before .before .before .before .before .before .before .before .before .before .before .before .before .before .before .before .before .before .before .if1) .left; shallow = (c .before .before .before .before .before .before .before .before .before .before .before .before .before .before .before .before .before .before .before .before .before .before .before .before .before .if2) .left; framed = (c .before .before .before .before .before .before .before .before .before .before .before .before .before .before .before .before .before .before .before .before .before .before .before .wide) .ensures .0; live = (c .before .before .before .before .before .before .before .before .before .before .before .before .before .before .before .before .before .before .before .before .before .before .if3) .left; few = (c .before .before .before .before .before .before .before .before .before .before .before .before .before .before .before .before .before .before .before .before .before .if4) .left }) _ owned _ blocked _ ((c .before .before .before .before .before .wide5) .ensures .0) _ ((c .before .before .before .reach) .ensures) ((c .before .enum-told3) .given .1)
 
 returns-9 : tie.Need-returns-9
 returns-9 c =
-    there _ _ _ _ _ _ (record { begun = (c .before .before .before .before .before .before .before .before .before .before .before .before .before .before .before .before .before .before .before .before .before .before .before .before .before .before .before .if1) .left; shallow = (c .before .before .before .before .before .before .before .before .before .before .before .before .before .before .before .before .before .before .before .before .before .before .before .before .before .before .if2) .left; framed = (c .before .before .before .before .before .before .before .before .before .before .before .before .before .before .before .before .before .before .before .before .before .before .before .before .wide) .ensures .0; live = (c .before .before .before .before .before .before .before .before .before .before .before .before .before .before .before .before .before .before .before .before .before .before .before .if3) .left; few = (c .before .before .before .before .before .before .before .before .before .before .before .before .before .before .before .before .before .before .before .before .before .before .if4) .left }) _ (owner-found _ _ _ _ _ _ ((c .before .before .before .before .before .before .before .before .before .before .before .before .before .before .before .before .before .before .before .before .wide2) .ensures .0) ((c .before .before .before .before .before .before .before .before .before .before .before .before .before .before .before .before .before .before .wide3) .ensures .0) ((c .before .before .before .before .before .before .before .before .before .before .before .before .before .before .before .before .before .version) .ensures) _ ((c .before .before .before .before .before .before .before .before .before .before .before .before .before .before .before .v) .given .1)) _ (block-is _ _ _ _ _ _ _ ((c .before .before .before .before .before .before .before .before .before .before .before .before .wide4) .ensures .0) ((c .before .before .before .before .before .before .before .before .before .before .before .block) .ensures) ((c .before .before .before .before .before .before .before .before .before .b) .given .1)) _ ((c .before .before .before .before .before .before .wide5) .ensures .0) ((c .before .before .before .before .before .if5) .left) _ _ _ ((c .before .before .before .before .size-at) .ensures) ((c .before .before .before .skip) .ensures) ((c .before .p) .given .1)
+    let owned = owner-found _ _ _ _ _ _ ((c .before .before .before .before .before .before .before .before .before .before .before .before .before .before .before .before .before .before .before .wide2) .ensures .0) ((c .before .before .before .before .before .before .before .before .before .before .before .before .before .before .before .before .before .wide3) .ensures .0) ((c .before .before .before .before .before .before .before .before .before .before .before .before .before .before .before .before .version) .ensures) _ ((c .before .before .before .before .before .before .before .before .before .before .before .before .before .before .v) .given .1) in
+    let blocked = block-is _ _ _ _ _ _ _ ((c .before .before .before .before .before .before .before .before .before .before .before .wide4) .ensures .0) ((c .before .before .before .before .before .before .before .before .before .before .block) .ensures) ((c .before .before .before .before .before .before .before .before .b) .given .1) in
+    there _ _ _ _ _ _ (record { begun = (c .before .before .before .before .before .before .before .before .before .before .before .before .before .before .before .before .before .before .before .before .before .before .before .before .before .before .if1) .left; shallow = (c .before .before .before .before .before .before .before .before .before .before .before .before .before .before .before .before .before .before .before .before .before .before .before .before .before .if2) .left; framed = (c .before .before .before .before .before .before .before .before .before .before .before .before .before .before .before .before .before .before .before .before .before .before .before .wide) .ensures .0; live = (c .before .before .before .before .before .before .before .before .before .before .before .before .before .before .before .before .before .before .before .before .before .before .if3) .left; few = (c .before .before .before .before .before .before .before .before .before .before .before .before .before .before .before .before .before .before .before .before .before .if4) .left }) _ owned _ blocked _ ((c .before .before .before .before .before .wide5) .ensures .0) ((c .before .before .before .before .if5) .left) _ _ ((c .before .before .before .reach) .ensures) ((c .before .p) .given .1)
 
 pub locate-spec : {M : Type 1} → statement M
 locate-spec =
@@ -205,9 +200,7 @@ locate-spec =
     wide-requires-5
     nowhere-requires-7
     returns-7
-    size-at-requires
-    add-skip
-    skip-requires
+    reach-requires
     enum-known-p
     enum-told-3
     nowhere-requires-8

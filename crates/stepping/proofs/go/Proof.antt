@@ -1,3 +1,5 @@
+use mathlib.Core.List.{[]}
+use Rattle.places.proofs.Standings.{spotted-reached}
 -- `stepping::go`: after n turns the run stands at the spot, and what is left of the budget comes to what all of it does.
 use borrow.Author.Needs.{needs}
 use Prim.Native.Nat.{_-_}
@@ -72,7 +74,7 @@ enum-known-calls c =
 
 locate-requires : tie.Need-locate-requires Inv-loop μ-loop
 locate-requires c κs =
-    (c .before .before .before .before .before .before .before .before .before .before .before .before .before .before .before .before .before) .pre .0
+    ((c .before .before .before .before .before .before .before .before .before .before .before .before .before .before .before .before .before) .pre .0, spotted-reached ((c .before .before .before .before .before .before .before .before .before .before .before .before .before .before .before .loop) .inv .ready .stands [] .1))
 
 add-n-2 : tie.Need-add-n-2 Inv-loop μ-loop
 add-n-2 c =

@@ -1,3 +1,4 @@
+use Rattle.places.proofs.Standings.{nowhere-reached}
 -- `stepping::resume`: the index is the image's, the arrays have their lengths, and the run stands at the spot; `go` does the rest.
 use native.Mathlib.Omega.{arith}
 use Rattle.stepping.proofs.Running.{ready, resumes}
@@ -19,17 +20,21 @@ of-requires : tie.Need-of-requires
 of-requires c κs =
     search needs
 
+nowhere-requires : tie.Need-nowhere-requires
+nowhere-requires c κs =
+    search needs
+
 locate-requires : tie.Need-locate-requires
 locate-requires c κs =
-    search needs
+    ((c .before .before .before .before .of) .ensures, nowhere-reached _ _ _ ((c .before .before .before .nowhere) .ensures))
 
 go-requires : tie.Need-go-requires
 go-requires c κs =
-    ((c .before .before .before .before .before .before .before .before .before .before .before .before .before .of) .ensures, ready _ _ _ _ _ _ _ _ _ _ _ _ ((c .before .before .before .before .before .before .before .before .before .locate) .ensures) (omega (arith, (c .before .before .before .before .before .before .before .before .before .before .before .before .before .before .before .before .before .before .before .before .before .before .before .before) .fits .calls)) (omega (arith, (c .before .before .before .before .before .before .before .before .before .before .before .before .before .before .before .before .before .before .before .before .before .before .before .before) .fits .depth)) ((c .before .before .before .before .before .before .before .before .before .before .before .before .before .before .measure) .ensures))
+    ((c .before .before .before .before .before .before .before .before .before .before .before .before .before .before .of) .ensures, ready _ _ _ _ _ _ _ _ _ _ _ _ ((c .before .before .before .before .before .before .before .before .before .locate) .ensures) (omega (arith, (c .before .before .before .before .before .before .before .before .before .before .before .before .before .before .before .before .before .before .before .before .before .before .before .before .before) .fits .calls)) (omega (arith, (c .before .before .before .before .before .before .before .before .before .before .before .before .before .before .before .before .before .before .before .before .before .before .before .before .before) .fits .depth)) ((c .before .before .before .before .before .before .before .before .before .before .before .before .before .before .before .measure) .ensures))
 
 returns : tie.Need-returns
 returns c =
     resumes _ _ _ _ _ _ _ _ _ _ _ _ ((c .before .before .before .before .before .before .before .before .before .before .locate) .ensures) _ _ _ ((c .go) .ensures)
 
 pub resume-spec : {M : Type 1} → statement M
-resume-spec = tie.close (tie.spec measure-requires of-requires locate-requires go-requires returns)
+resume-spec = tie.close (tie.spec measure-requires of-requires nowhere-requires locate-requires go-requires returns)

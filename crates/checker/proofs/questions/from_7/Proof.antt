@@ -17,12 +17,12 @@ returns c = sym (ask-no 7 _ (sym ((c .before .before .before .question-7) .ensur
 enum-told : tie.Need-enum-told
 enum-told c = search needs
 
-from-8-requires : tie.Need-from-8-requires
-from-8-requires c κs = search needs
+from-14-requires : tie.Need-from-14-requires
+from-14-requires c κs = search needs
 
 returns-2 : tie.Need-returns-2
 returns-2 c =
-    (c .from-8) .ensures ∙ sym (ask-yes 7 _ (sym ((c .before .before .before .question-7) .ensures) ∙ (c .before .enum-told) .given .1))
+    (c .from-14) .ensures ∙ sym (ask-yes 7 _ (sym ((c .before .before .before .question-7) .ensures) ∙ (c .before .enum-told) .given .1))
 
 pub from-7-spec : {M : Type 1} → statement M
-from-7-spec = tie.close (tie.spec question-7-requires enum-known-p returns enum-told from-8-requires returns-2)
+from-7-spec = tie.close (tie.spec question-7-requires enum-known-p returns enum-told from-14-requires returns-2)

@@ -162,10 +162,18 @@ unfolding every actionOf touch instrAt instrOf choose
 returns-18 c =
     (c .dispatching) .ensures ∙ simp (sym ((c .before .before .kind-at) .ensures) ∙ (c .before .match) .keys18)
 
+skipping-requires : tie.Need-skipping-requires
+skipping-requires c κs = search needs
+
 returns-19 : tie.Need-returns-19
 unfolding every actionOf touch instrAt instrOf choose
 returns-19 c =
-    (c .plain13) .ensures ∙ simp (← (c .before .before .kind-at) .ensures, ne-eqb _ _ ((c .before .match) .rest .0 .0 .0 .0 .0 .0 .0 .0 .0 .0 .0 .0 .0 .0 .0 .0 .0 .1), ne-eqb _ _ ((c .before .match) .rest .0 .0 .0 .0 .0 .0 .0 .0 .0 .0 .0 .0 .0 .0 .0 .0 .1), ne-eqb _ _ ((c .before .match) .rest .0 .0 .0 .0 .0 .0 .0 .0 .0 .0 .0 .0 .0 .0 .0 .1), ne-eqb _ _ ((c .before .match) .rest .0 .0 .0 .0 .0 .0 .0 .0 .0 .0 .0 .0 .0 .0 .1), ne-eqb _ _ ((c .before .match) .rest .0 .0 .0 .0 .0 .0 .0 .0 .0 .0 .0 .0 .0 .1), ne-eqb _ _ ((c .before .match) .rest .0 .0 .0 .0 .0 .0 .0 .0 .0 .0 .0 .0 .1), ne-eqb _ _ ((c .before .match) .rest .0 .0 .0 .0 .0 .0 .0 .0 .0 .0 .0 .1), ne-eqb _ _ ((c .before .match) .rest .0 .0 .0 .0 .0 .0 .0 .0 .0 .0 .1), ne-eqb _ _ ((c .before .match) .rest .0 .0 .0 .0 .0 .0 .0 .0 .0 .1), ne-eqb _ _ ((c .before .match) .rest .0 .0 .0 .0 .0 .0 .0 .0 .1), ne-eqb _ _ ((c .before .match) .rest .0 .0 .0 .0 .0 .0 .0 .1), ne-eqb _ _ ((c .before .match) .rest .0 .0 .0 .0 .0 .0 .1), ne-eqb _ _ ((c .before .match) .rest .0 .0 .0 .0 .0 .1), ne-eqb _ _ ((c .before .match) .rest .0 .0 .0 .0 .1), ne-eqb _ _ ((c .before .match) .rest .0 .0 .0 .1), ne-eqb _ _ ((c .before .match) .rest .0 .0 .1), ne-eqb _ _ ((c .before .match) .rest .0 .1), ne-eqb _ _ ((c .before .match) .rest .1))
+    (c .skipping) .ensures ∙ simp (sym ((c .before .before .kind-at) .ensures) ∙ (c .before .match) .keys19)
+
+returns-20 : tie.Need-returns-20
+unfolding every actionOf touch instrAt instrOf choose
+returns-20 c =
+    (c .plain13) .ensures ∙ simp (← (c .before .before .kind-at) .ensures, ne-eqb _ _ ((c .before .match) .rest .0 .0 .0 .0 .0 .0 .0 .0 .0 .0 .0 .0 .0 .0 .0 .0 .0 .0 .1), ne-eqb _ _ ((c .before .match) .rest .0 .0 .0 .0 .0 .0 .0 .0 .0 .0 .0 .0 .0 .0 .0 .0 .0 .1), ne-eqb _ _ ((c .before .match) .rest .0 .0 .0 .0 .0 .0 .0 .0 .0 .0 .0 .0 .0 .0 .0 .0 .1), ne-eqb _ _ ((c .before .match) .rest .0 .0 .0 .0 .0 .0 .0 .0 .0 .0 .0 .0 .0 .0 .0 .1), ne-eqb _ _ ((c .before .match) .rest .0 .0 .0 .0 .0 .0 .0 .0 .0 .0 .0 .0 .0 .0 .1), ne-eqb _ _ ((c .before .match) .rest .0 .0 .0 .0 .0 .0 .0 .0 .0 .0 .0 .0 .0 .1), ne-eqb _ _ ((c .before .match) .rest .0 .0 .0 .0 .0 .0 .0 .0 .0 .0 .0 .0 .1), ne-eqb _ _ ((c .before .match) .rest .0 .0 .0 .0 .0 .0 .0 .0 .0 .0 .0 .1), ne-eqb _ _ ((c .before .match) .rest .0 .0 .0 .0 .0 .0 .0 .0 .0 .0 .1), ne-eqb _ _ ((c .before .match) .rest .0 .0 .0 .0 .0 .0 .0 .0 .0 .1), ne-eqb _ _ ((c .before .match) .rest .0 .0 .0 .0 .0 .0 .0 .0 .1), ne-eqb _ _ ((c .before .match) .rest .0 .0 .0 .0 .0 .0 .0 .1), ne-eqb _ _ ((c .before .match) .rest .0 .0 .0 .0 .0 .0 .1), ne-eqb _ _ ((c .before .match) .rest .0 .0 .0 .0 .0 .1), ne-eqb _ _ ((c .before .match) .rest .0 .0 .0 .0 .1), ne-eqb _ _ ((c .before .match) .rest .0 .0 .0 .1), ne-eqb _ _ ((c .before .match) .rest .0 .0 .1), ne-eqb _ _ ((c .before .match) .rest .0 .1), ne-eqb _ _ ((c .before .match) .rest .1))
 
 pub instruction-spec : {M : Type 1} → statement M
 instruction-spec =
@@ -191,6 +199,7 @@ instruction-spec =
     reads-only-requires-2
     calling-requires
     dispatching-requires
+    skipping-requires
     plain-requires-13
     returns
     returns-2
@@ -210,4 +219,5 @@ instruction-spec =
     returns-16
     returns-17
     returns-18
-    returns-19)
+    returns-19
+    returns-20)

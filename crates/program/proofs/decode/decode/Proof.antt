@@ -170,6 +170,12 @@ small-requires-49 c κs = search needs
 small-requires-50 : tie.Need-small-requires-50
 small-requires-50 c κs = search needs
 
+small-requires-51 : tie.Need-small-requires-51
+small-requires-51 c κs = search needs
+
+small-requires-52 : tie.Need-small-requires-52
+small-requires-52 c κs = search needs
+
 literal-requires : tie.Need-literal-requires
 literal-requires c κs = search needs
 
@@ -266,8 +272,13 @@ returns-18 c =
 returns-19 : tie.Need-returns-19
 unfolding instrAt instrOf shapeOf choose
 returns-19 c =
+    simp (sym ((c .before .before .before .kind-at) .ensures) ∙ (c .before .before .match) .keys19, (c .small51) .ensures, (c .before .small50) .ensures)
+
+returns-20 : tie.Need-returns-20
+unfolding instrAt instrOf shapeOf choose
+returns-20 c =
     let f : SFits w32 ((c .literal) .result) = search needs in
-    ap₂ (λ (d : ℕ) (i : ℤ). Instruction.Lit d i) ((c .before .small50) .ensures) (toZ-ofZ f ∙ (c .literal) .ensures) ∙ simp (← (c .before .before .before .kind-at) .ensures, ne-eqb _ _ ((c .before .before .match) .rest .0 .0 .0 .0 .0 .0 .0 .0 .0 .0 .0 .0 .0 .0 .0 .0 .0 .1), ne-eqb _ _ ((c .before .before .match) .rest .0 .0 .0 .0 .0 .0 .0 .0 .0 .0 .0 .0 .0 .0 .0 .0 .1), ne-eqb _ _ ((c .before .before .match) .rest .0 .0 .0 .0 .0 .0 .0 .0 .0 .0 .0 .0 .0 .0 .0 .1), ne-eqb _ _ ((c .before .before .match) .rest .0 .0 .0 .0 .0 .0 .0 .0 .0 .0 .0 .0 .0 .0 .1), ne-eqb _ _ ((c .before .before .match) .rest .0 .0 .0 .0 .0 .0 .0 .0 .0 .0 .0 .0 .0 .1), ne-eqb _ _ ((c .before .before .match) .rest .0 .0 .0 .0 .0 .0 .0 .0 .0 .0 .0 .0 .1), ne-eqb _ _ ((c .before .before .match) .rest .0 .0 .0 .0 .0 .0 .0 .0 .0 .0 .0 .1), ne-eqb _ _ ((c .before .before .match) .rest .0 .0 .0 .0 .0 .0 .0 .0 .0 .0 .1), ne-eqb _ _ ((c .before .before .match) .rest .0 .0 .0 .0 .0 .0 .0 .0 .0 .1), ne-eqb _ _ ((c .before .before .match) .rest .0 .0 .0 .0 .0 .0 .0 .0 .1), ne-eqb _ _ ((c .before .before .match) .rest .0 .0 .0 .0 .0 .0 .0 .1), ne-eqb _ _ ((c .before .before .match) .rest .0 .0 .0 .0 .0 .0 .1), ne-eqb _ _ ((c .before .before .match) .rest .0 .0 .0 .0 .0 .1), ne-eqb _ _ ((c .before .before .match) .rest .0 .0 .0 .0 .1), ne-eqb _ _ ((c .before .before .match) .rest .0 .0 .0 .1), ne-eqb _ _ ((c .before .before .match) .rest .0 .0 .1), ne-eqb _ _ ((c .before .before .match) .rest .0 .1), ne-eqb _ _ ((c .before .before .match) .rest .1))
+    ap₂ (λ (d : ℕ) (i : ℤ). Instruction.Lit d i) ((c .before .small52) .ensures) (toZ-ofZ f ∙ (c .literal) .ensures) ∙ simp (← (c .before .before .before .kind-at) .ensures, ne-eqb _ _ ((c .before .before .match) .rest .0 .0 .0 .0 .0 .0 .0 .0 .0 .0 .0 .0 .0 .0 .0 .0 .0 .0 .1), ne-eqb _ _ ((c .before .before .match) .rest .0 .0 .0 .0 .0 .0 .0 .0 .0 .0 .0 .0 .0 .0 .0 .0 .0 .1), ne-eqb _ _ ((c .before .before .match) .rest .0 .0 .0 .0 .0 .0 .0 .0 .0 .0 .0 .0 .0 .0 .0 .0 .1), ne-eqb _ _ ((c .before .before .match) .rest .0 .0 .0 .0 .0 .0 .0 .0 .0 .0 .0 .0 .0 .0 .0 .1), ne-eqb _ _ ((c .before .before .match) .rest .0 .0 .0 .0 .0 .0 .0 .0 .0 .0 .0 .0 .0 .0 .1), ne-eqb _ _ ((c .before .before .match) .rest .0 .0 .0 .0 .0 .0 .0 .0 .0 .0 .0 .0 .0 .1), ne-eqb _ _ ((c .before .before .match) .rest .0 .0 .0 .0 .0 .0 .0 .0 .0 .0 .0 .0 .1), ne-eqb _ _ ((c .before .before .match) .rest .0 .0 .0 .0 .0 .0 .0 .0 .0 .0 .0 .1), ne-eqb _ _ ((c .before .before .match) .rest .0 .0 .0 .0 .0 .0 .0 .0 .0 .0 .1), ne-eqb _ _ ((c .before .before .match) .rest .0 .0 .0 .0 .0 .0 .0 .0 .0 .1), ne-eqb _ _ ((c .before .before .match) .rest .0 .0 .0 .0 .0 .0 .0 .0 .1), ne-eqb _ _ ((c .before .before .match) .rest .0 .0 .0 .0 .0 .0 .0 .1), ne-eqb _ _ ((c .before .before .match) .rest .0 .0 .0 .0 .0 .0 .1), ne-eqb _ _ ((c .before .before .match) .rest .0 .0 .0 .0 .0 .1), ne-eqb _ _ ((c .before .before .match) .rest .0 .0 .0 .0 .1), ne-eqb _ _ ((c .before .before .match) .rest .0 .0 .0 .1), ne-eqb _ _ ((c .before .before .match) .rest .0 .0 .1), ne-eqb _ _ ((c .before .before .match) .rest .0 .1), ne-eqb _ _ ((c .before .before .match) .rest .1))
 
 pub decode-spec : {M : Type 1} → statement M
 decode-spec =
@@ -324,6 +335,8 @@ decode-spec =
     small-requires-48
     small-requires-49
     small-requires-50
+    small-requires-51
+    small-requires-52
     literal-requires
     returns
     returns-2
@@ -343,4 +356,5 @@ decode-spec =
     returns-16
     returns-17
     returns-18
-    returns-19)
+    returns-19
+    returns-20)

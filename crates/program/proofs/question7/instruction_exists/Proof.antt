@@ -76,6 +76,9 @@ dispatch-exists-requires c κs = search needs
 all-exist-requires-10 : tie.Need-all-exist-requires-10
 all-exist-requires-10 c κs = search needs
 
+all-exist-requires-11 : tie.Need-all-exist-requires-11
+all-exist-requires-11 c κs = search needs
+
 returns : tie.Need-returns
 unfolding exists instrAt instrOf choose all every
 returns c =
@@ -169,7 +172,12 @@ returns-18 c =
 returns-19 : tie.Need-returns-19
 unfolding exists instrAt instrOf choose all every
 returns-19 c =
-    (c .all-exist10) .ensures ∙ all-same {n = 1} (bodyAt (now ((c .before .before .before .before .before) .args .image)) ((c .before .before .before .before .before) .args .p)) 0 1 ((c .before .before .before .registers) .ensures .0) refl ∙ simp (← (c .before .before .kind-at) .ensures, ne-eqb _ _ ((c .before .match) .rest .0 .0 .0 .0 .0 .0 .0 .0 .0 .0 .0 .0 .0 .0 .0 .0 .0 .1), ne-eqb _ _ ((c .before .match) .rest .0 .0 .0 .0 .0 .0 .0 .0 .0 .0 .0 .0 .0 .0 .0 .0 .1), ne-eqb _ _ ((c .before .match) .rest .0 .0 .0 .0 .0 .0 .0 .0 .0 .0 .0 .0 .0 .0 .0 .1), ne-eqb _ _ ((c .before .match) .rest .0 .0 .0 .0 .0 .0 .0 .0 .0 .0 .0 .0 .0 .0 .1), ne-eqb _ _ ((c .before .match) .rest .0 .0 .0 .0 .0 .0 .0 .0 .0 .0 .0 .0 .0 .1), ne-eqb _ _ ((c .before .match) .rest .0 .0 .0 .0 .0 .0 .0 .0 .0 .0 .0 .0 .1), ne-eqb _ _ ((c .before .match) .rest .0 .0 .0 .0 .0 .0 .0 .0 .0 .0 .0 .1), ne-eqb _ _ ((c .before .match) .rest .0 .0 .0 .0 .0 .0 .0 .0 .0 .0 .1), ne-eqb _ _ ((c .before .match) .rest .0 .0 .0 .0 .0 .0 .0 .0 .0 .1), ne-eqb _ _ ((c .before .match) .rest .0 .0 .0 .0 .0 .0 .0 .0 .1), ne-eqb _ _ ((c .before .match) .rest .0 .0 .0 .0 .0 .0 .0 .1), ne-eqb _ _ ((c .before .match) .rest .0 .0 .0 .0 .0 .0 .1), ne-eqb _ _ ((c .before .match) .rest .0 .0 .0 .0 .0 .1), ne-eqb _ _ ((c .before .match) .rest .0 .0 .0 .0 .1), ne-eqb _ _ ((c .before .match) .rest .0 .0 .0 .1), ne-eqb _ _ ((c .before .match) .rest .0 .0 .1), ne-eqb _ _ ((c .before .match) .rest .0 .1), ne-eqb _ _ ((c .before .match) .rest .1), and-true)
+    (c .all-exist10) .ensures ∙ all-same {n = 1} (bodyAt (now ((c .before .before .before .before .before) .args .image)) ((c .before .before .before .before .before) .args .p)) 0 1 ((c .before .before .before .registers) .ensures .0) refl ∙ simp (sym ((c .before .before .kind-at) .ensures) ∙ (c .before .match) .keys19, and-true)
+
+returns-20 : tie.Need-returns-20
+unfolding exists instrAt instrOf choose all every
+returns-20 c =
+    (c .all-exist11) .ensures ∙ all-same {n = 1} (bodyAt (now ((c .before .before .before .before .before) .args .image)) ((c .before .before .before .before .before) .args .p)) 0 1 ((c .before .before .before .registers) .ensures .0) refl ∙ simp (← (c .before .before .kind-at) .ensures, ne-eqb _ _ ((c .before .match) .rest .0 .0 .0 .0 .0 .0 .0 .0 .0 .0 .0 .0 .0 .0 .0 .0 .0 .0 .1), ne-eqb _ _ ((c .before .match) .rest .0 .0 .0 .0 .0 .0 .0 .0 .0 .0 .0 .0 .0 .0 .0 .0 .0 .1), ne-eqb _ _ ((c .before .match) .rest .0 .0 .0 .0 .0 .0 .0 .0 .0 .0 .0 .0 .0 .0 .0 .0 .1), ne-eqb _ _ ((c .before .match) .rest .0 .0 .0 .0 .0 .0 .0 .0 .0 .0 .0 .0 .0 .0 .0 .1), ne-eqb _ _ ((c .before .match) .rest .0 .0 .0 .0 .0 .0 .0 .0 .0 .0 .0 .0 .0 .0 .1), ne-eqb _ _ ((c .before .match) .rest .0 .0 .0 .0 .0 .0 .0 .0 .0 .0 .0 .0 .0 .1), ne-eqb _ _ ((c .before .match) .rest .0 .0 .0 .0 .0 .0 .0 .0 .0 .0 .0 .0 .1), ne-eqb _ _ ((c .before .match) .rest .0 .0 .0 .0 .0 .0 .0 .0 .0 .0 .0 .1), ne-eqb _ _ ((c .before .match) .rest .0 .0 .0 .0 .0 .0 .0 .0 .0 .0 .1), ne-eqb _ _ ((c .before .match) .rest .0 .0 .0 .0 .0 .0 .0 .0 .0 .1), ne-eqb _ _ ((c .before .match) .rest .0 .0 .0 .0 .0 .0 .0 .0 .1), ne-eqb _ _ ((c .before .match) .rest .0 .0 .0 .0 .0 .0 .0 .1), ne-eqb _ _ ((c .before .match) .rest .0 .0 .0 .0 .0 .0 .1), ne-eqb _ _ ((c .before .match) .rest .0 .0 .0 .0 .0 .1), ne-eqb _ _ ((c .before .match) .rest .0 .0 .0 .0 .1), ne-eqb _ _ ((c .before .match) .rest .0 .0 .0 .1), ne-eqb _ _ ((c .before .match) .rest .0 .0 .1), ne-eqb _ _ ((c .before .match) .rest .0 .1), ne-eqb _ _ ((c .before .match) .rest .1), and-true)
 
 pub instruction-exists-spec : {M : Type 1} → statement M
 instruction-exists-spec =
@@ -196,6 +204,7 @@ instruction-exists-spec =
     call-exists-requires
     dispatch-exists-requires
     all-exist-requires-10
+    all-exist-requires-11
     returns
     returns-2
     returns-3
@@ -214,4 +223,5 @@ instruction-exists-spec =
     returns-16
     returns-17
     returns-18
-    returns-19)
+    returns-19
+    returns-20)

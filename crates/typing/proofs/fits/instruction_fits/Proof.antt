@@ -67,6 +67,9 @@ call-fits-requires c κs =
 dispatch-fits-requires : tie.Need-dispatch-fits-requires
 dispatch-fits-requires c κs = search needs
 
+is-integer-requires : tie.Need-is-integer-requires
+is-integer-requires c κs = search needs
+
 takes-plain-requires-2 : tie.Need-takes-plain-requires-2
 takes-plain-requires-2 c κs = search needs
 
@@ -163,7 +166,12 @@ returns-18 c =
 returns-19 : tie.Need-returns-19
 unfolding fits instrAt instrOf choose
 returns-19 c =
-    (c .takes-plain2) .ensures ∙ simp (← (c .before .before .kind-at) .ensures, ne-eqb _ _ ((c .before .match) .rest .0 .0 .0 .0 .0 .0 .0 .0 .0 .0 .0 .0 .0 .0 .0 .0 .0 .1), ne-eqb _ _ ((c .before .match) .rest .0 .0 .0 .0 .0 .0 .0 .0 .0 .0 .0 .0 .0 .0 .0 .0 .1), ne-eqb _ _ ((c .before .match) .rest .0 .0 .0 .0 .0 .0 .0 .0 .0 .0 .0 .0 .0 .0 .0 .1), ne-eqb _ _ ((c .before .match) .rest .0 .0 .0 .0 .0 .0 .0 .0 .0 .0 .0 .0 .0 .0 .1), ne-eqb _ _ ((c .before .match) .rest .0 .0 .0 .0 .0 .0 .0 .0 .0 .0 .0 .0 .0 .1), ne-eqb _ _ ((c .before .match) .rest .0 .0 .0 .0 .0 .0 .0 .0 .0 .0 .0 .0 .1), ne-eqb _ _ ((c .before .match) .rest .0 .0 .0 .0 .0 .0 .0 .0 .0 .0 .0 .1), ne-eqb _ _ ((c .before .match) .rest .0 .0 .0 .0 .0 .0 .0 .0 .0 .0 .1), ne-eqb _ _ ((c .before .match) .rest .0 .0 .0 .0 .0 .0 .0 .0 .0 .1), ne-eqb _ _ ((c .before .match) .rest .0 .0 .0 .0 .0 .0 .0 .0 .1), ne-eqb _ _ ((c .before .match) .rest .0 .0 .0 .0 .0 .0 .0 .1), ne-eqb _ _ ((c .before .match) .rest .0 .0 .0 .0 .0 .0 .1), ne-eqb _ _ ((c .before .match) .rest .0 .0 .0 .0 .0 .1), ne-eqb _ _ ((c .before .match) .rest .0 .0 .0 .0 .1), ne-eqb _ _ ((c .before .match) .rest .0 .0 .0 .1), ne-eqb _ _ ((c .before .match) .rest .0 .0 .1), ne-eqb _ _ ((c .before .match) .rest .0 .1), ne-eqb _ _ ((c .before .match) .rest .1))
+    (c .is-integer) .ensures ∙ simp (sym ((c .before .before .kind-at) .ensures) ∙ (c .before .match) .keys19)
+
+returns-20 : tie.Need-returns-20
+unfolding fits instrAt instrOf choose
+returns-20 c =
+    (c .takes-plain2) .ensures ∙ simp (← (c .before .before .kind-at) .ensures, ne-eqb _ _ ((c .before .match) .rest .0 .0 .0 .0 .0 .0 .0 .0 .0 .0 .0 .0 .0 .0 .0 .0 .0 .0 .1), ne-eqb _ _ ((c .before .match) .rest .0 .0 .0 .0 .0 .0 .0 .0 .0 .0 .0 .0 .0 .0 .0 .0 .0 .1), ne-eqb _ _ ((c .before .match) .rest .0 .0 .0 .0 .0 .0 .0 .0 .0 .0 .0 .0 .0 .0 .0 .0 .1), ne-eqb _ _ ((c .before .match) .rest .0 .0 .0 .0 .0 .0 .0 .0 .0 .0 .0 .0 .0 .0 .0 .1), ne-eqb _ _ ((c .before .match) .rest .0 .0 .0 .0 .0 .0 .0 .0 .0 .0 .0 .0 .0 .0 .1), ne-eqb _ _ ((c .before .match) .rest .0 .0 .0 .0 .0 .0 .0 .0 .0 .0 .0 .0 .0 .1), ne-eqb _ _ ((c .before .match) .rest .0 .0 .0 .0 .0 .0 .0 .0 .0 .0 .0 .0 .1), ne-eqb _ _ ((c .before .match) .rest .0 .0 .0 .0 .0 .0 .0 .0 .0 .0 .0 .1), ne-eqb _ _ ((c .before .match) .rest .0 .0 .0 .0 .0 .0 .0 .0 .0 .0 .1), ne-eqb _ _ ((c .before .match) .rest .0 .0 .0 .0 .0 .0 .0 .0 .0 .1), ne-eqb _ _ ((c .before .match) .rest .0 .0 .0 .0 .0 .0 .0 .0 .1), ne-eqb _ _ ((c .before .match) .rest .0 .0 .0 .0 .0 .0 .0 .1), ne-eqb _ _ ((c .before .match) .rest .0 .0 .0 .0 .0 .0 .1), ne-eqb _ _ ((c .before .match) .rest .0 .0 .0 .0 .0 .1), ne-eqb _ _ ((c .before .match) .rest .0 .0 .0 .0 .1), ne-eqb _ _ ((c .before .match) .rest .0 .0 .0 .1), ne-eqb _ _ ((c .before .match) .rest .0 .0 .1), ne-eqb _ _ ((c .before .match) .rest .0 .1), ne-eqb _ _ ((c .before .match) .rest .1))
 
 pub instruction-fits-spec : {M : Type 1} → statement M
 instruction-fits-spec =
@@ -188,6 +196,7 @@ instruction-fits-spec =
     poke-fits-requires
     call-fits-requires
     dispatch-fits-requires
+    is-integer-requires
     takes-plain-requires-2
     returns
     returns-2
@@ -207,4 +216,5 @@ instruction-fits-spec =
     returns-16
     returns-17
     returns-18
-    returns-19)
+    returns-19
+    returns-20)
