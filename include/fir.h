@@ -34,7 +34,7 @@ extern "C" {
 #define FIR_ITEMS 16          /* items of a vector, and the fewest places of a result buffer */
 #define FIR_PLACES 64         /* places for vectors, and for promises */
 
-/* ---- Refusals: the question that says no ---- */
+/* ---- Refusals: the question that says no, in the order in which they are put ---- */
 
 #define FIR_ACCEPTED 0           /* none does */
 #define FIR_REFUSED_SIZE 1       /* the image has 1 to 32,768 bytes */
@@ -44,6 +44,7 @@ extern "C" {
 #define FIR_REFUSED_NUMBERING 5  /* the first version is 0.0, each next one follows on it */
 #define FIR_REFUSED_TYPE_BYTES 6 /* each type byte is allowed at its place */
 #define FIR_REFUSED_EXISTENCE 7  /* what is named exists, and every block but 0 is named by exactly one PROM */
+#define FIR_REFUSED_SKIPS 14     /* no SKIP goes past the end of its block, or of a skipped part that it stands in */
 #define FIR_REFUSED_TYPES 8      /* types fit */
 #define FIR_REFUSED_EFFECTS 9    /* each block's mark covers its effect */
 #define FIR_REFUSED_FLOW 10      /* flow holds */
@@ -58,7 +59,7 @@ typedef struct fir_verdict {
     uint8_t question;
 } fir_verdict;
 
-/* Whether a run has begun: FIR_ACCEPTED, or the question that refuses it, 1 to 13, and the offset. With FIR_ACCEPTED and 11
+/* Whether a run has begun: FIR_ACCEPTED, or the question that refuses it, 1 to 14, and the offset. With FIR_ACCEPTED and 11
  * to 13 the offset is 0. */
 typedef struct fir_entry {
     uint16_t offset;

@@ -92,3 +92,62 @@ pub fn returning(kind: &str) -> String {
            block 0 quiet -> r0"
     )
 }
+
+/// SKIP: 5 and then 6 in r1, the second of which is skipped where r0 is 0.
+pub const SKIPS_ONE: &str = "
+    version 0.0(r0: int) -> int
+      registers r1: int
+      block 0 quiet -> r1
+        r1 = lit 5
+        skip 1 unless r0
+        r1 = lit 6
+";
+
+/// SKIP of no instruction.
+pub const SKIPS_NONE: &str = "
+    version 0.0(r0: int) -> int
+      block 0 quiet -> r0
+        skip 0 unless r0
+";
+
+/// SKIP in a part: r2 is 1, and 2 where r0 is not 0, and 3 where r1 is not 0
+/// either. Both parts end with the block.
+pub const SKIPS_NESTED: &str = "
+    version 0.0(r0: int, r1: int) -> int
+      registers r2: int
+      block 0 quiet -> r2
+        r2 = lit 1
+        skip 3 unless r0
+        r2 = lit 2
+        skip 1 unless r1
+        r2 = lit 3
+";
+
+/// The same with an inner SKIP of so many instructions.
+pub fn skipping_inside(n: u8) -> String {
+    SKIPS_NESTED.replace("skip 1", &format!("skip {n}"))
+}
+
+/// SKIP over the only assignment of the result register, or not the only one.
+pub fn assigned_on_one_way(first: &str) -> String {
+    format!(
+        "version 0.0(r0: int) -> int
+           registers r1: int
+           block 0 quiet -> r1
+             {first}
+             skip 1 unless r0
+             r1 = lit 6"
+    )
+}
+
+/// SKIP over the emptying of r0; this register is read behind it.
+pub fn emptied_on_one_way(read: &str) -> String {
+    format!(
+        "version 0.0(r0: own vector, r1: int, r2: own vector) -> int
+           registers r3: own vector
+           block 0 quiet -> r1
+             skip 1 unless r1
+             r3 = use r0
+             r1 = len {read}"
+    )
+}

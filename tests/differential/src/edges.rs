@@ -30,6 +30,7 @@ pub const EVERY_INSTRUCTION: &str = "
         poke r7.x7 = r4
         r5 = call 0.1(r3, r1)
         r5 = dispatch 0(r3: borrow vector, r5: int) -> int quiet
+        skip 1 unless r5
         r8 = use r3
         r9 = call 1.0(r0)
       block 1 quiet -> r5

@@ -73,6 +73,12 @@ pub fn workloads() -> Vec<Workload> {
             &TREE,
         ),
         Workload::new("generated mix", "reflective", mix(), &[8, 8, 8, 5]),
+        Workload::new(
+            "nested skips",
+            "quiet",
+            image(&skips()),
+            &[8, 8, 8, 8, 8, 3],
+        ),
     ]
 }
 
@@ -269,5 +275,35 @@ fn peek_and_poke() -> String {
              {BOUNDED}
            block 1 quiet -> r0",
         round.repeat(4)
+    )
+}
+
+/// Skips in parts of skips, taken and not, by two numbers that change.
+fn skips() -> String {
+    let round = "
+        r2 = less r0, r1
+        skip 9 unless r2
+        r3 = add r0, r4
+        r2 = less r3, r1
+        skip 5 unless r2
+        r0 = add r0, r4
+        r2 = less r1, r0
+        skip 1 unless r2
+        r1 = sub r1, r4
+        r0 = add r0, r4
+        r1 = add r1, r4
+        skip 2 unless r2
+        r0 = sub r0, r1
+        skip 0 unless r0
+        r0 = sub r0, r4
+    ";
+    format!(
+        "version 0.0(r0: int) -> int
+           registers r1: int, r2: int, r3: int, r4: int
+           block 0 quiet -> r0
+             r1 = lit 7
+             r4 = lit 3
+             {}",
+        round.repeat(3)
     )
 }

@@ -3,13 +3,17 @@
 use cases::{image, IDENTITY};
 use differential::comparison::{assert_report, assert_verdict, assert_written};
 use differential::edges::{edges, identities, EVERY_INSTRUCTION};
-use generator::any;
+use generator::{any, Tally};
 use reference::bounds::VERSIONS;
+use reference::questions::QUESTIONS;
 use reference::{report, report_of, Program, Verdict};
 use std::fmt;
 
 /// How many generated images are compared.
 const IMAGES: u64 = 220_000;
+
+/// The fewest of them that question 14 refuses.
+const FEWEST_14: usize = 5_000;
 
 /// The texts of one in so many refused images are compared, those of accepted ones all.
 const REFUSED_TEXTS: usize = 4;
@@ -17,8 +21,10 @@ const REFUSED_TEXTS: usize = 4;
 /// How often each verdict was met.
 #[derive(Default)]
 struct Met {
-    /// The refusals by number; at 0 the accepted images.
-    verdicts: [usize; 11],
+    /// The accepted images.
+    accepted: usize,
+    /// The refusals by number.
+    refused: Tally<u8>,
     /// The accepted images with exactly 1 version.
     with_one: usize,
     /// The accepted images with exactly 64 versions.
@@ -34,41 +40,45 @@ impl Met {
         let reference = Program::accept(image);
         let verdict = Verdict::of(&reference);
         assert_verdict(image, verdict, origin);
-        let number = self.count(verdict);
-        if number == 0 || self.verdicts[number] % REFUSED_TEXTS == 1 {
+        if self.count(verdict) {
             assert_report(image, &report_of(&reference), origin);
             self.texts += 1;
         }
     }
 
-    /// Counts a verdict; its number.
-    fn count(&mut self, verdict: Verdict) -> usize {
-        let number = match verdict {
+    /// Counts a verdict; is the text of the image to be compared?
+    fn count(&mut self, verdict: Verdict) -> bool {
+        match verdict {
             Verdict::Accepted(versions) => {
+                self.accepted += 1;
                 self.with_one += usize::from(versions == 1);
                 self.with_most += usize::from(versions == VERSIONS);
-                0
+                true
             }
-            Verdict::Refused(refusal) => refusal.number.into(),
-        };
-        self.verdicts[number] += 1;
-        number
+            Verdict::Refused(refusal) => {
+                self.refused.meet(refusal.number);
+                self.refused.count(&refusal.number) % REFUSED_TEXTS == 1
+            }
+        }
     }
 
     /// Was every verdict met, and were the fewest and the most versions?
     fn all(&self) -> bool {
-        self.verdicts.iter().all(|&count| count > 0) && self.with_one > 0 && self.with_most > 0
+        let refused = QUESTIONS
+            .iter()
+            .all(|number| self.refused.count(number) > 0);
+        refused && self.accepted > 0 && self.with_one > 0 && self.with_most > 0
     }
 }
 
 impl fmt::Display for Met {
     fn fmt(&self, formatter: &mut fmt::Formatter) -> fmt::Result {
-        let [accepted, refused @ ..] = &self.verdicts;
-        writeln!(formatter, "{accepted:>8}  accepted")?;
+        writeln!(formatter, "{:>8}  accepted", self.accepted)?;
         writeln!(formatter, "{:>8}  of them with 1 version", self.with_one)?;
         let most = self.with_most;
         writeln!(formatter, "{most:>8}  of them with {VERSIONS} versions")?;
-        for (number, count) in (1..).zip(refused) {
+        for number in QUESTIONS {
+            let count = self.refused.count(&number);
             writeln!(formatter, "{count:>8}  refused by {number}")?;
         }
         writeln!(formatter, "{:>8}  texts compared", self.texts)
@@ -88,6 +98,8 @@ fn verdicts_agree() {
     }
     println!("images at the edges\n{at_edges}");
     assert!(generated.all(), "generated images did not meet all");
+    let past_the_end = generated.refused.count(&14);
+    assert!(past_the_end >= FEWEST_14, "{past_the_end} refused by 14");
     assert!(at_edges.all(), "images at the edges did not meet all");
 }
 

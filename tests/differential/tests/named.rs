@@ -1,8 +1,9 @@
 //! The cases that the paper names, with verdicts and texts worked out by hand.
 
 use cases::{
-    calling_with, emptying_after, image, resulting, returning, CALLS_ITSELF, DIVISION, DUP_AND_SET,
-    IDENTITY, SET_ON_SHARED,
+    assigned_on_one_way, calling_with, emptied_on_one_way, emptying_after, image, resulting,
+    returning, skipping_inside, CALLS_ITSELF, DIVISION, DUP_AND_SET, IDENTITY, SET_ON_SHARED,
+    SKIPS_NONE, SKIPS_ONE,
 };
 use differential::comparison::{assert_report, assert_verdict};
 use differential::edges::{identities, EVERY_INSTRUCTION};
@@ -201,4 +202,48 @@ fn the_65th_version_is_4_at_its_place() {
     let lines: Vec<&str> = lines.iter().map(String::as_str).collect();
     accepts(&identities(64), &lines);
     refuses(&identities(65), 4, 64 * 18);
+}
+
+#[test]
+fn a_skip_reads_its_register_and_the_rest_counts_what_both_ways_assign() {
+    // SKIPS_ONE reads r0 and assigns r1 on both ways, the other reads r0 alone.
+    accepts(&image(SKIPS_ONE), &["0.0 1 1 0 0"]);
+    accepts(&image(SKIPS_NONE), &["0.0 1 0 0 0"]);
+}
+
+#[test]
+fn a_part_may_end_where_the_part_around_it_and_the_block_end() {
+    // Reads r0, r1; assigns r2.
+    for n in [0, 1] {
+        accepts(&image(&skipping_inside(n)), &["0.0 2 1 0 0"]);
+    }
+}
+
+#[test]
+fn a_skip_past_the_part_around_it_is_14_at_the_inner_skip() {
+    // VERSION 13 bytes, BLOCK 7, LIT 9, SKIP 6, LIT 9.
+    refuses(&image(&skipping_inside(2)), 14, 13 + 7 + 9 + 6 + 9);
+    // The outer part is shorter by one, so that the inner one ends behind it.
+    let shorter = skipping_inside(1).replace("skip 3", "skip 2");
+    refuses(&image(&shorter), 14, 13 + 7 + 9 + 6 + 9);
+}
+
+#[test]
+fn a_skip_of_255_instructions_is_14_at_it() {
+    let longest = SKIPS_ONE.replace("skip 1", "skip 255");
+    refuses(&image(&longest), 14, 12 + 7 + 9);
+}
+
+#[test]
+fn a_register_that_one_way_alone_assigns_is_10_where_it_is_read() {
+    refuses(&image(&assigned_on_one_way("")), 10, 0);
+    let image = image(&assigned_on_one_way("r1 = lit 4"));
+    accepts(&image, &["0.0 1 1 0 0"]);
+}
+
+#[test]
+fn a_register_that_one_way_alone_empties_is_10_where_it_is_read() {
+    refuses(&image(&emptied_on_one_way("r0")), 10, 0);
+    // Reads r0, r1, r2; assigns r1, for r3 is assigned on one way; empties r0.
+    accepts(&image(&emptied_on_one_way("r2")), &["0.0 3 1 1 0"]);
 }

@@ -1,7 +1,9 @@
 //! The runs that the paper names, worked out by hand, asked of the proved
 //! engine, the reference and the tuned interpreter.
 
-use cases::{image, CALLS_ITSELF, DIVISION, DUP_AND_SET, IDENTITY};
+use cases::{
+    image, CALLS_ITSELF, DIVISION, DUP_AND_SET, IDENTITY, SKIPS_NESTED, SKIPS_NONE, SKIPS_ONE,
+};
 use differential::engine;
 use differential::tuned::{Code, Machine};
 use reference::bounds::{Steps, BUFFER};
@@ -128,4 +130,34 @@ fn the_end_is_given_again_to_steps_and_budgets() {
     let refused = Answer::Refused(Refusal { number, offset });
     let (_, answer, steps) = engine::budget(&image, &stepped, 1, &mut [0; BUFFER - 1]);
     assert_eq!((answer, steps), (refused, 0));
+}
+
+#[test]
+fn a_skip_that_skips_is_one_step() {
+    let image = image(SKIPS_ONE);
+    gives(&image, &[-1, 0], 9, done(5), 3, &[]);
+    gives(&image, &[-1, 0], 2, Answer::Steps, 2, &[]);
+}
+
+#[test]
+fn a_skip_that_does_not_skip_is_one_step() {
+    let image = image(SKIPS_ONE);
+    gives(&image, &[-1, 1], 9, done(6), 4, &[]);
+    gives(&image, &[-1, -1], 9, done(6), 4, &[]);
+    gives(&image, &[-1, Integer::MIN], 3, Answer::Steps, 3, &[]);
+}
+
+#[test]
+fn a_skip_of_no_instruction_is_one_step() {
+    gives(&image(SKIPS_NONE), &[-1, 0], 9, done(0), 2, &[]);
+    gives(&image(SKIPS_NONE), &[-1, 7], 9, done(7), 2, &[]);
+}
+
+#[test]
+fn nested_skips_pass_over_their_own_parts() {
+    let image = image(SKIPS_NESTED);
+    gives(&image, &[-1, 0, -1, 0], 9, done(1), 3, &[]);
+    gives(&image, &[-1, 0, -1, 1], 9, done(1), 3, &[]);
+    gives(&image, &[-1, 1, -1, 0], 9, done(2), 5, &[]);
+    gives(&image, &[-1, 1, -1, 1], 9, done(3), 6, &[]);
 }

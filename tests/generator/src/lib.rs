@@ -28,6 +28,7 @@ pub use theme::Theme;
 
 use draft::Draft;
 use reference::bounds::BUFFER;
+use reference::questions::QUESTIONS;
 use reference::{Integer, Program, State};
 
 /// What an image was made for.
@@ -62,7 +63,7 @@ pub fn accepted_of(theme: Theme, seed: u64) -> Vec<u8> {
     theme::program(&mut Random::new(seed), theme).bytes()
 }
 
-/// An image that a question of 1 to 10 should refuse.
+/// An image that a question of 1 to 10, or 14, should refuse.
 pub fn damaged_at(question: u8, seed: u64) -> Vec<u8> {
     let mut random = Random::new(seed);
     loop {
@@ -84,9 +85,9 @@ fn victim(random: &mut Random) -> Draft {
     theme::program(random, theme)
 }
 
-/// An image that one of questions 1 to 10 should refuse.
+/// An image that one of the questions put to an image should refuse.
 pub fn damaged(seed: u64) -> Image {
-    let question = 1 + Random::new(seed).below(10) as u8;
+    let question = Random::new(seed).pick(&QUESTIONS);
     Image {
         bytes: damaged_at(question, seed),
         aim: Aim::Refused(question),

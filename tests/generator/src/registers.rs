@@ -34,6 +34,11 @@ impl Registers {
         Registers(self.0 | other.0)
     }
 
+    /// The registers in both sets.
+    pub fn intersection(self, other: Registers) -> Registers {
+        Registers(self.0 & other.0)
+    }
+
     /// The registers in order.
     pub fn iter(self) -> impl Iterator<Item = Register> {
         (0..16).filter(move |&register| self.contains(register))

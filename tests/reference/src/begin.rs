@@ -6,7 +6,7 @@ use crate::questions::Refusal;
 use crate::state::{Frame, State, Value};
 use crate::types::Kind;
 
-/// Begins a run of an image: its ten questions, then 11, 12 and 13.
+/// Begins a run of an image: its own questions, then 11, 12 and 13.
 pub fn begin(
     image: &[u8],
     function: usize,

@@ -2,6 +2,7 @@
 
 use crate::instruction::{Instruction, Register};
 use crate::program::{Program, Version};
+use crate::record::Placed;
 use std::collections::BTreeSet;
 
 /// A set of registers.
@@ -63,6 +64,16 @@ impl Action {
         Some(self)
     }
 
+    /// The two ways of a SKIP joined after its part: R, U and C by union, W by
+    /// what both assign.
+    fn join(mut self, other: &Action) -> Action {
+        self.reads.extend(&other.reads);
+        self.assigns = &self.assigns & &other.assigns;
+        self.empties.extend(&other.empties);
+        self.captures.extend(&other.captures);
+        self
+    }
+
     /// What PROM yields for its block's action: (R, ∅, U, R ∪ W ∪ U ∪ C).
     fn delayed(&self) -> Action {
         Action {
@@ -96,11 +107,31 @@ pub fn body_action(program: &Program, version: &Version) -> Option<Action> {
 /// The action of a block: its instructions in order, then its result register is read.
 fn block_action(program: &Program, version: &Version, number: u8) -> Option<Action> {
     let block = &version.blocks[usize::from(number)];
-    let mut action = Action::default();
-    for placed in &block.instructions {
-        action = action.then(&instruction_action(program, version, &placed.item)?)?;
-    }
+    let start = Action::default();
+    let action = part_action(program, version, &block.instructions, start)?;
     action.then(&Action::reading([block.head.result]))
+}
+
+/// What stands before a part, then its instructions in order. Behind a SKIP the
+/// flow follows both ways: through the part that it may pass over, and past it.
+fn part_action(
+    program: &Program,
+    version: &Version,
+    mut instructions: &[Placed<Instruction>],
+    before: Action,
+) -> Option<Action> {
+    let mut action = before;
+    while let [first, rest @ ..] = instructions {
+        action = action.then(&instruction_action(program, version, &first.item)?)?;
+        instructions = rest;
+        if let Instruction::Skip { n, .. } = first.item {
+            let (part, behind) = rest.split_at_checked(usize::from(n))?;
+            let through = part_action(program, version, part, action.clone())?;
+            action = action.join(&through);
+            instructions = behind;
+        }
+    }
+    Some(action)
 }
 
 /// The action of an instruction: it reads its operands, then empties, then assigns.

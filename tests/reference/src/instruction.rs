@@ -1,4 +1,4 @@
-//! "Image": the nineteen instructions, their bytes, and the registers they name.
+//! "Image": the twenty instructions, their bytes, and the registers they name.
 
 use crate::bounds::Integer;
 use crate::kinds;
@@ -80,6 +80,8 @@ pub enum Instruction {
         returns: Type,
         arguments: Vec<(Type, Register)>,
     },
+    /// 35: when a is 0, the next n instructions of the block are passed over.
+    Skip { a: Register, n: u8 },
 }
 
 impl Instruction {
@@ -111,6 +113,7 @@ impl Instruction {
             (kinds::PEEK, &[d, a, x]) => Self::Peek { d, a, x },
             (kinds::POKE, &[a, x, e]) => Self::Poke { a, x, e },
             (kinds::CALL | kinds::DISPATCH, _) => return Self::read_call(kind, body),
+            (kinds::SKIP, &[a, n]) => Self::Skip { a, n },
             _ => return None,
         };
         Some(instruction)
@@ -166,6 +169,7 @@ impl Instruction {
             Self::Poke { .. } => kinds::POKE,
             Self::Call { .. } => kinds::CALL,
             Self::Dispatch { .. } => kinds::DISPATCH,
+            Self::Skip { .. } => kinds::SKIP,
         }
     }
 
@@ -206,6 +210,7 @@ impl Instruction {
                 body.extend(arguments.iter().flat_map(|&(ty, r)| [ty.0, r]));
                 body
             }
+            Self::Skip { a, n } => vec![a, n],
         }
     }
 
@@ -220,7 +225,8 @@ impl Instruction {
             | Self::Cast { a, .. }
             | Self::Store { a, .. }
             | Self::Force { a, .. }
-            | Self::Peek { a, .. } => vec![a],
+            | Self::Peek { a, .. }
+            | Self::Skip { a, .. } => vec![a],
             Self::Vec { ref items, .. } => items.clone(),
             Self::Get { a, i, .. } => vec![a, i],
             Self::Set { a, i, e } => vec![a, i, e],
@@ -235,7 +241,7 @@ impl Instruction {
     /// The register that takes the instruction's result, which the paper calls d.
     pub fn destination(&self) -> Option<Register> {
         match *self {
-            Self::Set { .. } | Self::Store { .. } | Self::Poke { .. } => None,
+            Self::Set { .. } | Self::Store { .. } | Self::Poke { .. } | Self::Skip { .. } => None,
             Self::Lit { d, .. }
             | Self::Move { d, .. }
             | Self::Use { d, .. }

@@ -42,6 +42,8 @@ pub const POKE: u16 = 32;
 pub const CALL: u16 = 33;
 /// `DISPATCH d function mark return n`, then n pairs of type and register
 pub const DISPATCH: u16 = 34;
+/// `SKIP a n`
+pub const SKIP: u16 = 35;
 
 /// ARITH gives a + b.
 pub const ADD: u8 = 0;

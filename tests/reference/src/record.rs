@@ -84,7 +84,7 @@ pub enum Record {
     Version(VersionRecord),
     /// Kind 2.
     Block(BlockRecord),
-    /// Kinds 16 to 34.
+    /// Kinds 16 to 35.
     Instruction(Instruction),
 }
 

@@ -10,7 +10,7 @@ pub fn report(image: &[u8]) -> String {
     report_of(&Program::accept(image))
 }
 
-/// The lines that `check` prints for what the ten questions said of an image.
+/// The lines that `check` prints for what the questions said of an image.
 pub fn report_of(answer: &Result<Program, Refusal>) -> String {
     match answer {
         Ok(program) => accepted(program),

@@ -16,6 +16,9 @@ pub struct Watched<'p> {
     origin: String,
     /// The steps that were tried while the run went on.
     tried: usize,
+    /// The SKIPs that skipped, and those that did not.
+    skipped: usize,
+    not_skipped: usize,
 }
 
 impl<'p> Watched<'p> {
@@ -29,6 +32,8 @@ impl<'p> Watched<'p> {
             state,
             origin: origin.to_string(),
             tried: 0,
+            skipped: 0,
+            not_skipped: 0,
         }
     }
 
@@ -47,6 +52,16 @@ impl<'p> Watched<'p> {
         self.tried
     }
 
+    /// The SKIPs that were executed and skipped.
+    pub fn skipped(&self) -> usize {
+        self.skipped
+    }
+
+    /// The SKIPs that were executed and did not skip.
+    pub fn not_skipped(&self) -> usize {
+        self.not_skipped
+    }
+
     /// A single step; what it says.
     #[track_caller]
     pub fn step(&mut self) -> Said {
@@ -58,8 +73,22 @@ impl<'p> Watched<'p> {
         if let Said::Ended(end) = said {
             self.assert_kept(&after, end);
         }
+        if said == Said::GoesOn {
+            self.count_skip();
+        }
         self.state = after;
         said
+    }
+
+    /// Counts the instruction that the run stands at if it is a SKIP.
+    fn count_skip(&mut self) {
+        if let Some(&Instruction::Skip { a, .. }) = self.state.instruction(self.program) {
+            let top = self.state.activations.last().expect("a call lives");
+            let held = self.state.frames[top.frame].registers[usize::from(a)];
+            let skips = held == Some(Value::Integer(0));
+            self.skipped += usize::from(skips);
+            self.not_skipped += usize::from(!skips);
+        }
     }
 
     /// A budget; its answer and the steps taken under it. The same steps are

@@ -58,11 +58,12 @@ exit status:
 const CHECK: &str = "\
 usage: fir check FILE
 
-Puts the ten questions to an image. For an accepted one it prints, per version,
-`f.v R W U C`: how many registers its body reads before it assigns them, assigns,
-empties and captures; then `accepted` and the number of versions. For a refused
-one it prints a line: the question that says no, the offset of the first record
-that fails, the line of the text if FILE is one, and why.
+Puts the questions 1 to 7, 14 and 8 to 10 to an image. For an accepted one it
+prints, per version, `f.v R W U C`: how many registers its body reads before it
+assigns them, assigns, empties and captures; then `accepted` and the number of
+versions. For a refused one it prints a line: the question that says no, the
+offset of the first record that fails, the line of the text if FILE is one, and
+why.
 
 FILE holds the text form where its name ends in .fir, and an image's bytes
 otherwise; `-` is standard input, an image's bytes.
@@ -116,6 +117,7 @@ end of the block, and what changed:
   r1 stays 5        nothing changed, and the register takes what it held
   opens call 1 of 2.0, ends call 1 with 5
   forces p0 in block 1 of call 0, ends the force of p0 with 5
+  skips 3, does not skip
 Then it prints the result as `fir run` does.
 
 FILE holds the text form where its name ends in .fir, and an image's bytes

@@ -93,13 +93,20 @@ fn gives(script: &str, arguments: &[&str], expected: i32) {
 
 #[test]
 fn defrost_follows_its_thresholds() {
-    gives("defrost.fir", &["69", "-20", "41"], 1);
-    gives("defrost.fir", &["70", "-20", "41"], 0);
-    gives("defrost.fir", &["60", "-20", "41"], 0);
-    gives("defrost.fir", &["61", "-20", "41"], 1);
-    gives("defrost.fir", &["61", "-20", "40"], 0);
-    gives("defrost.fir", &["60", "0", "181"], 1);
-    gives("defrost.fir", &["60", "0", "180"], 0);
+    // Below two degrees and not at it, by a frosted coil and by the hours alone.
+    gives("defrost.fir", &["19", "-70", "41"], 1);
+    gives("defrost.fir", &["20", "-70", "41"], 0);
+    gives("defrost.fir", &["19", "0", "181"], 1);
+    gives("defrost.fir", &["20", "0", "181"], 0);
+    gives("defrost.fir", &["110", "-75", "240"], 0);
+    // A coil more than 8.0 degrees colder, more than 40 minutes after the last one.
+    gives("defrost.fir", &["10", "-70", "41"], 0);
+    gives("defrost.fir", &["11", "-70", "41"], 1);
+    gives("defrost.fir", &["-50", "-131", "41"], 1);
+    gives("defrost.fir", &["11", "-70", "40"], 0);
+    // More than 180 minutes.
+    gives("defrost.fir", &["10", "0", "181"], 1);
+    gives("defrost.fir", &["10", "0", "180"], 0);
 }
 
 #[test]

@@ -4,6 +4,7 @@ mod support;
 
 use generator::{accepted, any, damaged_at, mutated, Random};
 use library::Verdict;
+use reference::questions::QUESTIONS;
 use std::collections::BTreeMap;
 use support::{file, fir};
 
@@ -13,8 +14,8 @@ const IMAGES: u64 = 2_000;
 /// How many damaged images are made for each question.
 const DAMAGED: u64 = 400;
 
-/// The general words, which stand for a diagnosis that was not found.
-const GENERAL: [&str; 10] = [
+/// The general words, by the order of the questions, which stand for a diagnosis that was not found.
+const GENERAL: [&str; 11] = [
     "an image has 1 to 32,768 bytes",
     "a record has a full head and a length of at least 4, and ends inside the image",
     "a record's kind is known, and its length is the one that its fields make",
@@ -22,6 +23,7 @@ const GENERAL: [&str; 10] = [
     "the first version is 0.0, and each next one follows on it",
     "a type byte is allowed at its place",
     "what is named exists, and every block but 0 is named by exactly one PROM",
+    "no SKIP goes past the end of its block, or of a part that it stands in",
     "types fit",
     "a block's mark covers its effect",
     "no register is read before it is assigned, used after it is emptied, or emptied after it is captured",
@@ -48,7 +50,9 @@ fn checked(image: &[u8], origin: &str) -> Option<u8> {
             let words = words.unwrap_or_else(|| panic!("{origin}: {text}"));
             let words = words.strip_suffix('\n').expect("a whole line");
             assert!(!words.contains('\n'), "{origin}: {words}");
-            let general = GENERAL[usize::from(no.question) - 1];
+            let mut questions = QUESTIONS.iter();
+            let place = questions.position(|&number| number == no.question);
+            let general = GENERAL[place.expect("a question put to an image")];
             assert_ne!(
                 words,
                 general,
@@ -67,7 +71,7 @@ fn refusals_begin_with_the_proved_number_and_place_and_have_words() {
         *met.entry(checked(image, origin)).or_insert(0) += 1;
     };
     for seed in 0..DAMAGED {
-        for question in 1..=10 {
+        for question in QUESTIONS {
             let image = damaged_at(question, seed);
             meet(&image, &format!("damaged at {question}, seed {seed}"));
         }
@@ -77,7 +81,7 @@ fn refusals_begin_with_the_proved_number_and_place_and_have_words() {
         meet(&any(seed), &format!("any, seed {seed}"));
     }
     println!("{met:?}");
-    for question in 1..=10 {
+    for question in QUESTIONS {
         assert!(met.contains_key(&Some(question)), "never met: {question}");
     }
     assert!(met.contains_key(&None), "no image was accepted");

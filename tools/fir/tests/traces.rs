@@ -139,6 +139,38 @@ fn dispatch_shows_the_version_that_it_picked() {
 }
 
 #[test]
+fn a_skip_shows_whether_it_skips() {
+    let text = "version 0.0(r0: int) -> int
+                  block 0 quiet -> r0
+                    skip 0 unless r0
+                    skip 2 unless r0
+                    r0 = lit 0
+                    skip 0 unless r0";
+    traces(
+        text,
+        &["7"],
+        &[
+            "1 1 0.0 block 0 skip 0 unless r0 does not skip",
+            "2 1 0.0 block 0 skip 2 unless r0 does not skip",
+            "3 1 0.0 block 0 r0 = lit 0 r0 = 0",
+            "4 1 0.0 block 0 skip 0 unless r0 skips 0",
+            "5 1 0.0 block 0 end -> r0 ends call 0 with 0",
+            "DONE 0 after 5 steps",
+        ],
+    );
+    traces(
+        text,
+        &["0"],
+        &[
+            "1 1 0.0 block 0 skip 0 unless r0 skips 0",
+            "2 1 0.0 block 0 skip 2 unless r0 skips 2",
+            "3 1 0.0 block 0 end -> r0 ends call 0 with 0",
+            "DONE 0 after 3 steps",
+        ],
+    );
+}
+
+#[test]
 fn a_stop_and_a_used_up_budget_end_the_trace() {
     let text = "version 0.0(r0: int) -> int\nblock 0 quiet -> r0\nr0 = call 0.0(r0)";
     let done = fir(&["trace", "-", "0.0", "1"], &image(text));

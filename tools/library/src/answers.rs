@@ -10,13 +10,13 @@ use crate::raw::{FirAnswer, FirEntry, FirSaid, FirValue, FirVerdict};
 /// A no: the question, and the offset of the first record that fails.
 #[derive(Clone, Copy, PartialEq, Eq, Debug)]
 pub struct Refusal {
-    /// The question, 1 to 13.
+    /// The question, 1 to 14.
     pub question: u8,
     /// The offset of the record; the image's length where records are missing.
     pub offset: usize,
 }
 
-/// What the ten questions say of an image.
+/// What the questions put to an image say of it.
 #[derive(Clone, Copy, PartialEq, Eq, Debug)]
 pub enum Verdict {
     /// Yes to all.

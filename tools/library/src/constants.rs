@@ -33,6 +33,8 @@ pub const FIR_REFUSED_NUMBERING: u8 = 5;
 pub const FIR_REFUSED_TYPE_BYTES: u8 = 6;
 /// What is named exists, and every block but 0 is named by exactly one PROM.
 pub const FIR_REFUSED_EXISTENCE: u8 = 7;
+/// No SKIP goes past the end of its block, or of a skipped part that it stands in.
+pub const FIR_REFUSED_SKIPS: u8 = 14;
 /// Types fit.
 pub const FIR_REFUSED_TYPES: u8 = 8;
 /// Each block's mark covers its effect.

@@ -46,6 +46,7 @@ fn bounds_and_questions() -> Vec<(&'static str, usize)> {
         FIR_REFUSED_NUMBERING,
         FIR_REFUSED_TYPE_BYTES,
         FIR_REFUSED_EXISTENCE,
+        FIR_REFUSED_SKIPS,
         FIR_REFUSED_TYPES,
         FIR_REFUSED_EFFECTS,
         FIR_REFUSED_FLOW,

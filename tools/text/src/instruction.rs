@@ -42,6 +42,7 @@ pub fn print(instruction: &Instruction) -> String {
             let typed = typed(arguments.iter().map(|&(ty, r)| (r, ty)));
             format!("r{d} = dispatch {function}({typed}) -> {returns} {mark}")
         }
+        I::Skip { a, n } => format!("skip {n} unless r{a}"),
     }
 }
 
@@ -101,7 +102,7 @@ fn parse_with_destination(line: &mut Cursor, d: Register) -> Result<Instruction,
     }
 }
 
-/// SET, STORE and POKE.
+/// SET, STORE, POKE and SKIP.
 fn parse_without_destination(line: &mut Cursor) -> Result<Instruction, Reason> {
     let unknown = line.expected("version, registers, block, bytes or an instruction");
     match line.word() {
@@ -117,6 +118,7 @@ fn parse_without_destination(line: &mut Cursor) -> Result<Instruction, Reason> {
             let ((a, x), e) = parse_assignment(line, parse_variable)?;
             Ok(Instruction::Poke { a, x, e })
         }
+        "skip" => parse_skip(line),
         _ => Err(unknown),
     }
 }
@@ -199,4 +201,14 @@ fn parse_dispatch(line: &mut Cursor, d: Register) -> Result<Instruction, Reason>
         returns,
         arguments: typed.into_iter().map(|(r, ty)| (ty, r)).collect(),
     })
+}
+
+/// A SKIP after its word.
+fn parse_skip(line: &mut Cursor) -> Result<Instruction, Reason> {
+    let n = line.number()?;
+    if !line.take_word("unless") {
+        return Err(line.expected("`unless`"));
+    }
+    let a = line.register()?;
+    Ok(Instruction::Skip { a, n })
 }

@@ -27,7 +27,7 @@
 //! `version` line declares the others. Blocks are numbered from 0 on in each
 //! version. The register after a block's `->` is its result register.
 //!
-//! The nineteen instructions, by kind number:
+//! The twenty instructions, by kind number:
 //!
 //! ```text
 //! r0 = lit -7                                   # 16 LIT
@@ -49,6 +49,7 @@
 //! poke r1.x5 = r0                               # 32 POKE
 //! r0 = call 3.1(r1, r2)                         # 33 CALL, of version 3.1
 //! r0 = dispatch 3(r1: int, r2: own vector) -> value quiet  # 34 DISPATCH
+//! skip 3 unless r0                              # 35 SKIP, of the next 3
 //! ```
 //!
 //! # Grammar

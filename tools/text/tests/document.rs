@@ -30,7 +30,7 @@ fn first_column(section: &str) -> Vec<String> {
 #[test]
 fn scripts_are_accepted() {
     let scripts = fenced("fir");
-    assert_eq!(scripts.len(), 3, "scripts of the document");
+    assert_eq!(scripts.len(), 4, "scripts of the document");
     for script in scripts {
         let verdict = verdict(&image(&script));
         assert!(
@@ -52,10 +52,7 @@ fn each_instruction_has_an_example_under_its_name() {
         assert!(named, "{example} is of kind {kind}");
         met.insert(kind);
     }
-    assert!(
-        met.iter().copied().eq(kinds::LIT..=kinds::DISPATCH),
-        "{met:?}"
-    );
+    assert!(met.iter().copied().eq(kinds::LIT..=kinds::SKIP), "{met:?}");
 }
 
 #[test]

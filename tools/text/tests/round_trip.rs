@@ -47,6 +47,8 @@ fn one_example_of_each_instruction() {
         "r0 = dispatch 3(r1: int, r2: own vector) -> value quiet",
         &[13, 0, 34, 0, 0, 3, 0, 1, 2, 2, 1, 0x13, 2],
     );
+    line("skip 3 unless r1", &[6, 0, 35, 0, 1, 3]);
+    line("skip 255 unless r0", &[6, 0, 35, 0, 0, 255]);
 }
 
 #[test]
@@ -145,11 +147,11 @@ fn documented_program_is_accepted_and_does_what_it_says() {
 }
 
 #[test]
-fn documented_instructions_are_the_nineteen_by_kind_number() {
+fn documented_instructions_are_the_twenty_by_kind_number() {
     let image = assemble(&documented()[1]).expect("instructions");
     let records = reference::questions::records(&image).expect("records");
     let kinds: Vec<u16> = records.iter().map(|placed| placed.item.kind()).collect();
-    assert_eq!(kinds, (16..35).collect::<Vec<u16>>());
+    assert_eq!(kinds, (16..36).collect::<Vec<u16>>());
 }
 
 #[test]
@@ -277,6 +279,11 @@ fn wrong_lines_are_named_with_their_reason() {
         "store r0 = r1",
         "line 1: expected a name such as x0, found `r0`",
     );
+    wrong(
+        "skip 256 unless r0",
+        "line 1: expected a number of 0 to 255, found `256`",
+    );
+    wrong("skip 3 if r0", "line 1: expected `unless`, found `if`");
     wrong(
         "jump r0",
         "line 1: expected version, registers, block, bytes or an instruction, found `jump`",

@@ -120,6 +120,10 @@ pub enum Op {
         first: u16,
         last: u16,
     },
+    Skip {
+        a: u8,
+        n: u8,
+    },
     /// The end of a block 0.
     Return {
         result: u8,
@@ -339,6 +343,7 @@ fn plain(version: &Version, instruction: &Instruction) -> Op {
         I::Force { d, a } => Op::Force { d, a },
         I::Peek { d, a, x } => Op::Peek { d, a, x },
         I::Poke { a, x, e } => Op::Poke { a, x, e },
+        I::Skip { a, n } => Op::Skip { a, n },
         I::Prom { .. } | I::Call { .. } | I::Dispatch { .. } => {
             unreachable!("these are decoded elsewhere")
         }

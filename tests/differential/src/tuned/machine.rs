@@ -271,6 +271,11 @@ impl<'c> Machine<'c> {
                     }
                     (next, frame) = (site.entry as usize, self.enter(frame, site));
                 }
+                Op::Skip { a, n } => {
+                    if frames.integer(frame, a) == 0 {
+                        next += usize::from(n);
+                    }
+                }
                 Op::Return { result } => {
                     let value = frames.get(frame, result);
                     self.top = frame;

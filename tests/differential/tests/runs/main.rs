@@ -9,6 +9,7 @@ use begin::{begin, begin_wrongly};
 use generator::{accepted, damaged, entry, words, Random, Tally};
 use pair::Pair;
 use reference::bounds::BUFFER;
+use reference::questions::QUESTIONS;
 use reference::watched::{Watched, ENDINGS};
 use reference::Program;
 use std::thread;
@@ -18,6 +19,11 @@ use std::thread;
 const PROGRAMS: u64 = 56_000;
 const FEWEST_RUNS: usize = 50_000;
 const FEWEST_STEPS: usize = 3_000_000;
+
+/// The fewest runs in which a SKIP is executed, and of these the fewest in which
+/// one skips, and the fewest in which one does not.
+const FEWEST_SKIPS: usize = 20_000;
+const FEWEST_EACH_WAY: usize = 15_000;
 
 /// How many damaged images no run may begin of.
 const DAMAGED: u64 = 6_000;
@@ -51,7 +57,22 @@ fn run(seed: u64, met: &mut Tally<String>) -> usize {
     pair.act_all(seed, &origin, met);
     let ending = pair.reference().ending();
     met.meet(ending.unwrap_or("goes on").to_string());
+    meet_skips(pair.reference(), met);
     pair.reference().tried()
+}
+
+/// Meets what a run did with SKIPs.
+fn meet_skips(run: &Watched, met: &mut Tally<String>) {
+    let (skipped, not_skipped) = (run.skipped() > 0, run.not_skipped() > 0);
+    for (condition, name) in [
+        (skipped || not_skipped, "a SKIP runs"),
+        (skipped, "a SKIP skips"),
+        (not_skipped, "a SKIP does not skip"),
+    ] {
+        if condition {
+            met.meet(name.to_string());
+        }
+    }
 }
 
 /// What all workers met, and the steps that they tried.
@@ -105,6 +126,10 @@ fn runs_agree_under_every_list_of_events() {
     assert!(met.count("begun") >= FEWEST_RUNS, "too few runs");
     assert!(steps >= FEWEST_STEPS, "{steps} steps");
     assert_eq!(met.count("goes on"), 0, "a run was not brought to its end");
+    assert!(met.count("a SKIP runs") >= FEWEST_SKIPS, "too few SKIPs");
+    for way in ["a SKIP skips", "a SKIP does not skip"] {
+        assert!(met.count(way) >= FEWEST_EACH_WAY, "too seldom: {way}");
+    }
     assert_met(&met, ENDINGS.map(String::from));
     assert_met(&met, [11, 12, 13].map(|n| format!("begin refused by {n}")));
     let ends = ["Integer", "Vector", "Undef", "Deep", "Vectors", "Promises"];
@@ -157,5 +182,5 @@ fn begin_damaged(seed: u64, met: &mut Tally<String>) -> usize {
 fn no_run_begins_of_an_image_that_is_refused() {
     let (met, _) = in_parallel(DAMAGED, begin_damaged);
     println!("{DAMAGED} damaged images\n{met}");
-    assert_met(&met, (1..=10).map(|n| format!("begin refused by {n}")));
+    assert_met(&met, QUESTIONS.map(|n| format!("begin refused by {n}")));
 }

@@ -9,7 +9,7 @@ use reference::{kinds, Instruction, Record, Register, Type};
 pub fn register_fields(instruction: &Instruction) -> Vec<usize> {
     let length = instruction.body().len();
     match instruction.kind() {
-        kinds::LIT | kinds::NAMED | kinds::PROM => vec![0],
+        kinds::LIT | kinds::NAMED | kinds::PROM | kinds::SKIP => vec![0],
         kinds::VEC => [0].into_iter().chain(2..length).collect(),
         kinds::ARITH => vec![0, 2, 3],
         kinds::STORE => vec![1],

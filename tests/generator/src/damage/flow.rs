@@ -1,13 +1,14 @@
 //! Ways to fail question 10.
 
-use super::edit::{add_register, append, block, insert, operand_fields, swap_register};
+use super::edit::{add_register, append, block, insert, operand_fields, swap_register, with_byte};
 use super::Breaker;
-use crate::draft::{Draft, DraftVersion};
+use crate::draft::{Draft, DraftBlock, DraftVersion};
 use crate::random::Random;
-use reference::{Instruction, Register, Type};
+use reference::bounds::BLOCKS;
+use reference::{Instruction, Mark, Register, Type};
 
 /// Ways to fail question 10.
-pub const BREAKERS: [Breaker; 10] = [
+pub const BREAKERS: [Breaker; 14] = [
     operand_never_assigned,
     operand_never_assigned,
     result_never_assigned,
@@ -18,6 +19,10 @@ pub const BREAKERS: [Breaker; 10] = [
     assigned_after_emptied,
     emptied_after_captured,
     captured_after_emptied,
+    assigned_on_one_way,
+    emptied_on_one_way,
+    captured_on_one_way,
+    condition_never_assigned,
 ];
 
 /// A type for a register that no parameter is.
@@ -43,21 +48,22 @@ fn result_never_assigned(random: &mut Random, draft: &Draft) -> Option<Vec<u8>> 
     Some(draft.bytes())
 }
 
-/// Takes away the only assignment of a register that the body reads.
+/// Turns all assignments of a register that the body reads to a new register.
 fn assignment_lost(random: &mut Random, draft: &Draft) -> Option<Vec<u8>> {
     let mut draft = draft.clone();
     let index = random.below(draft.versions.len());
     let version = &mut draft.versions[index];
-    let parameters = version.parameters;
-    let body = &mut version.blocks[0];
-    let result = body.result;
-    let assigns = |i: &Instruction| i.assigns() == Some(result);
-    let plain = |i: &Instruction| assigns(i) && !matches!(i, Instruction::Prom { .. });
-    if usize::from(result) < parameters || !body.instructions.iter().all(|i| assigns(i) == plain(i))
-    {
+    let result = version.blocks[0].result;
+    if usize::from(result) < version.parameters {
         return None;
     }
-    body.instructions.retain(|i| !plain(i));
+    let ty = version.types[usize::from(result)];
+    let new = add_register(version, ty)?;
+    for instruction in &mut version.blocks[0].instructions {
+        if instruction.assigns() == Some(result) {
+            *instruction = with_byte(instruction, 0, new);
+        }
+    }
     Some(draft.bytes())
 }
 
@@ -143,5 +149,77 @@ fn captured_after_emptied(random: &mut Random, draft: &Draft) -> Option<Vec<u8>>
     capturing(random, &mut draft, |a, d| {
         vec![filled(a), Instruction::Use { d, a }]
     })?;
+    Some(draft.bytes())
+}
+
+/// A SKIP of the next instruction, by an integer that a new register takes before it.
+fn skipping_one(version: &mut DraftVersion) -> Option<[Instruction; 2]> {
+    let d = add_register(version, Type::INTEGER)?;
+    let value = 1;
+    Some([
+        Instruction::Lit { d, value },
+        Instruction::Skip { a: d, n: 1 },
+    ])
+}
+
+fn assigned_on_one_way(random: &mut Random, draft: &Draft) -> Option<Vec<u8>> {
+    let mut draft = draft.clone();
+    let (index, number) = block(random, &draft, |_, _| true)?;
+    let version = &mut draft.versions[index];
+    let mut added = skipping_one(version)?.to_vec();
+    let (a, d) = owned_pair(version)?;
+    added.extend([filled(a), Instruction::Dup { d, a }]);
+    append(&mut version.blocks[number], added)?;
+    Some(draft.bytes())
+}
+
+fn emptied_on_one_way(random: &mut Random, draft: &Draft) -> Option<Vec<u8>> {
+    let mut draft = draft.clone();
+    let index = random.below(draft.versions.len());
+    let version = &mut draft.versions[index];
+    let (a, d) = owned_pair(version)?;
+    let mut added = vec![filled(a)];
+    added.extend(skipping_one(version)?);
+    let again = random.pick(&[Instruction::Dup { d, a }, Instruction::Use { d, a }]);
+    added.extend([Instruction::Use { d, a }, again]);
+    append(&mut version.blocks[0], added)?;
+    Some(draft.bytes())
+}
+
+/// A promise that is made on one way only captures a register that is emptied
+/// at the end of the body.
+fn captured_on_one_way(random: &mut Random, draft: &Draft) -> Option<Vec<u8>> {
+    let mut draft = draft.clone();
+    let index = random.below(draft.versions.len());
+    let version = &mut draft.versions[index];
+    if version.blocks.len() >= BLOCKS {
+        return None;
+    }
+    let (a, d) = owned_pair(version)?;
+    let promise = add_register(version, Type::shared(Mark::QUIET.promise()))?;
+    let [literal, skip] = skipping_one(version)?;
+    let block = version.blocks.len() as u8;
+    let result = literal.destination()?;
+    version.blocks.push(DraftBlock {
+        mark: Mark::QUIET,
+        result,
+        instructions: vec![Instruction::Dup { d, a }],
+    });
+    let prom = Instruction::Prom { d: promise, block };
+    let emptied = Instruction::Use { d, a };
+    let added = vec![filled(a), literal, skip, prom, emptied];
+    append(&mut version.blocks[0], added)?;
+    Some(draft.bytes())
+}
+
+fn condition_never_assigned(random: &mut Random, draft: &Draft) -> Option<Vec<u8>> {
+    let mut draft = draft.clone();
+    let (index, number) = block(random, &draft, |_, _| true)?;
+    let version = &mut draft.versions[index];
+    let a = add_register(version, Type::INTEGER)?;
+    append(
+        &mut version.blocks[number],
+        vec![Instruction::Skip { a, n: 0 }],
+    )?;
     Some(draft.bytes())
 }

@@ -79,8 +79,8 @@ fn head_without_its_body(random: &mut Random, draft: &Draft) -> Option<Vec<u8>> 
 fn unknown_kind(random: &mut Random, draft: &Draft) -> Option<Vec<u8>> {
     let mut records = split(draft);
     let index = random.below(records.len());
-    let any = 35 + random.below(221) as u8;
-    records[index][2] = random.pick(&[0, 3, 4, 15, 35, 36, 255, any]);
+    let any = 36 + random.below(220) as u8;
+    records[index][2] = random.pick(&[0, 3, 4, 15, 36, 37, 255, any]);
     Some(records.concat())
 }
 

@@ -45,14 +45,15 @@ impl Body<'_> {
     /// Chooses the result register of a promise block, and assigns it if need be.
     pub(super) fn end_promise_block(&mut self) {
         let known = self.readable(|ty| ty == Type::INTEGER);
-        let assigned = |r: &Register| self.here.touched.contains(*r);
-        let touched: Vec<Register> = known.iter().copied().filter(assigned).collect();
+        let captured = self.here.captured();
+        let touched = known.iter().copied().filter(|&r| captured.contains(r));
+        let touched: Vec<Register> = touched.collect();
         let result = self.random.choose(&touched);
         let result = result.or_else(|| self.random.choose(&known));
         let result = result.unwrap_or_else(|| self.make_integer());
         let block = self.here.block;
         self.blocks[block].result = result;
-        self.here.touched.insert(result);
+        self.here.read(result);
         self.cost += 1;
     }
 

@@ -6,6 +6,7 @@ mod names;
 mod plain;
 mod promises;
 mod registers;
+mod skips;
 mod traps;
 mod vectors;
 
@@ -75,9 +76,13 @@ struct Body<'a> {
 #[derive(Clone)]
 struct Here {
     block: usize,
+    /// How many skipped parts stand around.
+    parts: usize,
     /// The registers that may be read.
     readable: Registers,
-    /// The registers that the block read or assigned, and those its blocks did.
+    /// The registers that the block assigned, whichever way it went.
+    assigned: Registers,
+    /// The registers that it read before it assigned them, and those its blocks captured.
     touched: Registers,
     facts: [Fact; REGISTERS],
     /// What the names that are set are expected to hold.
@@ -85,7 +90,7 @@ struct Here {
 }
 
 /// The instructions, by how often they are wanted.
-const WANTED: [(usize, u16); 19] = [
+const WANTED: [(usize, u16); 20] = [
     (10, kinds::LIT),
     (5, kinds::MOVE),
     (5, kinds::USE),
@@ -105,6 +110,7 @@ const WANTED: [(usize, u16); 19] = [
     (5, kinds::POKE),
     (10, kinds::CALL),
     (12, kinds::DISPATCH),
+    (14, kinds::SKIP),
 ];
 
 /// Instructions of a block that are left for what its end needs.
@@ -127,7 +133,9 @@ impl<'a> Body<'a> {
         }
         let here = Here {
             block: 0,
+            parts: 0,
             readable: Registers::below(types.len()),
+            assigned: Registers::default(),
             touched: Registers::default(),
             facts,
             names: [None; NAMES],
@@ -207,7 +215,8 @@ impl<'a> Body<'a> {
             kinds::PEEK => self.peek(),
             kinds::POKE => self.poke(),
             kinds::CALL => self.call(),
-            _ => self.dispatch(),
+            kinds::DISPATCH => self.dispatch(),
+            _ => self.skip(),
         }
     }
 
@@ -230,14 +239,14 @@ impl<'a> Body<'a> {
     /// Adds an instruction that empties registers.
     fn emit_emptying(&mut self, instruction: Instruction, emptied: &[Register], fact: Fact) {
         for register in instruction.reads() {
-            self.here.touched.insert(register);
+            self.here.read(register);
         }
         for &register in emptied {
             self.emptied.insert(register);
             self.here.readable.remove(register);
         }
         if let Some(register) = instruction.assigns() {
-            self.here.touched.insert(register);
+            self.here.assigned.insert(register);
             self.here.readable.insert(register);
         }
         if let Some(d) = instruction.destination() {
@@ -256,5 +265,19 @@ impl<'a> Body<'a> {
     /// The declared type of a register.
     fn type_of(&self, register: Register) -> Type {
         self.types[usize::from(register)]
+    }
+}
+
+impl Here {
+    /// The block reads a register.
+    fn read(&mut self, register: Register) {
+        if !self.assigned.contains(register) {
+            self.touched.insert(register);
+        }
+    }
+
+    /// What a promise of the block captures.
+    fn captured(&self) -> Registers {
+        self.touched.union(self.assigned)
     }
 }

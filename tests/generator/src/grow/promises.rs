@@ -56,6 +56,7 @@ impl Body<'_> {
         self.parents.push(self.here.block);
         let around = self.here.clone();
         self.here.block = number;
+        self.here.assigned = Registers::default();
         self.here.touched = Registers::default();
         // A block that forces its own promise makes UNDEF.
         if !self.random.one_in(30) {
@@ -63,10 +64,10 @@ impl Body<'_> {
         }
         grow(self);
         self.end_promise_block();
-        let touched = self.here.touched;
+        let captured = self.here.captured();
         self.here = around;
-        self.captured = self.captured.union(touched);
-        self.here.touched = self.here.touched.union(touched);
+        self.captured = self.captured.union(captured);
+        self.here.touched = self.here.touched.union(captured);
         self.forget(number);
         number as u8
     }

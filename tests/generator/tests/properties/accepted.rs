@@ -89,7 +89,7 @@ fn all_instructions_types_and_marks_are_used() {
         }
     }
     println!("in promise blocks, kind\n{instructions}{types}");
-    for kind in 16..35 {
+    for kind in 16..36 {
         let only_in_bodies = [18, 23].contains(&kind);
         assert!(instructions.count(&(false, kind)) > 100);
         assert!(only_in_bodies == (instructions.count(&(true, kind)) == 0));

@@ -1,6 +1,7 @@
 //! Damaged images mostly meet the question they aim at, and all questions are met.
 
 use generator::{any, damaged_at, image, Aim, Tally};
+use reference::questions::QUESTIONS;
 use reference::{questions_1_to_7, verdict, Instruction, Record, Refusal, Verdict};
 
 /// The number of the question that refuses an image, 0 if it is accepted.
@@ -14,7 +15,7 @@ fn number(image: &[u8]) -> u8 {
 #[test]
 fn damaged_images_mostly_meet_their_question() {
     const SEEDS: u64 = 1000;
-    for aim in 1..=10 {
+    for aim in QUESTIONS {
         let mut met = Tally::default();
         for seed in 0..SEEDS {
             met.meet(number(&damaged_at(aim, seed)));
@@ -35,7 +36,7 @@ fn any_images_meet_every_question_and_acceptance_in_every_few_thousand() {
             bytes += image.len();
         }
         println!("{SEEDS} images of {} bytes\n{met}", bytes as u64 / SEEDS);
-        for answer in 0..=10 {
+        for answer in [0].into_iter().chain(QUESTIONS) {
             assert!(met.count(&answer) >= 30, "question {answer}");
         }
     }

@@ -6,3 +6,4 @@ mod damaged;
 mod events;
 mod round_trip;
 mod runs;
+mod skips;

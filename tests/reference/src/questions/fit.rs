@@ -14,7 +14,7 @@ pub struct Need {
 }
 
 impl Need {
-    /// An integer, an item, an index, an operand of ARITH or SELECT.
+    /// An integer, an item, an index, an operand of ARITH, SELECT or SKIP.
     const INTEGER: Need = Need::any_ownership(Kind::INTEGER);
     /// Any vector.
     const VECTOR: Need = Need::any_ownership(Kind::VECTOR);
@@ -78,6 +78,7 @@ pub fn needs(program: &Program, version: &Version, instruction: &Instruction) ->
             let parameters = parameters.unwrap_or_default().into_iter();
             parameters.map(Need::of_parameter).collect()
         }
+        Instruction::Skip { .. } => vec![Need::INTEGER],
     }
 }
 
@@ -122,6 +123,7 @@ pub fn gives(program: &Program, version: &Version, instruction: &Instruction) ->
                 Gives::Plain(returns.kind())
             })
         }
+        Instruction::Skip { .. } => None,
     }
 }
 

@@ -6,6 +6,7 @@ mod fit;
 mod framing;
 mod order;
 mod places;
+mod skips;
 
 pub use fit::{gives, needs, result_fits, Gives, Need};
 pub use framing::records;
@@ -22,16 +23,19 @@ pub struct Refusal {
     pub offset: usize,
 }
 
-/// What the ten questions say of an image.
+/// The numbers of the questions put to an image, in the order in which they are put.
+pub const QUESTIONS: [u8; 11] = [1, 2, 3, 4, 5, 6, 7, 14, 8, 9, 10];
+
+/// What the questions say of an image.
 #[derive(Clone, Copy, PartialEq, Eq, Debug)]
 pub enum Verdict {
-    /// Ten times yes, and how many versions the image has.
+    /// Every time yes, and how many versions the image has.
     Accepted(usize),
     /// The first no.
     Refused(Refusal),
 }
 
-/// What the ten questions say of an image.
+/// What the questions say of an image.
 pub fn verdict(image: &[u8]) -> Verdict {
     Verdict::of(&Program::accept(image))
 }
@@ -63,9 +67,10 @@ impl Program {
         Ok(program)
     }
 
-    /// The program of an image that passes the ten questions, or the first no.
+    /// The program of an image that passes all the questions, or the first no.
     pub fn accept(image: &[u8]) -> Result<Program, Refusal> {
         let program = exists(image)?;
+        put(14, skips::question14(&program))?;
         put(8, fit::question8(&program))?;
         put(9, effect::question9(&program))?;
         put(10, flow::question10(&program))?;

@@ -44,6 +44,7 @@ impl State {
             }
             (I::Call { .. }, arguments) => self.call(program, instruction, arguments),
             (I::Dispatch { .. }, arguments) => self.dispatch(program, instruction, arguments),
+            (&I::Skip { n, .. }, &[Integer(a)]) => self.skip(a, n),
             _ => Err(Halt::Stuck),
         }
     }

@@ -10,6 +10,7 @@ mod vectors;
 
 pub use budget::Answer;
 
+use crate::bounds::{Integer, INSTRUCTIONS};
 use crate::instruction::Register;
 use crate::outside::points_inside;
 use crate::program::{Program, Version};
@@ -97,18 +98,29 @@ impl State {
         version.expect("the image has the versions of all frames")
     }
 
-    /// Goes past the instruction.
-    fn pass(&mut self) {
+    /// Goes past so many instructions.
+    fn pass(&mut self, count: usize) {
         self.activations
             .last_mut()
             .expect("an activation lives")
-            .next += 1;
+            .next += count;
+    }
+
+    /// SKIP: goes past the instruction, and past the next n where a is 0; stuck
+    /// if that leads past the last position that a block can have.
+    fn skip(&mut self, a: Integer, n: u8) -> Step {
+        let skipped = if a == 0 { usize::from(n) } else { 0 };
+        if self.top().next + 1 + skipped > INSTRUCTIONS {
+            return Err(Halt::Stuck);
+        }
+        self.pass(1 + skipped);
+        Ok(())
     }
 
     /// Puts a value into a register of the own frame and goes past the instruction.
     fn assign(&mut self, d: Register, value: Value) -> Step {
         self.own_frame().registers[usize::from(d)] = Some(value);
-        self.pass();
+        self.pass(1);
         Ok(())
     }
 }

@@ -49,7 +49,7 @@ impl State {
         if self.activations.len() >= ACTIVATIONS {
             return Err(Halt::Ends(End::Deep));
         }
-        self.pass();
+        self.pass(1);
         self.activations.push(activation);
         Ok(())
     }

@@ -48,7 +48,7 @@ impl State {
     /// STORE and POKE.
     pub(super) fn write_name(&mut self, frame: usize, x: Name, value: Value) -> Step {
         self.frames[frame].names[usize::from(x)] = Some(value);
-        self.pass();
+        self.pass(1);
         Ok(())
     }
 }

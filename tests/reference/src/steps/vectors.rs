@@ -51,7 +51,7 @@ impl State {
         let index = self.index(place, index).ok_or(UNDEF)?;
         let vector = self.vectors[place].as_mut().ok_or(Halt::Stuck)?;
         vector[index] = item;
-        self.pass();
+        self.pass(1);
         Ok(())
     }
 

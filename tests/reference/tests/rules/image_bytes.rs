@@ -161,6 +161,11 @@ fn kind_34_dispatch() {
 }
 
 #[test]
+fn kind_35_skip() {
+    instruction(&[6, 0, 35, 0, 2, 255], I::Skip { a: 2, n: 255 });
+}
+
+#[test]
 fn records_follow_one_another_from_offset_0() {
     let records = reference::questions::records(&cases::IDENTITY);
     let offsets: Vec<usize> = records.unwrap().iter().map(|r| r.offset).collect();

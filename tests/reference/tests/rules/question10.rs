@@ -16,12 +16,12 @@ fn body(instructions: &str) -> String {
 }
 
 #[track_caller]
-fn flows(instructions: &str) {
+pub fn flows(instructions: &str) {
     accepts(&body(instructions));
 }
 
 #[track_caller]
-fn fails(instructions: &str) {
+pub fn fails(instructions: &str) {
     refuses(&body(instructions), 10, 0);
 }
 

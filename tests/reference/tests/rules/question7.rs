@@ -14,7 +14,7 @@ fn with_instruction(instruction: &str) -> String {
 }
 
 /// Each instruction with a register that does not exist, r2, in each of its fields.
-const MISSING: [&str; 42] = [
+const MISSING: [&str; 43] = [
     "r2 = lit 0",
     "r2 = move r0",
     "r0 = move r2",
@@ -57,6 +57,7 @@ const MISSING: [&str; 42] = [
     "r2 = dispatch 0(r0: int) -> int quiet",
     "r0 = dispatch 0(r2: int) -> int quiet",
     "r0 = dispatch 0(r1: int, r2: int) -> int quiet",
+    "skip 0 unless r2",
 ];
 
 #[test]

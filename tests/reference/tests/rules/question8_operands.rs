@@ -177,6 +177,11 @@ fn question8_poke_takes_kind_4_or_5_and_a_shared_source_within_kind_1() {
 }
 
 #[test]
+fn question8_skip_takes_an_integer() {
+    takes(|[a]| format!("skip 0 unless r{a}"), &[[2]]);
+}
+
+#[test]
 fn question8_nothing_enters_a_borrowed_register() {
     for instruction in ["r7 = dup r7", "r7 = vec []", "r7 = move r3", "r7 = cast r3"] {
         refuses(&with_every_type(instruction), 8, 25);

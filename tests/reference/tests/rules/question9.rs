@@ -62,9 +62,15 @@ fn question9_all_other_instructions_are_quiet() {
         "r2 = named x0",
         "store x0 = r2",
         "r3 = cast r2",
+        "skip 0 unless r3",
     ] {
         accepts(&body("quiet", instruction));
     }
+}
+
+#[test]
+fn question9_skipped_instructions_count() {
+    reflective("skip 1 unless r3\nr2 = peek r0.x0");
 }
 
 #[test]

@@ -49,7 +49,7 @@ fn question2_is_put_to_the_whole_image_before_question_3() {
 
 #[test]
 fn question3_unknown_kinds() {
-    for kind in (0..=0xFFFF).filter(|kind| ![1, 2].contains(kind) && !(16..35).contains(kind)) {
+    for kind in (0..=0xFFFF).filter(|kind| ![1, 2].contains(kind) && !(16..36).contains(kind)) {
         let [low, high] = u16::to_le_bytes(kind);
         refuses_image(&then_record(&[6, 0, low, high, 0, 0]), 3, 18);
     }
@@ -86,6 +86,7 @@ fn question3_length_other_than_the_fields_make_for_each_kind() {
         (32, 7),
         (33, 9),
         (34, 11),
+        (35, 6),
     ];
     for (kind, right) in lengths {
         // Every field is 1, every count too.

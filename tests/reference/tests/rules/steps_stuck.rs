@@ -52,7 +52,7 @@ fn stuck(run: &Run, change: impl FnOnce(&mut State)) {
 }
 
 /// The instructions, each with its registers that must not be empty.
-const OPERANDS: [(&str, &[usize]); 16] = [
+const OPERANDS: [(&str, &[usize]); 17] = [
     ("r3 = move r1", &[1]),
     ("r6 = use r0", &[0]),
     ("r6 = dup r0", &[0]),
@@ -75,6 +75,7 @@ const OPERANDS: [(&str, &[usize]); 16] = [
         "r1 = dispatch 0(r0: own vector, r1: int, r2: vector, r3: value, r4: any) -> int reflective",
         &[0, 1, 2, 3, 4],
     ),
+    ("skip 0 unless r1", &[1]),
 ];
 
 #[test]
@@ -111,6 +112,7 @@ fn stuck_on_an_operand_of_another_kind() {
         ("poke r5.x0 = r3", 3, promise),
         ("r1 = call 0.0(r0, r1, r2, r3, r4)", 1, vector),
         ("r1 = dispatch 0(r1: int) -> int quiet", 1, vector),
+        ("skip 0 unless r1", 1, promise),
     ] {
         let run = at_instruction(instruction);
         stuck(&run, |state| state.frames[0].registers[register] = value);

@@ -91,6 +91,7 @@ fn plainly_needed(instruction: &Instruction, place: usize, ty: Type) -> &'static
         (Instruction::Store { .. } | Instruction::Poke { .. }, _) => {
             "an integer, a vector or a value"
         }
+        (Instruction::Skip { .. }, _) => "an integer",
         _ => "integers",
     }
 }

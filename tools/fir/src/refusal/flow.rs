@@ -4,6 +4,7 @@ use super::vocabulary::instruction_name;
 use super::{Found, FoundRecord};
 use crate::place::place;
 use crate::source::Source;
+use reference::record::Placed;
 use reference::{Instruction, Register};
 use std::collections::BTreeMap;
 
@@ -18,7 +19,10 @@ pub fn flow(source: &Source, found: &Found) -> Option<String> {
             let parameters = found.version.head.parameters;
             let mut reads = action.reads.into_iter();
             let (register, read) = reads.find(|&(register, _)| register >= parameters)?;
-            Break::ReadFirst(register, read)
+            match action.half_read.get(&register) {
+                Some(half) => Break::ReadHalf(register, read, *half),
+                None => Break::ReadFirst(register, read),
+            }
         }
     };
     let words = break_.words(source);
@@ -51,6 +55,13 @@ impl Doer<'_> {
 /// Registers with what did it to them first.
 type Registers<'p> = BTreeMap<Register, Doer<'p>>;
 
+/// What assigns a register on one way of a SKIP alone, and the SKIP.
+#[derive(Clone, Copy)]
+struct Half<'p> {
+    assigns: Doer<'p>,
+    skip: Doer<'p>,
+}
+
 /// An action: four register sets, with who did it.
 #[derive(Clone, Default)]
 struct Action<'p> {
@@ -58,12 +69,18 @@ struct Action<'p> {
     assigns: Registers<'p>,
     empties: Registers<'p>,
     captures: Registers<'p>,
+    /// Registers that are assigned on one way of a SKIP alone.
+    half: BTreeMap<Register, Half<'p>>,
+    /// Those of them that are read so.
+    half_read: BTreeMap<Register, Half<'p>>,
 }
 
 /// How flow breaks.
 enum Break<'p> {
     /// A register is read before it is assigned.
     ReadFirst(Register, Doer<'p>),
+    /// A register is read that is assigned on one way of a SKIP alone.
+    ReadHalf(Register, Doer<'p>, Half<'p>),
     /// A register is emptied, and then something is done to it.
     Emptied(Register, Doer<'p>, &'static str, Doer<'p>),
     /// A register is captured, and then emptied.
@@ -79,6 +96,11 @@ impl Break<'_> {
                     "r{r} is read by {} before it is assigned",
                     read.words(source)
                 )
+            }
+            Break::ReadHalf(r, read, half) => {
+                let (read, skip) = (read.words(source), half.skip.words(source));
+                let assigns = half.assigns.words(source);
+                format!("r{r} is read by {read}, and assigned by {assigns} only where {skip} does not skip")
             }
             Break::Emptied(r, emptied, then, doer) if emptied.offset == doer.offset => {
                 format!("r{r} is emptied and then {then} by {}", doer.words(source))
@@ -113,14 +135,38 @@ impl<'p> Action<'p> {
             return Err(Break::Captured(register, first, second));
         }
         for (register, doer) in next.reads {
-            if !self.assigns.contains_key(&register) {
-                self.reads.entry(register).or_insert(doer);
+            if !self.assigns.contains_key(&register) && !self.reads.contains_key(&register) {
+                self.reads.insert(register, doer);
+                let half = next.half_read.get(&register);
+                let half = half.or(self.half.get(&register)).copied();
+                self.half_read.extend(half.map(|half| (register, half)));
             }
         }
         add(&mut self.assigns, next.assigns);
         add(&mut self.empties, next.empties);
         add(&mut self.captures, next.captures);
         Ok(self)
+    }
+
+    /// The way past a part, joined with the way through it.
+    fn join(mut self, through: Action<'p>, skip: Doer<'p>) -> Action<'p> {
+        for (register, assigns) in through.assigns {
+            if !self.assigns.contains_key(&register) {
+                self.half.insert(register, Half { assigns, skip });
+            }
+        }
+        for (register, half) in through.half {
+            self.half.entry(register).or_insert(half);
+        }
+        for (register, half) in through.half_read {
+            if !self.reads.contains_key(&register) {
+                self.half_read.insert(register, half);
+            }
+        }
+        add(&mut self.reads, through.reads);
+        add(&mut self.empties, through.empties);
+        add(&mut self.captures, through.captures);
+        self
     }
 
     /// What a PROM yields for its block's action: (R, ∅, U, R ∪ W ∪ U ∪ C).
@@ -131,6 +177,7 @@ impl<'p> Action<'p> {
         Action {
             assigns: Registers::new(),
             captures,
+            half: BTreeMap::new(),
             ..self
         }
     }
@@ -159,18 +206,10 @@ fn all<'p>(registers: impl IntoIterator<Item = Register>, doer: Doer<'p>) -> Reg
 
 /// The action of a block: its instructions in order, then its result register is read.
 fn block_action<'p>(found: &Found<'p>, number: usize) -> Result<Action<'p>, Break<'p>> {
-    let mut action = Action::default();
     let Some(block) = found.version.blocks.get(number) else {
-        return Ok(action);
+        return Ok(Action::default());
     };
-    for placed in &block.instructions {
-        let doer = Doer {
-            offset: placed.offset,
-            block: number,
-            instruction: Some(&placed.item),
-        };
-        action = instruction_action(found, action, doer, &placed.item)?;
-    }
+    let action = part_action(found, number, &block.instructions, Action::default())?;
     let end = Doer {
         offset: block.offset,
         block: number,
@@ -180,6 +219,33 @@ fn block_action<'p>(found: &Found<'p>, number: usize) -> Result<Action<'p>, Brea
         reads: all([block.head.result], end),
         ..Action::default()
     })
+}
+
+/// An action, then the instructions of a block or of a part of it, in order;
+/// behind a SKIP both ways, joined after its part.
+fn part_action<'p>(
+    found: &Found<'p>,
+    block: usize,
+    mut instructions: &'p [Placed<Instruction>],
+    before: Action<'p>,
+) -> Result<Action<'p>, Break<'p>> {
+    let mut action = before;
+    while let [first, rest @ ..] = instructions {
+        let doer = Doer {
+            offset: first.offset,
+            block,
+            instruction: Some(&first.item),
+        };
+        action = instruction_action(found, action, doer, &first.item)?;
+        instructions = rest;
+        if let Instruction::Skip { n, .. } = first.item {
+            let (part, behind) = rest.split_at(rest.len().min(n.into()));
+            let through = part_action(found, block, part, action.clone())?;
+            action = action.join(through, doer);
+            instructions = behind;
+        }
+    }
+    Ok(action)
 }
 
 /// An action, then an instruction: it reads its operands, then empties, then assigns.

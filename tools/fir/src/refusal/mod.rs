@@ -11,6 +11,7 @@ mod fit;
 mod flow;
 mod framing;
 mod order;
+mod skips;
 mod types;
 mod vocabulary;
 
@@ -40,7 +41,7 @@ pub fn of_run(source: &Source, no: Refusal, entry: Entry, given: &[Argument]) ->
 /// The line with the words that were found, or with the question's own.
 fn with_words(source: &Source, no: Refusal, words: Option<String>) -> String {
     let place = match no.question {
-        2..=10 => place(source, no.offset),
+        2..=10 | 14 => place(source, no.offset),
         _ => no.offset.to_string(),
     };
     let words = words.unwrap_or_else(|| rule(no.question).to_string());
@@ -56,12 +57,13 @@ fn diagnosis(source: &Source, no: Refusal) -> Option<String> {
         3 => framing::fields(image, offset),
         4 => order::bounds(image, offset),
         5 => order::numbering(image, offset),
-        6..=10 => {
+        6..=10 | 14 => {
             let program = Program::ordered(image).ok()?;
             let found = Found::at(&program, offset)?;
             match no.question {
                 6 => types::type_bytes(&found),
                 7 => existence::existence(source, &found),
+                14 => skips::skips(source, &found, offset),
                 8 => fit::fit(&found),
                 9 => effect::effect(source, &found),
                 _ => flow::flow(source, &found),
@@ -129,6 +131,7 @@ fn rule(question: u8) -> &'static str {
         5 => "the first version is 0.0, and each next one follows on it",
         6 => "a type byte is allowed at its place",
         7 => "what is named exists, and every block but 0 is named by exactly one PROM",
+        14 => "no SKIP goes past the end of its block, or of a part that it stands in",
         8 => "types fit",
         9 => "a block's mark covers its effect",
         10 => "no register is read before it is assigned, used after it is emptied, or emptied after it is captured",
@@ -153,7 +156,7 @@ mod tests {
     fn a_refusal_that_no_diagnosis_explains_gets_the_rule() {
         let text = "version 0.0(r0: int) -> int\nblock 0 quiet -> r0";
         let image = text::assemble(text).expect("a text that is well formed");
-        for question in 1..=13 {
+        for question in 1..=14 {
             for offset in [0, 11, 18, 400_000] {
                 let expected = format!("refused by {question} at {offset}: {}", rule(question));
                 assert_eq!(said(&image, question, offset), expected);

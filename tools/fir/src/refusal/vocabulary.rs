@@ -26,6 +26,7 @@ pub fn kind_name(kind: u16) -> Option<&'static str> {
         kinds::POKE => "POKE",
         kinds::CALL => "CALL",
         kinds::DISPATCH => "DISPATCH",
+        kinds::SKIP => "SKIP",
         _ => return None,
     })
 }

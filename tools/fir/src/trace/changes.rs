@@ -2,6 +2,7 @@
 
 use super::spot::Spot;
 use library::{Held, Opener, State, CELLS, FIR_PLACES, FIR_REGISTERS};
+use reference::Instruction;
 
 /// What changed from one state to the next, the step's own call first.
 pub fn changes(before: &State, after: &State, spot: &Spot) -> String {
@@ -21,8 +22,14 @@ pub fn changes(before: &State, after: &State, spot: &Spot) -> String {
     changes.join(", ")
 }
 
-/// Words for a step that changed nothing: what its d holds still.
+/// Words for a step that changed nothing: whether a SKIP skips, or what d holds still.
 fn unchanged(after: &State, spot: &Spot) -> String {
+    if let Some(&Instruction::Skip { a, n }) = spot.instruction() {
+        return match after.look(spot.activation.call, a.into()) {
+            Some(Held::Integer(0)) => format!("skips {n}"),
+            _ => "does not skip".to_string(),
+        };
+    }
     let d = spot.instruction().and_then(|item| item.destination());
     let still = d.and_then(|d| Some((d, after.look(spot.activation.call, d.into())?)));
     match still {
