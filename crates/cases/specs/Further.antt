@@ -215,6 +215,64 @@ capturedOnOneWay =
     rec kind.BLOCK (0 ∷ 4 ∷ 1 ∷ []) ++
     rec kind.LEN (4 ∷ 1 ∷ [])
 
+-- the parameter used into itself
+abbrev pub usedAgain : List ℕ
+usedAgain =
+    rec kind.VERSION (0 ∷ 0 ∷ 1 ∷ 1 ∷ 0x13 ∷ 1 ∷ 0x13 ∷ []) ++
+    rec kind.BLOCK (0 ∷ 0 ∷ 1 ∷ []) ++
+    rec kind.USE (0 ∷ 0 ∷ [])
+
+-- the parameter given to 1.0, whose result takes its place
+abbrev pub givenBack : List ℕ
+givenBack =
+    rec kind.VERSION (0 ∷ 0 ∷ 1 ∷ 1 ∷ 0x13 ∷ 1 ∷ 0x13 ∷ []) ++
+    rec kind.BLOCK (0 ∷ 0 ∷ 1 ∷ []) ++
+    rec kind.CALL (0 ∷ 1 ∷ 0 ∷ 1 ∷ 0 ∷ []) ++
+    rec kind.VERSION (1 ∷ 0 ∷ 1 ∷ 1 ∷ 0x13 ∷ 1 ∷ 0x13 ∷ []) ++
+    rec kind.BLOCK (0 ∷ 0 ∷ 0 ∷ [])
+
+-- the parameter is emptied, filled again, and captured by a promise of its length
+abbrev pub refilledThenCaptured : List ℕ
+refilledThenCaptured =
+    rec kind.VERSION (0 ∷ 0 ∷ 1 ∷ 4 ∷ 2 ∷ 2 ∷ 0x13 ∷ 0x13 ∷ 4 ∷ 2 ∷ []) ++
+    rec kind.BLOCK (0 ∷ 3 ∷ 4 ∷ []) ++
+    rec kind.USE (1 ∷ 0 ∷ []) ++
+    rec kind.DUP (0 ∷ 1 ∷ []) ++
+    rec kind.PROM (2 ∷ 1 ∷ []) ++
+    rec kind.FORCE (3 ∷ 2 ∷ []) ++
+    rec kind.BLOCK (0 ∷ 3 ∷ 1 ∷ []) ++
+    rec kind.LEN (3 ∷ 0 ∷ [])
+
+-- the parameter is captured, then used into itself
+abbrev pub capturedThenUsed : List ℕ
+capturedThenUsed =
+    rec kind.VERSION (0 ∷ 0 ∷ 1 ∷ 3 ∷ 2 ∷ 2 ∷ 0x13 ∷ 4 ∷ 2 ∷ []) ++
+    rec kind.BLOCK (0 ∷ 2 ∷ 3 ∷ []) ++
+    rec kind.PROM (1 ∷ 1 ∷ []) ++
+    rec kind.USE (0 ∷ 0 ∷ []) ++
+    rec kind.FORCE (2 ∷ 1 ∷ []) ++
+    rec kind.BLOCK (0 ∷ 2 ∷ 1 ∷ []) ++
+    rec kind.LEN (2 ∷ 0 ∷ [])
+
+-- an emptied register is filled again on one way only, then read
+abbrev pub refilledOnOneWay : List ℕ
+refilledOnOneWay =
+    rec kind.VERSION (0 ∷ 0 ∷ 2 ∷ 4 ∷ 2 ∷ 1 ∷ 2 ∷ 0x13 ∷ 0x13 ∷ 2 ∷ []) ++
+    rec kind.BLOCK (0 ∷ 3 ∷ 4 ∷ []) ++
+    rec kind.USE (2 ∷ 1 ∷ []) ++
+    rec kind.SKIP (0 ∷ 1 ∷ []) ++
+    rec kind.DUP (1 ∷ 2 ∷ []) ++
+    rec kind.LEN (3 ∷ 1 ∷ [])
+
+-- an emptied register is read before it is filled again
+abbrev pub readBeforeRefill : List ℕ
+readBeforeRefill =
+    rec kind.VERSION (0 ∷ 0 ∷ 1 ∷ 3 ∷ 2 ∷ 1 ∷ 0x13 ∷ 0x13 ∷ 2 ∷ []) ++
+    rec kind.BLOCK (0 ∷ 2 ∷ 3 ∷ []) ++
+    rec kind.USE (1 ∷ 0 ∷ []) ++
+    rec kind.LEN (2 ∷ 0 ∷ []) ++
+    rec kind.DUP (0 ∷ 1 ∷ [])
+
 -- one owned register given as owned and borrowed in one call
 abbrev pub twice : List ℕ
 twice =
@@ -248,7 +306,7 @@ captured =
 
 -- ---- the table
 
--- rows for 11 to 13 of "Questions put to an image" and for "Steps", for SKIP and 14; the last four for "Mistakes to rule out"
+-- rows for 11 to 13 of "Questions put to an image" and for "Steps", for SKIP, 14 and registers filled again; the last four for "Mistakes to rule out"
 unfoldable pub further : List Row
 further =
     -- 11 comes before 12 and 13
@@ -322,6 +380,14 @@ further =
     row assignedOnOneWay 0 0 (neg 1 ∷ pos 1 ∷ []) 9 (lent 16) (refused 10 at 0) 0 (lent 16) ∷
     row emptiedOnOneWay 0 0 (neg 1 ∷ pos 0 ∷ pos 0 ∷ []) 9 (lent 16) (refused 10 at 0) 0 (lent 16) ∷
     row capturedOnOneWay 0 0 (neg 1 ∷ pos 0 ∷ pos 0 ∷ []) 9 (lent 16) (refused 10 at 0) 0 (lent 16) ∷
+    -- an emptied register is filled again: by the instruction that empties it, by the call that it is given to, before a capture
+    row usedAgain 0 0 (pos 1 ∷ pos 7 ∷ []) 9 (lent 16) (vector 1) 2 (pos 7 ∷ lentFrom 1 15) ∷
+    row givenBack 0 0 (pos 1 ∷ pos 7 ∷ []) 9 (lent 16) (vector 1) 3 (pos 7 ∷ lentFrom 1 15) ∷
+    row refilledThenCaptured 0 0 (pos 1 ∷ pos 7 ∷ []) 9 (lent 16) (integer (pos 1)) 7 (lent 16) ∷
+    -- a captured register is never emptied, also not by what fills it again; what one way alone fills, or what is read first: 10
+    row capturedThenUsed 0 0 (pos 0 ∷ []) 9 (lent 16) (refused 10 at 0) 0 (lent 16) ∷
+    row refilledOnOneWay 0 0 (neg 1 ∷ pos 1 ∷ pos 0 ∷ []) 9 (lent 16) (refused 10 at 0) 0 (lent 16) ∷
+    row readBeforeRefill 0 0 (pos 0 ∷ []) 9 (lent 16) (refused 10 at 0) 0 (lent 16) ∷
     -- one owned register given as owned and borrowed in one call: 8
     row twice 0 0 (pos 0 ∷ []) 9 (lent 16) (refused 8 at 26) 0 (lent 16) ∷
     -- reading a register that only a forced block assigned: 10

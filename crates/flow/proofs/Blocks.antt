@@ -19,7 +19,7 @@ use Rattle.program.specs.Program.{Instr, Program, instrOf, lineOf, program, Lin
 use Rattle.program.specs.Places.{viewAt, past, versionAt, blockAt, instrAt, blockPlace, isLine}
 use Rattle.program.proofs.Views.{line-view, line-none, is-lined}
 use Rattle.program.proofs.Lookups.{block-found, block-missing}
-use Rattle.rules.specs.Actions.{Action, _then_, reading, assigning, promised, touch, actionOf, skipOf, Walk, join, here, walk}
+use Rattle.rules.specs.Actions.{Action, _then_, reading, promised, touch, actionOf, skipOf, Walk, join, here, walk}
 use Rattle.flow.specs.Masks.{masked, flowed}
 use Rattle.flow.specs.declared.Flowed.{Flowed}
 use Rattle.rules.specs.Walks.{blockAction, entered, acts, skipsOf}
@@ -32,7 +32,7 @@ use Rattle.rules.proofs.Walked.{walked-at, walked-missing}
 pub enters-same : (P : Program) (f g : ℕ → Option Action) (k : ℕ) (b : List ℕ) → (k ≡ kind.PROM → f (b ! 1) ≡ g (b ! 1)) → actionOf f (touch P (instrOf k b)) ≡ actionOf g (touch P (instrOf k b))
 unfolding actionOf touch instrOf Rows
 enters-same P f g k b h = choose-each (λ (i : Instr). actionOf f (touch P i) ≡ actionOf g (touch P i)) k _ _ refl
-    (λ e. refl, (λ e. refl, (λ e. refl, (λ e. refl, (λ e. refl, (λ e. refl, (λ e. refl, (λ e. refl, (λ e. refl, (λ e. refl, (λ e. refl, (λ e. refl, (λ e. ap (λ (o : Option Action). promised o then assigning (b ! 0 ∷ [])) (h e), (λ e. refl, (λ e. refl, (λ e. refl, (λ e. refl, (λ e. refl, (λ e. refl, tt)))))))))))))))))))
+    (λ e. refl, (λ e. refl, (λ e. refl, (λ e. refl, (λ e. refl, (λ e. refl, (λ e. refl, (λ e. refl, (λ e. refl, (λ e. refl, (λ e. refl, (λ e. refl, (λ e. ap (λ (o : Option Action). promised (those 16 (b ! 0 ∷ [])) o) (h e), (λ e. refl, (λ e. refl, (λ e. refl, (λ e. refl, (λ e. refl, (λ e. refl, tt)))))))))))))))))))
 
 -- only SKIP passes over instructions
 pub skip-none : (P : Program) (k : ℕ) (b : List ℕ) → (k ≡ kind.SKIP → ⊥) → none ≡ skipsOf P (instrOf k b)

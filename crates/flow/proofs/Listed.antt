@@ -13,13 +13,13 @@ use Rattle.layout.proofs.Fields.{length-every, every-at, fields-at}
 use Rattle.layout.specs.declared.Found.the-variants.{Nothing, At}
 use Rattle.program.specs.Places.{versionAt, versionPlace}
 use Rattle.program.proofs.Lookups.{version-found, version-missing}
-use mathlib.Core.Option.{none, some}
+use mathlib.Core.Option.{Option, none, some}
 use Rattle.sets.specs.Sets.{Set, empty, only, those, both, _∪_, setOf}
 use Rattle.sets.proofs.Masks.{set-empty}
 use Rattle.sets.proofs.Members.{union-assoc}
 use Rattle.program.specs.Program.{Argument, Version, arguments, parameterTypes, beside, program, findVersion}
 use Rattle.rules.specs.Types.{ownershipOf, isOwned}
-use Rattle.rules.specs.Actions.{_then_, reading, emptying, assigning, emptied}
+use Rattle.rules.specs.Actions.{Action, touching, promised, emptied}
 use Rattle.flow.specs.Masks.{masked}
 
 -- ---- unions
@@ -203,11 +203,11 @@ unfolding those
 none-named = set-empty 16
 
 pub touched : (rs us ds : List ℕ) (r u d : ℕ) → setOf 16 r ≡ those 16 rs → setOf 16 u ≡ those 16 us → setOf 16 d ≡ those 16 ds
-    → (some (masked r 0 0 0) then some (masked 0 0 u 0) then some (masked 0 d 0 0)) ≡ (reading rs then emptying us then assigning ds)
+    → some (masked r d u 0) ≡ touching rs us ds
 touched rs us ds r u d e f g = simp (e, f, g, set-empty)
 
-pub assigned : (ds : List ℕ) (d : ℕ) → setOf 16 d ≡ those 16 ds → some (masked 0 d 0 0) ≡ assigning ds
-assigned ds d e = simp (e, set-empty)
+pub promised-at : (w w′ : Set) (o : Option Action) → w ≡ w′ → promised w o ≡ promised w′ o
+promised-at w w′ o e = rw e refl
 
 -- the version that a CALL names, as the code looks it up
 module _ (s : List ℕ) (p : ℕ) {f w : ℕ} (ef : f ≡ bodyAt s p ! 1) (ew : w ≡ bodyAt s p ! 2) where

@@ -6,14 +6,12 @@ ghost use Rattle.flow.specs.Masks.{masked, act, flowed};
 use crate::Action;
 use crate::Flowed;
 
-/// `a` then `b`: what `a` empties `b` may not touch, and what `a` captures `b` may not empty.
+/// `a` then the single instruction `b`: what `a` empties `b` may assign but not read, empty or capture, and what `a` captures `b` may
+/// not empty.
 pub fn follow(a: Action, b: Action) -> Flowed
     ensures { λ r. ⌜ flowed r ≡ (some (act a) then some (act b)) ⌝ }
 {
     if sets::meets(a.empties, b.reads) {
-        return Flowed::Refused;
-    }
-    if sets::meets(a.empties, b.assigns) {
         return Flowed::Refused;
     }
     if sets::meets(a.empties, b.empties) {
@@ -28,7 +26,7 @@ pub fn follow(a: Action, b: Action) -> Flowed
     Flowed::Allowed(Action {
         reads: sets::union(a.reads, sets::difference(b.reads, a.assigns)),
         assigns: sets::union(a.assigns, b.assigns),
-        empties: sets::union(a.empties, b.empties),
+        empties: sets::difference(sets::union(a.empties, b.empties), b.assigns),
         captures: sets::union(a.captures, b.captures),
     })
 }
@@ -83,33 +81,14 @@ pub fn reading(registers: u16) -> Flowed
     })
 }
 
-/// What only assigns registers.
-pub fn assigning(registers: u16) -> Flowed
-    ensures { λ r. ⌜ flowed r ≡ some (masked 0 registers 0 0) ⌝ }
-{
-    Flowed::Allowed(Action {
-        reads: 0,
-        assigns: registers,
-        empties: 0,
-        captures: 0,
-    })
-}
-
-/// What only empties registers.
-pub fn emptying(registers: u16) -> Flowed
-    ensures { λ r. ⌜ flowed r ≡ some (masked 0 0 registers 0) ⌝ }
-{
-    Flowed::Allowed(Action {
-        reads: 0,
-        assigns: 0,
-        empties: registers,
-        captures: 0,
-    })
-}
-
-/// What reads, then empties, then assigns registers.
+/// What reads, empties and assigns registers.
 pub fn touching(reads: u16, empties: u16, assigns: u16) -> Flowed
-    ensures { λ r. ⌜ flowed r ≡ (some (masked reads 0 0 0) then some (masked 0 0 empties 0) then some (masked 0 assigns 0 0)) ⌝ }
+    ensures { λ r. ⌜ flowed r ≡ some (masked reads assigns empties 0) ⌝ }
 {
-    chain(chain(reading(reads), emptying(empties)), assigning(assigns))
+    Flowed::Allowed(Action {
+        reads: reads,
+        assigns: assigns,
+        empties: empties,
+        captures: 0,
+    })
 }

@@ -9,7 +9,7 @@ ghost use Rattle.layout.specs.Kinds as kind;
 ghost use Rattle.sets.specs.Sets.{setOf, those};
 ghost use Rattle.program.specs.Program.{program, instrOf, arguments, given, findVersion};
 ghost use Rattle.program.specs.Places.{versionAt, instrAt, tableOf};
-ghost use Rattle.rules.specs.Actions.{_then_, reading, emptying, assigning, emptied, promised, touch, actionOf};
+ghost use Rattle.rules.specs.Actions.{reading, touching, emptied, promised, touch, actionOf};
 ghost use Rattle.flow.specs.Masks.{flowed, alone};
 use crate::Action;
 use crate::Flowed;
@@ -82,7 +82,7 @@ fn paired_owned(image: &[u8], p: usize) -> u16
 /// What reads `n` registers from the field `from` on, and then assigns that of the first field.
 fn plain(image: &[u8], p: usize, from: usize, n: usize) -> Flowed
     requires { ⌜ (from < 256) × (n < 256) ⌝ }
-    ensures { λ r. ⌜ flowed r ≡ (reading (fields (bodyAt (now (image .entry)) p) from n) then emptying [] then assigning (bodyAt (now (image .entry)) p ! 0 ∷ [])) ⌝ }
+    ensures { λ r. ⌜ flowed r ≡ touching (fields (bodyAt (now (image .entry)) p) from n) [] (bodyAt (now (image .entry)) p ! 0 ∷ []) ⌝ }
 {
     actions::touching(named(image, p, from, 1, n), 0, named(image, p, 0, 1, 1))
 }
@@ -90,27 +90,27 @@ fn plain(image: &[u8], p: usize, from: usize, n: usize) -> Flowed
 /// What only reads `n` registers from the field `from` on, each `step` fields behind the one before.
 fn reads_only(image: &[u8], p: usize, from: usize, step: usize, n: usize) -> Flowed
     requires { ⌜ (from < 256) × (step < 256) × (n < 256) ⌝ }
-    ensures { λ r. ⌜ flowed r ≡ (reading (every (bodyAt (now (image .entry)) p) from step n) then emptying [] then assigning []) ⌝ }
+    ensures { λ r. ⌜ flowed r ≡ touching (every (bodyAt (now (image .entry)) p) from step n) [] [] ⌝ }
 {
     actions::touching(named(image, p, from, step, n), 0, 0)
 }
 
 /// USE: what it reads it empties.
 fn used(image: &[u8], p: usize) -> Flowed
-    ensures { λ r. ⌜ flowed r ≡ (reading (bodyAt (now (image .entry)) p ! 1 ∷ []) then emptying (bodyAt (now (image .entry)) p ! 1 ∷ []) then assigning (bodyAt (now (image .entry)) p ! 0 ∷ [])) ⌝ }
+    ensures { λ r. ⌜ flowed r ≡ touching (bodyAt (now (image .entry)) p ! 1 ∷ []) (bodyAt (now (image .entry)) p ! 1 ∷ []) (bodyAt (now (image .entry)) p ! 0 ∷ []) ⌝ }
 {
     let a = named(image, p, 1, 1, 1);
     actions::touching(a, a, named(image, p, 0, 1, 1))
 }
 
-/// What PROM yields, by what its block does: it captures all that the block touches.
-fn promised(block: Flowed) -> Flowed
-    ensures { λ r. ⌜ flowed r ≡ promised (flowed block) ⌝ }
+/// What PROM yields, by what its block does: it captures all that the block touches, and assigns `register`.
+fn promised(block: Flowed, register: u16) -> Flowed
+    ensures { λ r. ⌜ flowed r ≡ promised (setOf REGISTERS register) (flowed block) ⌝ }
 {
     match block {
         Flowed::Allowed(a) => Flowed::Allowed(Action {
             reads: a.reads,
-            assigns: 0,
+            assigns: register,
             empties: a.empties,
             captures: sets::union(
                 sets::union(sets::union(a.reads, a.assigns), a.empties),
@@ -121,14 +121,11 @@ fn promised(block: Flowed) -> Flowed
     }
 }
 
-/// PROM: what its block does, promised, and then the register is assigned.
+/// PROM: what its block does, promised; it assigns its register.
 fn promising(image: &[u8], p: usize, entered: Flowed) -> Flowed
     ensures { λ r. ⌜ flowed r ≡ actionOf (λ block. flowed entered) (touch (program (records (now (image .entry)))) (instrOf kind.PROM (bodyAt (now (image .entry)) p))) ⌝ }
 {
-    actions::chain(
-        promised(entered),
-        actions::assigning(named(image, p, 0, 1, 1)),
-    )
+    promised(entered, named(image, p, 0, 1, 1))
 }
 
 /// The registers that the CALL at `p` empties: none where its version is not there.

@@ -2,7 +2,7 @@
 use mathlib.Core.Path.{_≡_, refl, sym, ap, _∙_, subst}
 use mathlib.Core.Logic.{_⊎_, inl, inr}
 use mathlib.Core.Option.{Option, none, some}
-use mathlib.Core.Bool.{Bool, true, false, cond, not, _&&_, _||_, true≢false}
+use mathlib.Core.Bool.{Bool, true, false, cond, not, _&&_, _||_, true≢false, false≢true}
 use Prim.Native.Nat.{ℕ, zero, suc}
 use native.Mathlib.Omega.{arith}
 use Rattle.sets.specs.Sets.{Set, has, empty, both, _∪_, _∖_, meets}
@@ -56,19 +56,18 @@ apart-has s t h r e = not-both (has s r) (has t r) (sym (has-both _&&_ refl s t 
 -- ---- A then A′: what it says of each register
 
 pub record Clear (a b : Action) : Type 0 where
-  pub emptied : (r : ℕ) → has (a .U) r ≡ true → (has (b .R) r ≡ false) × (has (b .W) r ≡ false) × (has (b .U) r ≡ false) × (has (b .C) r ≡ false)
+  pub emptied : (r : ℕ) → has (a .U) r ≡ true → (has (b .R) r ≡ false) × (has (b .U) r ≡ false) × (has (b .C) r ≡ false)
   pub captured : (r : ℕ) → has (a .C) r ≡ true → has (b .U) r ≡ false
 
 clash-clear : (a b : Action) → clash a b ≡ false → Clear a b
 unfolding clash
 clash-clear a b h =
-    let x4 = or-neither _ (meets (a .C) (b .U)) h in
-    let x3 = or-neither _ (meets (a .U) (b .C)) (x4 .0) in
-    let x2 = or-neither _ (meets (a .U) (b .U)) (x3 .0) in
-    let x1 = or-neither _ (meets (a .U) (b .W)) (x2 .0) in
+    let x3 = or-neither _ (meets (a .C) (b .U)) h in
+    let x2 = or-neither _ (meets (a .U) (b .C)) (x3 .0) in
+    let x1 = or-neither _ (meets (a .U) (b .U)) (x2 .0) in
     record {
-      emptied = λ r u. (apart-has (a .U) (b .R) (x1 .0) r u, apart-has (a .U) (b .W) (x1 .1) r u, apart-has (a .U) (b .U) (x2 .1) r u, apart-has (a .U) (b .C) (x3 .1) r u);
-      captured = λ r q. apart-has (a .C) (b .U) (x4 .1) r q;
+      emptied = λ r u. (apart-has (a .U) (b .R) (x1 .0) r u, apart-has (a .U) (b .U) (x1 .1) r u, apart-has (a .U) (b .C) (x2 .1) r u);
+      captured = λ r q. apart-has (a .C) (b .U) (x3 .1) r q;
     }
 
 -- c is what a then b does
@@ -76,7 +75,7 @@ pub record Follows (a b c : Action) : Type 0 where
   pub clear : Clear a b
   pub is-R : (r : ℕ) → has (c .R) r ≡ (has (a .R) r || (has (b .R) r && not (has (a .W) r)))
   pub is-W : (r : ℕ) → has (c .W) r ≡ (has (a .W) r || has (b .W) r)
-  pub is-U : (r : ℕ) → has (c .U) r ≡ (has (a .U) r || has (b .U) r)
+  pub is-U : (r : ℕ) → has (c .U) r ≡ ((has (a .U) r || has (b .U) r) && not (has (b .W) r))
   pub is-C : (r : ℕ) → has (c .C) r ≡ (has (a .C) r || has (b .C) r)
 
 joined-follows : (a b : Action) → Clear a b → Follows a b (joined a b)
@@ -85,7 +84,7 @@ joined-follows a b h = record {
   clear = h;
   is-R = λ r. has-union (a .R) (b .R ∖ a .W) r ∙ ap (λ (x : Bool). has (a .R) r || x) (has-minus (b .R) (a .W) r);
   is-W = has-union (a .W) (b .W);
-  is-U = has-union (a .U) (b .U);
+  is-U = λ r. has-minus (a .U ∪ b .U) (b .W) r ∙ ap (λ (x : Bool). x && not (has (b .W) r)) (has-union (a .U) (b .U) r);
   is-C = has-union (a .C) (b .C);
 }
 
@@ -119,17 +118,11 @@ module _ {a b c : Action} (f : Follows a b c) (r : ℕ) where
   pub first-assigns : has (a .W) r ≡ true → has (c .W) r ≡ true
   first-assigns h = f .is-W r ∙ or-left _ h
 
-  pub first-empties : has (a .U) r ≡ true → has (c .U) r ≡ true
-  first-empties h = f .is-U r ∙ or-left _ h
-
   pub first-captures : has (a .C) r ≡ true → has (c .C) r ≡ true
   first-captures h = f .is-C r ∙ or-left _ h
 
   pub second-assigns : has (b .W) r ≡ true → has (c .W) r ≡ true
   second-assigns h = f .is-W r ∙ or-right (has (a .W) r) h
-
-  pub second-empties : has (b .U) r ≡ true → has (c .U) r ≡ true
-  second-empties h = f .is-U r ∙ or-right (has (a .U) r) h
 
   pub second-captures : has (b .C) r ≡ true → has (c .C) r ≡ true
   second-captures h = f .is-C r ∙ or-right (has (a .C) r) h
@@ -143,4 +136,8 @@ module _ {a b c : Action} (f : Follows a b c) (r : ℕ) where
 
 -- what is not emptied behind both, and which the second does not assign, was not emptied before, and the second does not empty it
 pub stays-emptied : {a b c : Action} → Follows a b c → (r : ℕ) → has (b .W) r ≡ false → has (c .U) r ≡ false → (has (a .U) r ≡ false) × (has (b .U) r ≡ false)
-stays-emptied {a} {b} {c} f r w u = or-neither (has (a .U) r) (has (b .U) r) (sym (f .is-U r) ∙ u)
+stays-emptied {a} {b} {c} f r w u = or-neither (has (a .U) r) (has (b .U) r) (go (has (a .U) r || has (b .U) r) (sym (f .is-U r) ∙ u))
+  where
+    go : (x : Bool) → (x && not (has (b .W) r)) ≡ false → x ≡ false
+    go true h = absurd (false≢true (sym h ∙ rw w refl))
+    go false h = refl

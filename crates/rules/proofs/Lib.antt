@@ -1,3 +1,4 @@
+pub mod Before
 pub mod Follows
 pub mod Needs
 pub mod Prefixes

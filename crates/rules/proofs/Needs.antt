@@ -9,7 +9,7 @@ use Rattle.sets.specs.Sets.{has, those}
 use Rattle.program.specs.Program.{Line, Block, Version, Program}
 use Rattle.rules.specs.Actions.{Action, here}
 use Rattle.rules.specs.Walks.{acts, skipsOf, walkTo}
-use Rattle.rules.proofs.Follows.{first-empties}
+use Rattle.rules.proofs.Follows.{Follows}
 use Rattle.rules.proofs.Ways.{some-is}
 use Rattle.rules.proofs.Prefixes.{Does, met, met-end, lands}
 
@@ -22,6 +22,10 @@ pub data Needed (P : Program) (v : Version) (b : ℕ) (x : Block) (r : ℕ) : �
 
 clash : {A : Type 0} {t : Bool} → t ≡ true → t ≡ false → A
 clash h g = absurd (true≢false (sym h ∙ g))
+
+-- what is emptied before an instruction that does not assign it is emptied behind it
+still-emptied : {a b c : Action} → Follows a b c → (r : ℕ) → has (a .U) r ≡ true → has (b .W) r ≡ false → has (c .U) r ≡ true
+still-emptied f r u w = f .is-U r ∙ rw (u, w) refl
 
 module _ {P : Program} {v : Version} {b : ℕ} {x : Block} {c : Action} (h : Does P v b x c) (r : ℕ) where
   -- THE LAW: what is emptied is not needed
@@ -36,8 +40,10 @@ module _ {P : Program} {v : Version} {b : ℕ} {x : Block} {c : Action} (h : Doe
       clash g (ap (λ (y : Action). has (y .R) r) z ∙ m .follows .clear .emptied r u .0)
   spent i done e u (later _ l now n q g k) =
       let m = met h i l done n e in
-      spent (i + 1) (m .next) (m .is-next) (m .joins .empties r (first-empties (m .follows) r u)) k
+      let z : now ≡ m .now = some-is (sym q ∙ m .is-now) in
+      spent (i + 1) (m .next) (m .is-next) (m .joins .empties r (still-emptied (m .follows) r u (sym (ap (λ (y : Action). has (y .W) r) z) ∙ g))) k
   spent i done e u (beyond _ n l now o q g s k) =
       let m = met h i l done o e in
+      let z : now ≡ m .now = some-is (sym q ∙ m .is-now) in
       let f = lands h i n l done o s m in
-      spent (i + 1 + n) (f .far) (f .is-far) (f .joins .empties r (first-empties (m .follows) r u)) k
+      spent (i + 1 + n) (f .far) (f .is-far) (f .joins .empties r (still-emptied (m .follows) r u (sym (ap (λ (y : Action). has (y .W) r) z) ∙ g))) k

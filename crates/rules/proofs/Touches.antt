@@ -16,7 +16,7 @@ use Rattle.sets.proofs.Members.{has-none}
 use Rattle.program.specs.Program.{Argument, Version, Program}
 use Rattle.program.specs.Search.{first}
 use Rattle.rules.specs.Types.{isOwned}
-use Rattle.rules.specs.Actions.{Action, _then_, ∅, reading, emptying, assigning, promised, emptied, reads_empties_assigns_, enters_assigns_, actionOf, bodyAction}
+use Rattle.rules.specs.Actions.{Action, ∅, promised, emptied, reads_empties_assigns_, enters_assigns_, actionOf, bodyAction}
 use Rattle.rules.specs.Flows.{flows}
 use Rattle.rules.proofs.Follows.{Follows, Parts, then-parts, then-follows, or-left, or-right, or-either, has-empty, has-union}
 
@@ -85,35 +85,12 @@ pub record Touched (rs us ds : List ℕ) (a : Action) : Type 0 where
   pub is-W : (r : ℕ) → has (a .W) r ≡ has (those 16 ds) r
   pub is-U : (r : ℕ) → has (a .U) r ≡ has (those 16 us) r
   pub is-C : (r : ℕ) → has (a .C) r ≡ false
-  pub apart : (r : ℕ) → has (those 16 us) r ≡ true → has (those 16 ds) r ≡ false
-
-reads-no-more : (x : Bool) (w : Set) (r : ℕ) → (x || (has ∅ r && not (has w r))) ≡ x
-reads-no-more x w r = rw (has-empty 16 r) (or-false x)
-
-no-more : (x : Bool) (r : ℕ) → (x || has ∅ r) ≡ x
-no-more x r = rw (has-empty 16 r) (or-false x)
 
 pub touched-by : (enter : ℕ → Option Action) (rs us ds : List ℕ) (a : Action) → actionOf enter (reads rs empties us assigns ds) ≡ some a → Touched rs us ds a
 unfolding actionOf
-touched-by enter rs us ds a h = record {
-  is-R = λ r. g .is-R r ∙ reads-no-more (has (outer .first .R) r) (outer .first .W) r ∙ f .is-R r ∙ reads-no-more (has (those 16 rs) r) ∅ r;
-  is-W = λ r. g .is-W r ∙ rw (f .is-W r, has-empty);
-  is-U = λ r. g .is-U r ∙ no-more (has (outer .first .U) r) r ∙ f .is-U r ∙ rw (has-empty 16 r);
-  is-C = λ r. g .is-C r ∙ rw (f .is-C r, has-empty);
-  apart = λ r u. g .clear .emptied r (f .is-U r ∙ or-right (has _ r) u) .1;
-}
-  where
-    outer : Parts (reading rs then emptying us) (assigning ds) a
-    outer = then-parts (reading rs then emptying us) (assigning ds) a h
-
-    f : Follows (record { R = those 16 rs; W = ∅; U = ∅; C = ∅ }) (record { R = ∅; W = ∅; U = those 16 us; C = ∅ }) (outer .first)
-    f = then-follows _ _ (outer .first) (outer .is-first)
-
-    same : outer .second ≡ record { R = ∅; W = those 16 ds; U = ∅; C = ∅ }
-    same = cc (outer .is-second)
-
-    g : Follows (outer .first) (record { R = ∅; W = those 16 ds; U = ∅; C = ∅ }) a
-    g = rw same at (outer .follows)
+touched-by enter rs us ds a h =
+    let e : a ≡ record { R = those 16 rs; W = those 16 ds; U = those 16 us; C = ∅ } = cc in
+    record { is-R = λ r. rw e refl; is-W = λ r. rw e refl; is-U = λ r. rw e refl; is-C = λ r. rw e (has-empty 16 r) }
 
 -- ---- PROM, by what its block does
 
@@ -125,36 +102,15 @@ pub record Promises (enter : ℕ → Option Action) (block : ℕ) (ds : List ℕ
   pub is-U : (r : ℕ) → has (a .U) r ≡ has (inner .U) r
   pub is-C : (r : ℕ) → has (a .C) r ≡ (has (inner .R) r || has (inner .W) r || has (inner .U) r || has (inner .C) r)
 
-promised-some : (o : Option Action) (p : Action) → promised o ≡ some p → (a : Action) × (o ≡ some a) × (p ≡ record { R = a .R; W = ∅; U = a .U; C = a .R ∪ a .W ∪ a .U ∪ a .C })
-unfolding promised
-promised-some none p h = let z : _≡_ {A = ℕ} 0 1 = cc in absurd (omega arith)
-promised-some (some a) p h = (a, refl, cc)
-
 pub promises-by : (enter : ℕ → Option Action) (block : ℕ) (ds : List ℕ) (a : Action) → actionOf enter (enters block assigns ds) ≡ some a → Promises enter block ds a
-unfolding actionOf
-promises-by enter block ds a h = record {
-  inner = i;
-  is-inner = p .1;
-  is-R = λ r. g .is-R r ∙ reads-no-more (has (i .R) r) ∅ r;
-  is-W = λ r. g .is-W r ∙ rw has-empty;
-  is-U = λ r. g .is-U r ∙ no-more (has (i .U) r) r;
-  is-C = λ r. g .is-C r ∙ no-more (has (i .R ∪ i .W ∪ i .U ∪ i .C) r) r ∙ simp has-union;
-}
+unfolding actionOf promised
+promises-by enter block ds a h = go (enter block) refl h
   where
-    outer : Parts (promised (enter block)) (assigning ds) a
-    outer = then-parts (promised (enter block)) (assigning ds) a h
-
-    p : (b : Action) × (enter block ≡ some b) × (outer .first ≡ record { R = b .R; W = ∅; U = b .U; C = b .R ∪ b .W ∪ b .U ∪ b .C })
-    p = promised-some (enter block) (outer .first) (outer .is-first)
-
-    i : Action
-    i = p .0
-
-    same : outer .second ≡ record { R = ∅; W = those 16 ds; U = ∅; C = ∅ }
-    same = cc (outer .is-second)
-
-    g : Follows (record { R = i .R; W = ∅; U = i .U; C = i .R ∪ i .W ∪ i .U ∪ i .C }) (record { R = ∅; W = those 16 ds; U = ∅; C = ∅ }) a
-    g = rw (p .2, same) at (outer .follows)
+    go : (o : Option Action) → enter block ≡ o → promised (those 16 ds) o ≡ some a → Promises enter block ds a
+    go none e g = let z : _≡_ {A = ℕ} 0 1 = cc in absurd (omega arith)
+    go (some i) e g =
+        let q : a ≡ record { R = i .R; W = those 16 ds; U = i .U; C = i .R ∪ i .W ∪ i .U ∪ i .C } = cc in
+        record { inner = i; is-inner = e; is-R = λ r. rw q refl; is-W = λ r. rw q refl; is-U = λ r. rw q refl; is-C = λ r. rw q (simp has-union refl) }
 
 -- ---- question 10: the body reads only parameters before they are assigned
 

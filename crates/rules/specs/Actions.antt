@@ -10,20 +10,20 @@ use Rattle.sets.specs.Sets.{Set, empty, those, _∪_, _∩_, _∖_, meets}
 use Rattle.program.specs.Program.{Argument, Instr, LIT, MOVE, USE, DUP, VEC, LEN, GET, SET, ARITH, SELECT, CAST, NAMED, STORE, PROM, FORCE, PEEK, POKE, CALL, DISPATCH, SKIP, Line, Block, Version, Program, findVersion, given}
 use Rattle.rules.specs.Types.{isOwned}
 
--- four sets: R read before assigned, W assigned, U emptied, C captured
+-- four sets: R read before assigned, W assigned, U emptied and not filled again, C captured
 pub record Action : Type 0 where
   pub R : Set
   pub W : Set
   pub U : Set
   pub C : Set
 
--- is A then A′ not allowed?
+-- is A then the single instruction A′ not allowed? It may assign what A emptied, but not read, empty or capture it, nor empty what A captured
 unfoldable pub clash : Action → Action → Bool
-clash a b = meets (a .U) (b .R) || meets (a .U) (b .W) || meets (a .U) (b .U) || meets (a .U) (b .C) || meets (a .C) (b .U)
+clash a b = meets (a .U) (b .R) || meets (a .U) (b .U) || meets (a .U) (b .C) || meets (a .C) (b .U)
 
--- the result of A then A′
+-- the result of A then the single instruction A′: U loses what A′ assigns, also where A′ emptied it
 unfoldable pub joined : Action → Action → Action
-joined a b = record { R = a .R ∪ (b .R ∖ a .W); W = a .W ∪ b .W; U = a .U ∪ b .U; C = a .C ∪ b .C }
+joined a b = record { R = a .R ∪ (b .R ∖ a .W); W = a .W ∪ b .W; U = (a .U ∪ b .U) ∖ b .W; C = a .C ∪ b .C }
 
 -- A then A′, where all is allowed
 infixl 40 _then_
@@ -40,18 +40,14 @@ abbrev pub ∅ : Set
 abbrev pub reading : List ℕ → Option Action
 reading rs = some (record { R = those REGISTERS rs; W = ∅; U = ∅; C = ∅ })
 
--- what only empties registers
-abbrev pub emptying : List ℕ → Option Action
-emptying rs = some (record { R = ∅; W = ∅; U = those REGISTERS rs; C = ∅ })
+-- what reads, empties and assigns registers
+abbrev pub touching : List ℕ → List ℕ → List ℕ → Option Action
+touching rs us ds = some (record { R = those REGISTERS rs; W = those REGISTERS ds; U = those REGISTERS us; C = ∅ })
 
--- what only assigns registers
-abbrev pub assigning : List ℕ → Option Action
-assigning rs = some (record { R = ∅; W = those REGISTERS rs; U = ∅; C = ∅ })
-
--- what PROM yields, by its block's action
-unfoldable pub promised : Option Action → Option Action
-promised none = none
-promised (some a) = some (record { R = a .R; W = ∅; U = a .U; C = a .R ∪ a .W ∪ a .U ∪ a .C })
+-- what PROM yields, by its block's action, where it assigns w
+unfoldable pub promised : Set → Option Action → Option Action
+promised w none = none
+promised w (some a) = some (record { R = a .R; W = w; U = a .U; C = a .R ∪ a .W ∪ a .U ∪ a .C })
 
 -- an instruction reads its operands, then empties, then assigns; PROM enters a block, then assigns; SKIP reads, and may pass over n instructions
 infix 20 reads_empties_assigns_
@@ -92,8 +88,8 @@ touch P (SKIP a n) = reads a ∷ [] skips n
 
 -- what an instruction does, where `enter` says what a block does
 unfoldable pub actionOf : (ℕ → Option Action) → Touch → Option Action
-actionOf enter (reads rs empties us assigns ds) = reading rs then emptying us then assigning ds
-actionOf enter (enters block assigns ds) = promised (enter block) then assigning ds
+actionOf enter (reads rs empties us assigns ds) = touching rs us ds
+actionOf enter (enters block assigns ds) = promised (those REGISTERS ds) (enter block)
 actionOf enter (reads rs skips n) = reading rs
 
 -- how many instructions it may pass over

@@ -29,11 +29,11 @@ has-none (false ∷ s) h (suc r) = has-none s h r
 
 -- unions, in any order
 
-none-left : (t : Set) → map (_||_ false) t ≡ t
+pub none-left : (t : Set) → map (_||_ false) t ≡ t
 none-left [] = refl
 none-left (b ∷ t) = ap (λ (l : Set). b ∷ l) (none-left t)
 
-none-right : (s : Set) → map (λ x. x || false) s ≡ s
+pub none-right : (s : Set) → map (λ x. x || false) s ≡ s
 none-right [] = refl
 none-right (a ∷ s) = ap₂ _∷_ (or-false a) (none-right s)
 

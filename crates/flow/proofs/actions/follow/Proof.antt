@@ -12,7 +12,7 @@ meets-requires c κs = search needs
 returns : tie.Need-returns
 unfolding flowed _then_ clash
 returns c =
-    simp (sym ((c .before .meets) .ensures) ∙ (c .if1) .taken)
+    simp (sym ((c .before .meets) .ensures) ∙ ((c .if1) .taken))
 
 meets-requires-2 : tie.Need-meets-requires-2
 meets-requires-2 c κs = search needs
@@ -20,7 +20,7 @@ meets-requires-2 c κs = search needs
 returns-2 : tie.Need-returns-2
 unfolding flowed _then_ clash
 returns-2 c =
-    simp (sym ((c .before .before .before .meets) .ensures) ∙ (c .before .before .if1) .left, sym ((c .before .meets2) .ensures) ∙ (c .if2) .taken)
+    simp (sym ((c .before .before .before .meets) .ensures) ∙ ((c .before .before .if1) .left), sym ((c .before .meets2) .ensures) ∙ ((c .if2) .taken))
 
 meets-requires-3 : tie.Need-meets-requires-3
 meets-requires-3 c κs = search needs
@@ -28,7 +28,7 @@ meets-requires-3 c κs = search needs
 returns-3 : tie.Need-returns-3
 unfolding flowed _then_ clash
 returns-3 c =
-    simp (sym ((c .before .before .before .before .before .meets) .ensures) ∙ (c .before .before .before .before .if1) .left, sym ((c .before .before .before .meets2) .ensures) ∙ (c .before .before .if2) .left, sym ((c .before .meets3) .ensures) ∙ (c .if3) .taken)
+    simp (sym ((c .before .before .before .before .before .meets) .ensures) ∙ ((c .before .before .before .before .if1) .left), sym ((c .before .before .before .meets2) .ensures) ∙ ((c .before .before .if2) .left), sym ((c .before .meets3) .ensures) ∙ ((c .if3) .taken))
 
 meets-requires-4 : tie.Need-meets-requires-4
 meets-requires-4 c κs = search needs
@@ -36,15 +36,7 @@ meets-requires-4 c κs = search needs
 returns-4 : tie.Need-returns-4
 unfolding flowed _then_ clash
 returns-4 c =
-    simp (sym ((c .before .before .before .before .before .before .before .meets) .ensures) ∙ (c .before .before .before .before .before .before .if1) .left, sym ((c .before .before .before .before .before .meets2) .ensures) ∙ (c .before .before .before .before .if2) .left, sym ((c .before .before .before .meets3) .ensures) ∙ (c .before .before .if3) .left, sym ((c .before .meets4) .ensures) ∙ (c .if4) .taken)
-
-meets-requires-5 : tie.Need-meets-requires-5
-meets-requires-5 c κs = search needs
-
-returns-5 : tie.Need-returns-5
-unfolding flowed _then_ clash
-returns-5 c =
-    simp (sym ((c .before .before .before .before .before .before .before .before .before .meets) .ensures) ∙ (c .before .before .before .before .before .before .before .before .if1) .left, sym ((c .before .before .before .before .before .before .before .meets2) .ensures) ∙ (c .before .before .before .before .before .before .if2) .left, sym ((c .before .before .before .before .before .meets3) .ensures) ∙ (c .before .before .before .before .if3) .left, sym ((c .before .before .before .meets4) .ensures) ∙ (c .before .before .if4) .left, sym ((c .before .meets5) .ensures) ∙ (c .if5) .taken)
+    simp (sym ((c .before .before .before .before .before .before .before .meets) .ensures) ∙ ((c .before .before .before .before .before .before .if1) .left), sym ((c .before .before .before .before .before .meets2) .ensures) ∙ ((c .before .before .before .before .if2) .left), sym ((c .before .before .before .meets3) .ensures) ∙ ((c .before .before .if3) .left), sym ((c .before .meets4) .ensures) ∙ ((c .if4) .taken))
 
 difference-requires : tie.Need-difference-requires
 difference-requires c κs = search needs
@@ -58,13 +50,16 @@ union-requires-2 c κs = search needs
 union-requires-3 : tie.Need-union-requires-3
 union-requires-3 c κs = search needs
 
+difference-requires-2 : tie.Need-difference-requires-2
+difference-requires-2 c κs = search needs
+
 union-requires-4 : tie.Need-union-requires-4
 union-requires-4 c κs = search needs
 
-returns-6 : tie.Need-returns-6
+returns-5 : tie.Need-returns-5
 unfolding flowed _then_ clash joined
-returns-6 c =
-    simp (sym ((c .before .before .before .before .before .before .before .before .before .before .before .before .before .before .meets) .ensures) ∙ (c .before .before .before .before .before .before .before .before .before .before .before .before .before .if1) .left, sym ((c .before .before .before .before .before .before .before .before .before .before .before .before .meets2) .ensures) ∙ (c .before .before .before .before .before .before .before .before .before .before .before .if2) .left, sym ((c .before .before .before .before .before .before .before .before .before .before .meets3) .ensures) ∙ (c .before .before .before .before .before .before .before .before .before .if3) .left, sym ((c .before .before .before .before .before .before .before .before .meets4) .ensures) ∙ (c .before .before .before .before .before .before .before .if4) .left, sym ((c .before .before .before .before .before .before .meets5) .ensures) ∙ (c .before .before .before .before .before .if5) .left, (c .before .before .before .union) .ensures, (c .before .before .before .before .difference) .ensures, (c .before .before .union2) .ensures, (c .before .union3) .ensures, (c .union4) .ensures)
+returns-5 c =
+    simp (sym ((c .before .before .before .before .before .before .before .before .before .before .before .before .before .meets) .ensures) ∙ ((c .before .before .before .before .before .before .before .before .before .before .before .before .if1) .left), sym ((c .before .before .before .before .before .before .before .before .before .before .before .meets2) .ensures) ∙ ((c .before .before .before .before .before .before .before .before .before .before .if2) .left), sym ((c .before .before .before .before .before .before .before .before .before .meets3) .ensures) ∙ ((c .before .before .before .before .before .before .before .before .if3) .left), sym ((c .before .before .before .before .before .before .before .meets4) .ensures) ∙ ((c .before .before .before .before .before .before .if4) .left), ((c .before .before .before .before .union) .ensures), ((c .before .before .before .before .before .difference) .ensures), ((c .before .before .before .union2) .ensures), ((c .before .difference2) .ensures), ((c .before .before .union3) .ensures), (c .union4) .ensures)
 
 pub follow-spec : {M : Type 1} → statement M
 follow-spec =
@@ -78,11 +73,10 @@ follow-spec =
     returns-3
     meets-requires-4
     returns-4
-    meets-requires-5
-    returns-5
     difference-requires
     union-requires
     union-requires-2
     union-requires-3
+    difference-requires-2
     union-requires-4
-    returns-6)
+    returns-5)

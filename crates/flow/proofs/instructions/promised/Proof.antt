@@ -3,7 +3,6 @@ use Rattle.flow.proofs.instructions.promised.Statement.{statement}
 use Rattle.flow.proofs.instructions.promised.Tie as tie
 use Rattle.rules.specs.Actions.{promised}
 use Rattle.flow.specs.Masks.{flowed}
-use Rattle.sets.proofs.Masks.{set-empty}
 use borrow.Author.Needs.{needs}
 
 enum-known-block : tie.Need-enum-known-block
@@ -24,7 +23,7 @@ enum-told c = search needs
 returns : tie.Need-returns
 unfolding flowed promised
 returns c =
-    simp ((c .before .before .before .before .block) .given .1, (c .before .before .union) .ensures, (c .before .union2) .ensures, (c .union3) .ensures, set-empty)
+    simp ((c .before .before .before .before .block) .given .1, (c .before .before .union) .ensures, (c .before .union2) .ensures, (c .union3) .ensures)
 
 returns-2 : tie.Need-returns-2
 unfolding flowed promised
