@@ -151,3 +151,32 @@ pub fn emptied_on_one_way(read: &str) -> String {
              r1 = len {read}"
     )
 }
+
+/// A register that is filled again by the instruction that empties it: USE.
+pub const USE_INTO_ITSELF: &str = "
+    version 0.0(r0: own vector) -> own vector
+      block 0 quiet -> r0
+        r0 = use r0
+";
+
+/// The same by a call.
+pub const CALL_INTO_ITSELF: &str = "
+    version 0.0(r0: own vector) -> own vector
+      block 0 quiet -> r0
+        r0 = call 1.0(r0)
+    version 1.0(r0: own vector) -> own vector
+      block 0 quiet -> r0
+";
+
+/// A body over r0, which is an owned vector, r1, an integer, and r2 and r3,
+/// which nothing assigned; block 1 reads r0.
+pub fn filling(instructions: &str) -> String {
+    format!(
+        "version 0.0(r0: own vector, r1: int) -> int
+           registers r2: own vector, r3: quiet promise
+           block 0 quiet -> r1
+             {instructions}
+           block 1 quiet -> r1
+             r1 = len r0"
+    )
+}

@@ -1,9 +1,9 @@
 //! The cases that the paper names, with verdicts and texts worked out by hand.
 
 use cases::{
-    assigned_on_one_way, calling_with, emptied_on_one_way, emptying_after, image, resulting,
-    returning, skipping_inside, CALLS_ITSELF, DIVISION, DUP_AND_SET, IDENTITY, SET_ON_SHARED,
-    SKIPS_NONE, SKIPS_ONE,
+    assigned_on_one_way, calling_with, emptied_on_one_way, emptying_after, filling, image,
+    resulting, returning, skipping_inside, CALLS_ITSELF, CALL_INTO_ITSELF, DIVISION, DUP_AND_SET,
+    IDENTITY, SET_ON_SHARED, SKIPS_NONE, SKIPS_ONE, USE_INTO_ITSELF,
 };
 use differential::comparison::{assert_report, assert_verdict};
 use differential::edges::{identities, EVERY_INSTRUCTION};
@@ -246,4 +246,54 @@ fn a_register_that_one_way_alone_empties_is_10_where_it_is_read() {
     refuses(&image(&emptied_on_one_way("r0")), 10, 0);
     // Reads r0, r1, r2; assigns r1, for r3 is assigned on one way; empties r0.
     accepts(&image(&emptied_on_one_way("r2")), &["0.0 3 1 1 0"]);
+}
+
+#[test]
+fn an_instruction_may_fill_the_register_that_it_empties() {
+    // Reads r0 and assigns it; nothing is left empty.
+    accepts(&image(USE_INTO_ITSELF), &["0.0 1 1 0 0"]);
+    accepts(&image(CALL_INTO_ITSELF), &["0.0 1 1 0 0", "1.0 1 0 0 0"]);
+}
+
+#[test]
+fn the_report_counts_as_emptied_what_is_still_empty_at_the_end() {
+    // Each reads r0 and r1; the promise captures r0 and r1.
+    let emptied = "r0 = use r0\nr3 = prom 1";
+    accepts(&image(&filling(emptied)), &["0.0 2 2 0 2"]);
+    let chain = "r2 = use r0\nr0 = use r2\nr3 = prom 1";
+    accepts(&image(&filling(chain)), &["0.0 2 3 1 2"]);
+}
+
+#[test]
+fn a_register_may_be_captured_after_it_is_filled_again_and_not_before() {
+    let after = "r2 = use r0\nr0 = vec []\nr3 = prom 1";
+    accepts(&image(&filling(after)), &["0.0 2 3 0 2"]);
+    let before = "r2 = use r0\nr3 = prom 1\nr0 = vec []";
+    refuses(&image(&filling(before)), 10, 0);
+}
+
+#[test]
+fn a_captured_register_is_not_emptied_even_by_what_fills_it_again() {
+    refuses(&image(&filling("r3 = prom 1\nr0 = use r0")), 10, 0);
+    accepts(
+        &image(&filling("r3 = prom 1\nr0 = vec []")),
+        &["0.0 2 2 0 2"],
+    );
+}
+
+#[test]
+fn a_register_that_is_filled_again_on_one_way_alone_is_10_where_it_is_read() {
+    let part = "r2 = use r0\nskip 1 unless r1\nr0 = vec []";
+    refuses(&image(&filling(&format!("{part}\nr3 = prom 1"))), 10, 0);
+    let both = format!("{part}\nr0 = vec []\nr3 = prom 1");
+    accepts(&image(&filling(&both)), &["0.0 2 3 0 2"]);
+}
+
+#[test]
+fn a_register_that_is_read_between_its_emptying_and_its_filling_is_10() {
+    let between = "r3 = prom 1\nr2 = vec [r1]\nr0 = use r2\nr1 = len r2\nr2 = vec []";
+    refuses(&image(&filling(between)), 10, 0);
+    let behind = "r3 = prom 1\nr2 = vec [r1]\nr0 = use r2\nr2 = vec []\nr1 = len r2";
+    // Reads r0 and r1; assigns r3, r2, r0, r1.
+    accepts(&image(&filling(behind)), &["0.0 2 4 0 2"]);
 }

@@ -2,7 +2,8 @@
 //! engine, the reference and the tuned interpreter.
 
 use cases::{
-    image, CALLS_ITSELF, DIVISION, DUP_AND_SET, IDENTITY, SKIPS_NESTED, SKIPS_NONE, SKIPS_ONE,
+    filling, image, CALLS_ITSELF, CALL_INTO_ITSELF, DIVISION, DUP_AND_SET, IDENTITY, SKIPS_NESTED,
+    SKIPS_NONE, SKIPS_ONE, USE_INTO_ITSELF,
 };
 use differential::engine;
 use differential::tuned::{Code, Machine};
@@ -160,4 +161,21 @@ fn nested_skips_pass_over_their_own_parts() {
     gives(&image, &[-1, 0, -1, 1], 9, done(1), 3, &[]);
     gives(&image, &[-1, 1, -1, 0], 9, done(2), 5, &[]);
     gives(&image, &[-1, 1, -1, 1], 9, done(3), 6, &[]);
+}
+
+#[test]
+fn a_register_that_is_emptied_and_filled_by_one_instruction_keeps_the_vector() {
+    let answer = Answer::Ended(End::Vector(2));
+    gives(&image(USE_INTO_ITSELF), &[2, 4, 5], 9, answer, 2, &[4, 5]);
+    gives(&image(CALL_INTO_ITSELF), &[2, 4, 5], 9, answer, 3, &[4, 5]);
+}
+
+#[test]
+fn a_register_that_is_filled_again_holds_the_new_vector() {
+    // USE, VEC, PROM, FORCE, LEN and two block ends.
+    let text = filling("r2 = use r0\nr0 = vec [r1, r1, r1]\nr3 = prom 1\nr1 = force r3");
+    gives(&image(&text), &[1, 9, -1, 0], 9, done(3), 7, &[]);
+    // USE, USE, PROM, FORCE, LEN and two block ends.
+    let text = filling("r2 = use r0\nr0 = use r2\nr3 = prom 1\nr1 = force r3");
+    gives(&image(&text), &[1, 9, -1, 0], 9, done(1), 7, &[]);
 }

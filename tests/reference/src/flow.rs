@@ -15,7 +15,7 @@ pub struct Action {
     pub reads: Registers,
     /// W: assigned.
     pub assigns: Registers,
-    /// U: emptied.
+    /// U: emptied, and not filled again.
     pub empties: Registers,
     /// C: captured.
     pub captures: Registers,
@@ -30,26 +30,11 @@ impl Action {
         }
     }
 
-    /// The action that assigns these registers.
-    fn assigning(registers: impl IntoIterator<Item = Register>) -> Action {
-        Action {
-            assigns: registers.into_iter().collect(),
-            ..Action::default()
-        }
-    }
-
-    /// The action that empties these registers.
-    fn emptying(registers: impl IntoIterator<Item = Register>) -> Action {
-        Action {
-            empties: registers.into_iter().collect(),
-            ..Action::default()
-        }
-    }
-
-    /// A then A′: none unless U meets none of R′, W′, U′, C′ and C does not meet
-    /// U′; else (R ∪ (R′ − W), W ∪ W′, U ∪ U′, C ∪ C′).
+    /// A, then a single instruction A′: none unless U meets none of R′, U′, C′ and
+    /// C does not meet U′; else (R ∪ (R′ − W), W ∪ W′, (U ∪ U′) − W′, C ∪ C′), for
+    /// what the instruction assigns is filled again.
     pub fn then(mut self, next: &Action) -> Option<Action> {
-        let emptied_before = [&next.reads, &next.assigns, &next.empties, &next.captures];
+        let emptied_before = [&next.reads, &next.empties, &next.captures];
         let allowed = emptied_before
             .iter()
             .all(|set| self.empties.is_disjoint(set))
@@ -59,7 +44,7 @@ impl Action {
         }
         self.reads.extend(&next.reads - &self.assigns);
         self.assigns.extend(&next.assigns);
-        self.empties.extend(&next.empties);
+        self.empties = &(&self.empties | &next.empties) - &next.assigns;
         self.captures.extend(&next.captures);
         Some(self)
     }
@@ -134,7 +119,7 @@ fn part_action(
     Some(action)
 }
 
-/// The action of an instruction: it reads its operands, then empties, then assigns.
+/// The action of an instruction: it reads and captures, then empties, then assigns.
 fn instruction_action(
     program: &Program,
     version: &Version,
@@ -144,7 +129,10 @@ fn instruction_action(
         Instruction::Prom { block, .. } => block_action(program, version, block)?.delayed(),
         _ => Action::reading(instruction.reads()),
     };
-    before
-        .then(&Action::emptying(program.emptied(instruction)))?
-        .then(&Action::assigning(instruction.assigns()))
+    let emptied = program.emptied(instruction).into_iter().collect();
+    Some(Action {
+        assigns: instruction.assigns().into_iter().collect(),
+        empties: &before.empties | &emptied,
+        ..before
+    })
 }

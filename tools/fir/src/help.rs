@@ -60,10 +60,10 @@ usage: fir check FILE
 
 Puts the questions 1 to 7, 14 and 8 to 10 to an image. For an accepted one it
 prints, per version, `f.v R W U C`: how many registers its body reads before it
-assigns them, assigns, empties and captures; then `accepted` and the number of
-versions. For a refused one it prints a line: the question that says no, the
-offset of the first record that fails, the line of the text if FILE is one, and
-why.
+assigns them, assigns, leaves empty at its end, and captures; then `accepted` and
+the number of versions. For a refused one it prints a line: the question that says
+no, the offset of the first record that fails, the line of the text if FILE is
+one, and why.
 
 FILE holds the text form where its name ends in .fir, and an image's bytes
 otherwise; `-` is standard input, an image's bytes.

@@ -26,7 +26,7 @@ const GENERAL: [&str; 11] = [
     "no SKIP goes past the end of its block, or of a part that it stands in",
     "types fit",
     "a block's mark covers its effect",
-    "no register is read before it is assigned, used after it is emptied, or emptied after it is captured",
+    "no register is read before it is assigned, used while it is empty, or emptied after it is captured",
 ];
 
 /// Asserts what `fir check` says of an image; the question that refuses it.

@@ -86,16 +86,12 @@ fn question_10_names_what_is_used_after_it_is_emptied() {
         "r0 is emptied by CALL of 1.0 at 21 and read again by LEN at 30",
     );
     flows(
-        "r1 = call 1.0(r0)\nr0 = vec []",
-        "r0 is emptied by CALL of 1.0 at 21 and assigned again by VEC at 30",
+        "r1 = call 1.0(r0)\nr0 = use r0",
+        "r0 is emptied by CALL of 1.0 at 21 and read again by USE at 30",
     );
     flows(
         "r1 = call 1.0(r0)\nr3 = prom 1\nblock 1 quiet -> r1\nr1 = len r0",
         "r0 is emptied by CALL of 1.0 at 21 and read again by LEN at 43 in block 1",
-    );
-    flows(
-        "r0 = use r0",
-        "r0 is emptied and then assigned by USE at 21",
     );
 }
 
@@ -104,6 +100,42 @@ fn question_10_names_what_is_emptied_after_a_promise_captured_it() {
     flows(
         "r3 = prom 1\nr1 = call 1.0(r0)\nblock 1 quiet -> r1\nr1 = len r0",
         "r0 is captured by PROM at 21 and then emptied by CALL of 1.0 at 27",
+    );
+}
+
+#[test]
+fn question_10_names_what_would_fill_a_register_that_is_read_before() {
+    flows(
+        "r1 = call 1.0(r0)\nr1 = len r0\nr0 = vec []",
+        "r0 is emptied by CALL of 1.0 at 21 and read again by LEN at 30, before VEC at 36 fills it again",
+    );
+}
+
+#[test]
+fn question_10_names_the_last_that_emptied_a_register() {
+    flows(
+        "r1 = call 1.0(r0)\nr0 = vec []\nr1 = call 1.0(r0)\nr1 = len r0",
+        "r0 is emptied by CALL of 1.0 at 36 and read again by LEN at 45",
+    );
+}
+
+#[test]
+fn question_10_names_what_fills_a_register_on_one_way_alone() {
+    flows(
+        "r1 = call 1.0(r0)\nskip 1 unless r1\nr0 = vec []\nr1 = len r0",
+        "r0 is emptied by CALL of 1.0 at 21, filled again by VEC at 36 only where SKIP at 30 does not skip, and read by LEN at 42",
+    );
+    flows(
+        "r1 = call 1.0(r0)\nskip 2 unless r1\nskip 1 unless r1\nr0 = vec []\nr1 = call 1.0(r0)",
+        "r0 is emptied by CALL of 1.0 at 21, filled again by VEC at 42 only where SKIP at 36 does not skip, and read by CALL of 1.0 at 48",
+    );
+}
+
+#[test]
+fn question_10_names_what_captured_a_register_that_is_emptied_and_filled_at_once() {
+    flows(
+        "r3 = prom 1\nr0 = use r0\nblock 1 quiet -> r1\nr1 = len r0",
+        "r0 is captured by PROM at 21 and then emptied by USE at 27, which fills it again",
     );
 }
 

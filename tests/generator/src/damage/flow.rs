@@ -8,20 +8,23 @@ use reference::bounds::BLOCKS;
 use reference::{Instruction, Mark, Register, Type};
 
 /// Ways to fail question 10.
-pub const BREAKERS: [Breaker; 14] = [
+pub const BREAKERS: [Breaker; 17] = [
     operand_never_assigned,
     operand_never_assigned,
     result_never_assigned,
     assignment_lost,
-    use_into_itself,
     read_after_emptied,
+    read_before_filled_again,
+    read_by_what_fills_again,
     emptied_twice,
-    assigned_after_emptied,
+    emptied_by_what_fills_again,
     emptied_after_captured,
+    filled_again_after_captured,
     captured_after_emptied,
     assigned_on_one_way,
     emptied_on_one_way,
     captured_on_one_way,
+    filled_again_on_one_way,
     condition_never_assigned,
 ];
 
@@ -96,10 +99,6 @@ fn filled(d: Register) -> Instruction {
     Instruction::Vec { d, items }
 }
 
-fn use_into_itself(random: &mut Random, draft: &Draft) -> Option<Vec<u8>> {
-    over_owned(random, draft, |a, _| vec![Instruction::Use { d: a, a }])
-}
-
 fn read_after_emptied(random: &mut Random, draft: &Draft) -> Option<Vec<u8>> {
     over_owned(random, draft, |a, d| {
         vec![Instruction::Use { d, a }, Instruction::Dup { d, a }]
@@ -112,9 +111,25 @@ fn emptied_twice(random: &mut Random, draft: &Draft) -> Option<Vec<u8>> {
     })
 }
 
-fn assigned_after_emptied(random: &mut Random, draft: &Draft) -> Option<Vec<u8>> {
+fn read_before_filled_again(random: &mut Random, draft: &Draft) -> Option<Vec<u8>> {
     over_owned(random, draft, |a, d| {
-        vec![Instruction::Use { d, a }, filled(a)]
+        vec![
+            Instruction::Use { d, a },
+            Instruction::Dup { d, a },
+            filled(a),
+        ]
+    })
+}
+
+fn read_by_what_fills_again(random: &mut Random, draft: &Draft) -> Option<Vec<u8>> {
+    over_owned(random, draft, |a, d| {
+        vec![Instruction::Use { d, a }, Instruction::Dup { d: a, a }]
+    })
+}
+
+fn emptied_by_what_fills_again(random: &mut Random, draft: &Draft) -> Option<Vec<u8>> {
+    over_owned(random, draft, |a, d| {
+        vec![Instruction::Use { d, a }, Instruction::Use { d: a, a }]
     })
 }
 
@@ -140,6 +155,16 @@ fn emptied_after_captured(random: &mut Random, draft: &Draft) -> Option<Vec<u8>>
     append(
         &mut draft.versions[index].blocks[0],
         vec![Instruction::Use { d, a }],
+    )?;
+    Some(draft.bytes())
+}
+
+fn filled_again_after_captured(random: &mut Random, draft: &Draft) -> Option<Vec<u8>> {
+    let mut draft = draft.clone();
+    let (index, a, _) = capturing(random, &mut draft, |a, _| vec![filled(a)])?;
+    append(
+        &mut draft.versions[index].blocks[0],
+        vec![Instruction::Use { d: a, a }],
     )?;
     Some(draft.bytes())
 }
@@ -182,6 +207,18 @@ fn emptied_on_one_way(random: &mut Random, draft: &Draft) -> Option<Vec<u8>> {
     added.extend(skipping_one(version)?);
     let again = random.pick(&[Instruction::Dup { d, a }, Instruction::Use { d, a }]);
     added.extend([Instruction::Use { d, a }, again]);
+    append(&mut version.blocks[0], added)?;
+    Some(draft.bytes())
+}
+
+fn filled_again_on_one_way(random: &mut Random, draft: &Draft) -> Option<Vec<u8>> {
+    let mut draft = draft.clone();
+    let index = random.below(draft.versions.len());
+    let version = &mut draft.versions[index];
+    let (a, d) = owned_pair(version)?;
+    let mut added = vec![filled(a), Instruction::Use { d, a }];
+    added.extend(skipping_one(version)?);
+    added.extend([filled(a), Instruction::Dup { d, a }]);
     append(&mut version.blocks[0], added)?;
     Some(draft.bytes())
 }

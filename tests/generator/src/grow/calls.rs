@@ -30,8 +30,8 @@ impl Body<'_> {
     pub(super) fn call_version(&mut self, callable: &Callable) -> Option<()> {
         let signature = &callable.signature;
         let arguments = self.arguments(&signature.parameters)?;
-        let d = self.result(signature, &arguments)?;
         let emptied = given_to_owned(&signature.parameters, &arguments);
+        let d = self.result(signature, &emptied)?;
         let call = Instruction::Call {
             d,
             function: callable.function,
@@ -72,11 +72,14 @@ impl Body<'_> {
         Some(arguments)
     }
 
-    /// A register for the result of a call, none of those that it empties.
-    fn result(&mut self, signature: &Signature, arguments: &[Register]) -> Option<Register> {
-        let emptied = given_to_owned(&signature.parameters, arguments);
-        let d = self.target(Gives::of_return(signature.returns))?;
-        (!emptied.contains(&d)).then_some(d)
+    /// A register for the result of a call, often one of those that it empties.
+    fn result(&mut self, signature: &Signature, emptied: &[Register]) -> Option<Register> {
+        if signature.returns.is_owned() && self.random.one_in(2) {
+            if let Some(register) = self.random.choose(emptied) {
+                return Some(register);
+            }
+        }
+        self.target(Gives::of_return(signature.returns))
     }
 
     /// A DISPATCH that a version is expected to fit.
@@ -84,8 +87,8 @@ impl Body<'_> {
         let callable = self.callable()?;
         let arguments = self.fitting_arguments(&callable.signature.parameters)?;
         let signature = self.widened(&callable.signature, &arguments);
-        let d = self.result(&signature, &arguments)?;
         let emptied = given_to_owned(&signature.parameters, &arguments);
+        let d = self.result(&signature, &emptied)?;
         let types = signature.parameters.iter().copied();
         let dispatch = Instruction::Dispatch {
             d,

@@ -63,6 +63,7 @@ struct Body<'a> {
     blocks: Vec<DraftBlock>,
     /// The block whose PROM names each block.
     parents: Vec<usize>,
+    /// The registers that are emptied and not filled again.
     emptied: Registers,
     captured: Registers,
     /// The registers that are kept from being emptied.
@@ -246,6 +247,7 @@ impl<'a> Body<'a> {
             self.here.readable.remove(register);
         }
         if let Some(register) = instruction.assigns() {
+            self.emptied.remove(register);
             self.here.assigned.insert(register);
             self.here.readable.insert(register);
         }

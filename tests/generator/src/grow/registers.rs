@@ -74,9 +74,14 @@ impl Body<'_> {
         Some(self.types.len() as Register - 1)
     }
 
-    /// A register that may take a result: a known one, or a new one.
+    /// A register that may take a result: an emptied one, a known one, or a new one.
     pub(super) fn target(&mut self, gives: Gives) -> Option<Register> {
         let known = self.targets(gives);
+        let emptied = known.iter().copied().filter(|&r| self.emptied.contains(r));
+        let emptied: Vec<Register> = emptied.collect();
+        if !emptied.is_empty() && self.random.one_in(2) {
+            return self.random.choose(&emptied);
+        }
         if known.is_empty() || self.random.percent(35) {
             let ty = self.random.weighted(&gives.new_types());
             if let Some(register) = self.new_register(ty) {
@@ -86,11 +91,13 @@ impl Body<'_> {
         self.random.choose(&known)
     }
 
-    /// The known registers that may take a result.
+    /// The known registers that may take a result; in a promise block none that
+    /// its body emptied.
     pub(super) fn targets(&self, gives: Gives) -> Vec<Register> {
         let registers = 0..self.types.len() as Register;
+        let free = |r: &Register| !(self.in_promise() && self.emptied.contains(*r));
         registers
-            .filter(|&r| !self.emptied.contains(r) && gives.enters(self.type_of(r)))
+            .filter(|r| free(r) && gives.enters(self.type_of(*r)))
             .collect()
     }
 

@@ -18,13 +18,14 @@ impl Body<'_> {
         let place = self.blocks[block].instructions.len();
         let fact = self.fact(a);
         self.emit(Instruction::Skip { a, n: 0 }, fact);
-        let past = self.here.clone();
+        let (past, emptied) = (self.here.clone(), self.emptied);
         self.here.parts += 1;
         self.grow_part();
         let instructions = &mut self.blocks[block].instructions;
         let n = (instructions.len() - place - 1) as u8;
         instructions[place] = Instruction::Skip { a, n };
         self.here.join(&past);
+        self.emptied = self.emptied.union(emptied);
         Some(())
     }
 

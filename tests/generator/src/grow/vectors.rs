@@ -6,15 +6,23 @@ use crate::fact::Fact;
 use reference::{Instruction, Kind, Register};
 
 impl Body<'_> {
-    /// A USE of an owned register that nothing captured, in a body.
+    /// A USE of an owned register that nothing captured, in a body; sometimes a
+    /// chain of them, which hands the vector on and back.
     pub(super) fn use_(&mut self) -> Option<()> {
         if self.in_promise() {
             return None;
         }
         let emptiable = self.emptiable();
-        let a = self.random.choose(&emptiable)?;
-        let d = self.target(Gives::Fresh).filter(|&d| d != a)?;
-        self.emit_emptying(Instruction::Use { d, a }, &[a], self.fact(a));
+        let mut a = self.random.choose(&emptiable)?;
+        for _ in 0..self.random.pick(&[1, 1, 1, 2, 3, 5]) {
+            self.room()?;
+            let d = self.target(Gives::Fresh)?;
+            self.emit_emptying(Instruction::Use { d, a }, &[a], self.fact(a));
+            if !self.emptiable().contains(&d) {
+                break;
+            }
+            a = d;
+        }
         Some(())
     }
 

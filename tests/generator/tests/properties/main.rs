@@ -4,6 +4,7 @@ mod accepted;
 mod broken;
 mod damaged;
 mod events;
+mod refill;
 mod round_trip;
 mod runs;
 mod skips;

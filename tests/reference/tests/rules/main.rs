@@ -6,6 +6,7 @@ mod image_bytes;
 mod mistakes;
 mod proved_cases;
 mod question10;
+mod question10_refill;
 mod question10_skips;
 mod question14;
 mod question4;

@@ -55,8 +55,7 @@ fn question10_set_reads_its_vector() {
 }
 
 #[test]
-fn question10_use_into_the_same_register() {
-    fails("r0 = use r0");
+fn question10_use_into_another_register() {
     flows("r4 = use r0");
 }
 
@@ -74,11 +73,6 @@ fn question10_emptied_register_is_not_read() {
 #[test]
 fn question10_emptied_register_is_not_emptied_again() {
     fails("r4 = use r0\nr4 = use r0");
-}
-
-#[test]
-fn question10_emptied_register_is_not_assigned() {
-    fails("r4 = use r0\nr0 = vec []");
 }
 
 #[test]
@@ -182,7 +176,6 @@ fn question10_prom_assigns_d_after_its_block() {
 #[test]
 fn question10_emptying_call_empties_after_reading_and_before_assigning_d() {
     flows("r2 = dispatch 0(r0: own vector, r2: int) -> int quiet");
-    fails("r0 = dispatch 0(r0: own vector) -> own vector quiet");
     fails("r2 = dispatch 0(r0: own vector) -> int quiet\nr5 = len r0");
 }
 

@@ -97,9 +97,9 @@ fn question8_owned_register_stands_only_once_in_the_call() {
 
 #[test]
 fn question8_d_does_not_count_among_the_arguments() {
-    // The owned register that is emptied is d as well: that is flow's concern.
+    // The owned register that is emptied is d as well.
     let text = "r6 = dispatch 0(r6: own vector) -> own vector quiet";
-    refuses(&with_every_type(text), 10, 0);
+    accepts(&with_every_type(text));
 }
 
 #[test]

@@ -68,6 +68,23 @@ fn call_empties_what_it_gives_to_owned_parameters_and_nothing_else() {
 }
 
 #[test]
+fn call_that_empties_its_own_d_fills_it_at_its_end() {
+    let text = "version 0.0(r0: own vector) -> own vector
+                  block 0 quiet -> r0
+                    r0 = call 1.0(r0)
+                version 1.0(r0: own vector) -> own vector
+                  registers r1: own vector
+                  block 0 quiet -> r1
+                    r1 = dup r0";
+    let mut run = Run::begin(text, &[1, 5]);
+    run.steps(1);
+    assert_eq!(run.register(0, 0), None);
+    assert_eq!(run.register(1, 0), Some(Value::Vector(0)));
+    run.steps(2);
+    assert_eq!(run.register(0, 0), Some(Value::Vector(1)));
+}
+
+#[test]
 fn d_keeps_its_old_value_until_the_call_ends() {
     let text = "version 0.0(r0: int) -> int
                   registers r1: quiet promise, r2: int

@@ -29,6 +29,31 @@ fn use_takes_the_same_vector_and_empties_its_register() {
 }
 
 #[test]
+fn use_into_its_own_register_leaves_the_vector_there() {
+    let text = "version 0.0(r0: own vector) -> own vector
+                  block 0 quiet -> r0
+                    r0 = use r0";
+    let mut run = Run::begin(text, &[1, 5]);
+    run.steps(1);
+    assert_eq!(run.register(0, 0), Some(Value::Vector(0)));
+    assert_eq!(items(text, &[2, 5, 6]), [5, 6]);
+}
+
+#[test]
+fn use_into_a_register_that_was_emptied_fills_it() {
+    let text = "version 0.0(r0: own vector) -> own vector
+                  registers r1: own vector
+                  block 0 quiet -> r0
+                    r1 = use r0
+                    r0 = use r1";
+    let mut run = Run::begin(text, &[1, 5]);
+    run.steps(2);
+    assert_eq!(run.register(0, 0), Some(Value::Vector(0)));
+    assert_eq!(run.register(0, 1), None);
+    assert_eq!(items(text, &[2, 5, 6]), [5, 6]);
+}
+
+#[test]
 fn dup_makes_another_vector_with_the_same_items() {
     let text = "version 0.0(r0: vector) -> vector
                   registers r1: own vector, r2: int

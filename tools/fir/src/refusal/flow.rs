@@ -25,7 +25,7 @@ pub fn flow(source: &Source, found: &Found) -> Option<String> {
             }
         }
     };
-    let words = break_.words(source);
+    let words = break_.words(source, found);
     Some(format!("in VERSION {}, {words}", found.version_name()))
 }
 
@@ -52,10 +52,10 @@ impl Doer<'_> {
     }
 }
 
-/// Registers with what did it to them first.
+/// Registers with what did it to them.
 type Registers<'p> = BTreeMap<Register, Doer<'p>>;
 
-/// What assigns a register on one way of a SKIP alone, and the SKIP.
+/// What assigns or fills a register on one way of a SKIP alone, and the SKIP.
 #[derive(Clone, Copy)]
 struct Half<'p> {
     assigns: Doer<'p>,
@@ -73,6 +73,8 @@ struct Action<'p> {
     half: BTreeMap<Register, Half<'p>>,
     /// Those of them that are read so.
     half_read: BTreeMap<Register, Half<'p>>,
+    /// Emptied registers that are filled again on one way of a SKIP alone.
+    half_filled: BTreeMap<Register, Half<'p>>,
 }
 
 /// How flow breaks.
@@ -83,13 +85,15 @@ enum Break<'p> {
     ReadHalf(Register, Doer<'p>, Half<'p>),
     /// A register is emptied, and then something is done to it.
     Emptied(Register, Doer<'p>, &'static str, Doer<'p>),
+    /// The same with a register that is filled again on one way of a SKIP alone.
+    HalfFilled(Register, Doer<'p>, Half<'p>, &'static str, Doer<'p>),
     /// A register is captured, and then emptied.
     Captured(Register, Doer<'p>, Doer<'p>),
 }
 
 impl Break<'_> {
     /// What happens to the register, and where.
-    fn words(&self, source: &Source) -> String {
+    fn words(&self, source: &Source, found: &Found) -> String {
         match self {
             Break::ReadFirst(r, read) => {
                 format!(
@@ -102,38 +106,55 @@ impl Break<'_> {
                 let assigns = half.assigns.words(source);
                 format!("r{r} is read by {read}, and assigned by {assigns} only where {skip} does not skip")
             }
-            Break::Emptied(r, emptied, then, doer) if emptied.offset == doer.offset => {
-                format!("r{r} is emptied and then {then} by {}", doer.words(source))
-            }
             Break::Emptied(r, emptied, then, doer) => {
+                let filled = filled_later(found, *r, doer);
+                let before = filled.map(|filled| {
+                    let filled = filled.words(source);
+                    format!(", before {filled} fills it again")
+                });
                 let (emptied, doer) = (emptied.words(source), doer.words(source));
-                format!("r{r} is emptied by {emptied} and {then} again by {doer}")
+                let before = before.unwrap_or_default();
+                format!("r{r} is emptied by {emptied} and {then} again by {doer}{before}")
+            }
+            Break::HalfFilled(r, emptied, half, then, doer) => {
+                let (emptied, doer) = (emptied.words(source), doer.words(source));
+                let (filled, skip) = (half.assigns.words(source), half.skip.words(source));
+                format!(
+                    "r{r} is emptied by {emptied}, filled again by {filled} \
+                     only where {skip} does not skip, and {then} by {doer}"
+                )
             }
             Break::Captured(r, captured, emptied) => {
+                let d = emptied.instruction.and_then(|item| item.destination());
+                let fills = d == Some(*r);
+                let again = if fills { ", which fills it again" } else { "" };
                 let (captured, emptied) = (captured.words(source), emptied.words(source));
-                format!("r{r} is captured by {captured} and then emptied by {emptied}")
+                format!("r{r} is captured by {captured} and then emptied by {emptied}{again}")
             }
         }
     }
 }
 
+/// What fills a register again behind something in the same block, if anything does.
+fn filled_later<'p>(found: &Found<'p>, register: Register, behind: &Doer) -> Option<Doer<'p>> {
+    behind.instruction?;
+    let block = found.version.blocks.get(behind.block)?;
+    let fills = |item: &Instruction| {
+        item.destination() == Some(register) && !item.reads().contains(&register)
+    };
+    let mut later = block.instructions.iter();
+    let filling = later.find(|placed| placed.offset > behind.offset && fills(&placed.item))?;
+    Some(Doer {
+        offset: filling.offset,
+        block: behind.block,
+        instruction: Some(&filling.item),
+    })
+}
+
 impl<'p> Action<'p> {
-    /// A then A′, or how that breaks.
+    /// A, then a single instruction A′, or how that breaks.
     fn then(mut self, next: Action<'p>) -> Result<Action<'p>, Break<'p>> {
-        let later = [
-            ("read", &next.reads),
-            ("assigned", &next.assigns),
-            ("emptied", &next.empties),
-            ("captured", &next.captures),
-        ];
-        for (does, registers) in later {
-            if let Some((register, first, second)) = meeting(&self.empties, registers) {
-                return Err(Break::Emptied(register, first, does, second));
-            }
-        }
-        if let Some((register, first, second)) = meeting(&self.captures, &next.empties) {
-            return Err(Break::Captured(register, first, second));
-        }
+        self.allows(&next)?;
         for (register, doer) in next.reads {
             if !self.assigns.contains_key(&register) && !self.reads.contains_key(&register) {
                 self.reads.insert(register, doer);
@@ -142,14 +163,48 @@ impl<'p> Action<'p> {
                 self.half_read.extend(half.map(|half| (register, half)));
             }
         }
-        add(&mut self.assigns, next.assigns);
-        add(&mut self.empties, next.empties);
         add(&mut self.captures, next.captures);
+        self.empties.extend(next.empties);
+        for &register in next.assigns.keys() {
+            self.empties.remove(&register);
+            self.half_filled.remove(&register);
+        }
+        self.assigns.extend(next.assigns);
         Ok(self)
+    }
+
+    /// Is the instruction allowed after this, or how does it break?
+    fn allows(&self, next: &Action<'p>) -> Result<(), Break<'p>> {
+        let later = [
+            ("read", &next.reads),
+            ("emptied", &next.empties),
+            ("captured", &next.captures),
+        ];
+        for (does, registers) in later {
+            if let Some((register, first, second)) = meeting(&self.empties, registers) {
+                return Err(match self.half_filled.get(&register) {
+                    Some(&half) => Break::HalfFilled(register, first, half, does, second),
+                    None => Break::Emptied(register, first, does, second),
+                });
+            }
+        }
+        match meeting(&self.captures, &next.empties) {
+            Some((register, first, second)) => Err(Break::Captured(register, first, second)),
+            None => Ok(()),
+        }
     }
 
     /// The way past a part, joined with the way through it.
     fn join(mut self, through: Action<'p>, skip: Doer<'p>) -> Action<'p> {
+        for register in self.empties.keys() {
+            let filled = through.assigns.get(register);
+            if let (Some(&assigns), None) = (filled, through.empties.get(register)) {
+                self.half_filled.insert(*register, Half { assigns, skip });
+            }
+        }
+        for (register, half) in through.half_filled {
+            self.half_filled.entry(register).or_insert(half);
+        }
         for (register, assigns) in through.assigns {
             if !self.assigns.contains_key(&register) {
                 self.half.insert(register, Half { assigns, skip });
@@ -178,6 +233,7 @@ impl<'p> Action<'p> {
             assigns: Registers::new(),
             captures,
             half: BTreeMap::new(),
+            half_filled: BTreeMap::new(),
             ..self
         }
     }
@@ -248,7 +304,7 @@ fn part_action<'p>(
     Ok(action)
 }
 
-/// An action, then an instruction: it reads its operands, then empties, then assigns.
+/// An action, then an instruction: it reads and captures, then empties, then assigns.
 fn instruction_action<'p>(
     found: &Found<'p>,
     before: Action<'p>,
@@ -264,13 +320,11 @@ fn instruction_action<'p>(
             ..Action::default()
         },
     };
-    let empties = Action {
-        empties: all(found.program.emptied(instruction), doer),
-        ..Action::default()
-    };
-    let assigns = Action {
+    let mut empties = all(found.program.emptied(instruction), doer);
+    add(&mut empties, first.empties);
+    before.then(Action {
         assigns: all(instruction.assigns(), doer),
-        ..Action::default()
-    };
-    before.then(first)?.then(empties)?.then(assigns)
+        empties,
+        ..first
+    })
 }

@@ -134,7 +134,7 @@ fn rule(question: u8) -> &'static str {
         14 => "no SKIP goes past the end of its block, or of a part that it stands in",
         8 => "types fit",
         9 => "a block's mark covers its effect",
-        10 => "no register is read before it is assigned, used after it is emptied, or emptied after it is captured",
+        10 => "no register is read before it is assigned, used while it is empty, or emptied after it is captured",
         11 => "the version that a run enters exists",
         12 => "each argument matches its parameter, and there are as many",
         13 => "the result buffer has at least 16 places",
