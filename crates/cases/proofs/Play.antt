@@ -22,7 +22,7 @@ use Rattle.rules.specs.Actions.{clash, joined, _then_, promised, emptied as emp
 use Rattle.rules.specs.Flows.{flows}
 use Rattle.checker.specs.Verdicts.{ask, verdictOf}
 use Rattle.machine.specs.Try.{_>>=_, _>>_, stuckUnless, endUnless, orStuck, at, put, each}
-use Rattle.machine.specs.Values.{ranged, isZero, divided, arith, index}
+use Rattle.machine.specs.Values.{ranged, isZero, floored, divided, arith, index}
 use Rattle.machine.specs.States.{over, newVector, itemsOf, liveFrames, liveActivations, register, named, full, anInteger, aVector, aPromise, noPromise, isSet, value, integer, vector, promise, plain, name, kindIn, isVector, isPromise, isForce, refers, held, pending, vectorCounts, promiseCounts, free, freeVector, freePromise, withStack, withVector, withPromise, withEnd, withFrame, withRegister, withName, assign, store}
 use Rattle.machine.specs.Calls.{opened, passed, skipped, matching, emptyIf, emptied, frameFor, enter, sameOwnerships, dispatches, lowest, picked, force, closed, done, back, finish}
 use Rattle.machine.specs.Steps.{alone, execute, here, position, positionOf, proceed, advance}
@@ -74,7 +74,7 @@ unfolding
     flows
     ask verdictOf
     _>>=_ _>>_ stuckUnless endUnless orStuck at put each
-    ranged isZero divided arith index
+    ranged isZero floored divided arith index
     over newVector itemsOf liveFrames liveActivations register named full anInteger aVector aPromise noPromise isSet value integer vector promise plain name kindIn isVector isPromise isForce refers held pending vectorCounts promiseCounts free freeVector freePromise withStack withVector withPromise withEnd withFrame withRegister withName assign store
     opened passed skipped matching emptyIf emptied frameFor enter sameOwnerships dispatches lowest picked force closed done back finish
     alone execute here position positionOf proceed advance

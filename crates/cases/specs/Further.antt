@@ -336,8 +336,11 @@ further =
     row getting 0 0 (pos 2 ∷ pos 5 ∷ pos 6 ∷ neg 1 ∷ pos 1 ∷ []) 9 (lent 16) (integer (pos 6)) 2 (lent 16) ∷
     row getting 0 0 (pos 2 ∷ pos 5 ∷ pos 6 ∷ neg 1 ∷ pos 2 ∷ []) 9 (lent 16) undef 1 (lent 16) ∷
     row getting 0 0 (pos 2 ∷ pos 5 ∷ pos 6 ∷ neg 1 ∷ neg 1 ∷ []) 9 (lent 16) undef 1 (lent 16) ∷
-    -- division rounds toward zero; UNDEF: divide by 0, integer result out of range
-    row quotient 0 0 (neg 1 ∷ pos 7 ∷ neg 1 ∷ neg 2 ∷ []) 9 (lent 16) (integer (neg 3)) 2 (lent 16) ∷
+    -- division rounds toward minus infinity; UNDEF: divide by 0, integer result out of range
+    row quotient 0 0 (neg 1 ∷ pos 7 ∷ neg 1 ∷ neg 2 ∷ []) 9 (lent 16) (integer (neg 4)) 2 (lent 16) ∷
+    row quotient 0 0 (neg 1 ∷ neg 7 ∷ neg 1 ∷ neg 2 ∷ []) 9 (lent 16) (integer (pos 3)) 2 (lent 16) ∷
+    row quotient 0 0 (neg 1 ∷ neg 6 ∷ neg 1 ∷ pos 2 ∷ []) 9 (lent 16) (integer (neg 3)) 2 (lent 16) ∷
+    row quotient 0 0 (neg 1 ∷ pos 6 ∷ neg 1 ∷ neg 2 ∷ []) 9 (lent 16) (integer (neg 3)) 2 (lent 16) ∷
     row quotient 0 0 (neg 1 ∷ pos 7 ∷ neg 1 ∷ pos 0 ∷ []) 9 (lent 16) undef 1 (lent 16) ∷
     row quotient 0 0 (neg 1 ∷ neg 2147483648 ∷ neg 1 ∷ neg 1 ∷ []) 9 (lent 16) undef 1 (lent 16) ∷
     -- PEEK and POKE act on the names of the promise's frame

@@ -148,8 +148,8 @@ cases =
     row (setOn 1) 0 0 (pos 0 ∷ []) 100 (lent 16) undef 4 (lent 16) ∷
     -- P9 SET on the shared one: 8
     row (setOn 0) 0 0 (pos 1 ∷ pos 1 ∷ []) 100 (lent 16) (refused 8 at 45) 0 (lent 16) ∷
-    -- P10 −7 divided by 2 is −3
-    row quotient 0 0 (neg 1 ∷ neg 7 ∷ neg 1 ∷ pos 2 ∷ []) 100 (lent 17) (integer (neg 3)) 2 (lent 17) ∷
+    -- P10 −7 divided by 2 is −4
+    row quotient 0 0 (neg 1 ∷ neg 7 ∷ neg 1 ∷ pos 2 ∷ []) 100 (lent 17) (integer (neg 4)) 2 (lent 17) ∷
     -- P11 a body that calls itself, budget 32: DEEP after 31 steps
     row endless 0 0 [] 32 (lent 16) deep 31 (lent 16) ∷
     []

@@ -3,11 +3,11 @@ use mathlib.Core.Path.{_≡_, refl}
 use mathlib.Core.Bool.{Bool, true, false, cond, not}
 use Prim.Native.Nat.{ℕ}
 use lib.IntN.{ℤ, pos, negsuc, _+ℤ_, _-ℤ_, _*ℤ_}
-use lib.Signed.{mag, ltZ, quotZ}
+use lib.Signed.{mag, ltZ}
 use lib.Dec.{eqb, ltb}
 use Rattle.layout.specs.Records.{choose}
 use Rattle.machine.specs.Try.{Try, got, stuck, stop, _>>_, endUnless}
-use Rattle.machine.specs.Values.{ranged, divided, isZero, arith, index}
+use Rattle.machine.specs.Values.{ranged, floored, divided, isZero, arith, index}
 use Rattle.machine.specs.declared.End.{End}
 use Rattle.integers.specs.Computed.{computedOf, indexedOf}
 use Rattle.integers.specs.declared.Computed.{Computed}
@@ -40,7 +40,7 @@ only-ranged z = ends (ltb (mag z) 2147483648) (got z) (only-got z)
 
 only-divided : (x y : ℤ) → Only (divided x y)
 unfolding divided
-only-divided x y = ends (not (isZero y)) (ranged (quotZ x y)) (only-ranged (quotZ x y))
+only-divided x y = ends (not (isZero y)) (ranged (floored x y)) (only-ranged (floored x y))
 
 pub arith-undef : (op : ℕ) (x y : ℤ) → computedOf (arith op x y) ≡ Computed.Undef → arith op x y ≡ stop End.Undef
 unfolding arith choose Only

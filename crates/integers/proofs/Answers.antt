@@ -4,11 +4,11 @@ use mathlib.Core.Path.{_≡_, refl}
 use mathlib.Core.Bool.{Bool, true, false, cond}
 use native.Mathlib.Omega.{arith}
 use lib.IntN.{ℤ, pos, negsuc, natAbs}
-use lib.Signed.{mag, leZ, ltZ, nonNeg, quotZ}
+use lib.Signed.{mag, leZ, ltZ, nonNeg}
 use lib.Dec.{T, ltb, leb→le}
 use borrow.Author.Tests.{ltb-true, lt-ltb, le-ltb}
 use Rattle.machine.specs.Try.{got, _>>_, endUnless}
-use Rattle.machine.specs.Values.{ranged, isZero, divided, index}
+use Rattle.machine.specs.Values.{ranged, isZero, floored, divided, index}
 use Rattle.integers.specs.Computed.{computedOf, indexedOf}
 use Rattle.integers.specs.declared.Computed.{Computed}
 use Rattle.integers.specs.declared.Indexed.{Indexed}
@@ -25,7 +25,7 @@ pub by-zero : (x y : ℤ) → isZero y ≡ true → Computed.Undef ≡ computedO
 unfolding computedOf divided endUnless _>>_
 by-zero x y e = rw e
 
-pub not-by-zero : (x y : ℤ) → isZero y ≡ false → ranged (quotZ x y) ≡ divided x y
+pub not-by-zero : (x y : ℤ) → isZero y ≡ false → ranged (floored x y) ≡ divided x y
 unfolding divided endUnless _>>_
 not-by-zero x y e = rw e
 

@@ -1,17 +1,18 @@
--- Laws of signed numbers: their range, their bits, and the sums, differences, products and quotients of two i32 as i64.
-use Prim.Native.Nat.{ℕ, zero, suc, _+_, _-_, _*_, _/_, _≤_, _<_, zero-le}
+-- Laws of signed numbers: their range, their bits, and the sums, differences and products of two i32 as i64.
+use Prim.Native.Nat.{ℕ, zero, suc, _+_, _-_, _*_, _≤_, _<_, zero-le}
 use mathlib.Core.Path.{_≡_, refl, sym, ap, _∙_}
 use mathlib.Core.Bool.{Bool, true, false, cond}
 use native.Mathlib.Omega.{arith}
-use native.Mathlib.Nat.{mul-le-mul-left, mul-le-mul-right, le-trans, le-of-lt, lt-of-le-of-lt, div-le-self}
+use native.Mathlib.Nat.{mul-le-mul-left, mul-le-mul-right, le-trans, le-of-lt, lt-of-le-of-lt}
 use lib.IntN.{ℤ, pos, negsuc, negℤ, _+ℤ_, _-ℤ_, _*ℤ_}
-use lib.Signed.{mag, ltZ, leZ, quotZ}
+use lib.Signed.{mag, ltZ, leZ}
 use lib.Dec.{ltb, eqb, lit<, leb·suc-suc}
 use mir.Syntax.{w32, w64}
 use mir.Val.{SFits, toZ, ofZ}
 use mir.Facts.{toZ-ofZ}
 use borrow.Author.Tests.{ltb-true, ltb-false, lt-ltb, le-ltb, ne-eqb}
 use Rattle.machine.specs.Values.{isZero}
+use Rattle.integers.specs.Computed.{isMinusOne}
 
 -- ---- the range: the numbers from −(k + 1) to m, where both k + 1 and m + 1 are h
 
@@ -33,12 +34,18 @@ unfolding isZero
 zero-bits (pos n) p = refl
 zero-bits (negsuc n) p = ne-eqb (ofZ w32 (negsuc n)) 0 (λ q. omega (arith, p .sfits))
 
+pub minus-one-bits : (z : ℤ) → SFits w32 z → eqb (ofZ w32 z) 4294967295 ≡ isMinusOne z
+unfolding isMinusOne
+minus-one-bits (pos n) p = ne-eqb (ofZ w32 (pos n)) 4294967295 (λ q. omega (arith, p .sfits))
+minus-one-bits (negsuc zero) p = refl
+minus-one-bits (negsuc (suc n)) p = ne-eqb (ofZ w32 (negsuc (suc n))) 4294967295 (λ q. omega (arith, p .sfits))
+
 -- what the test of an i32 answered is so of it
-pub told : {z : ℤ} {answer b : Bool} → SFits w32 z → answer ≡ isZero (toZ w32 (ofZ w32 z)) → answer ≡ b → isZero z ≡ b
-told p e h = sym (rw (toZ-ofZ p) at e) ∙ h
+pub told : (test : ℤ → Bool) {z : ℤ} {answer b : Bool} → SFits w32 z → answer ≡ test (toZ w32 (ofZ w32 z)) → answer ≡ b → test z ≡ b
+told test p e h = sym (rw (toZ-ofZ p) at e) ∙ h
 
 -- a divisor that is not 0 has bits that are not 0
-pub bits-above : (y : ℤ) → SFits w32 y → isZero y ≡ false → 0 < ofZ w64 y
+pub bits-above : (y : ℤ) → SFits w32 y → isZero y ≡ false → 0 < ofZ w32 y
 unfolding isZero
 bits-above (pos zero) p e = let z : _≡_ {A = ℕ} 0 1 = cc in absurd (omega arith)
 bits-above (pos (suc n)) p e = omega arith
@@ -85,13 +92,6 @@ mag-mul (pos a) (negsuc b) p q = lt-of-le-of-lt (mag-neg-pos (a * suc b)) (prod 
 mag-mul (negsuc a) (pos b) p q = lt-of-le-of-lt (mag-neg-pos (suc a * b)) (prod (suc a) b p (le-of-lt q))
 mag-mul (negsuc a) (negsuc b) p q = prod (suc a) (suc b) p q
 
--- no further from 0 than the dividend
-mag-quot : (x y : ℤ) → mag (quotZ x y) ≤ suc (mag x)
-mag-quot (pos a) (pos b) = omega (arith, div-le-self a b)
-mag-quot (pos a) (negsuc b) = omega (arith, mag-neg-pos (a / suc b), div-le-self a (suc b))
-mag-quot (negsuc a) (pos b) = omega (arith, mag-neg-pos (suc a / b), div-le-self (suc a) b)
-mag-quot (negsuc a) (negsuc b) = omega (arith, div-le-self (suc a) (suc b))
-
 pub sum-fits : {x y : ℤ} → SFits w32 x → SFits w32 y → SFits w64 (x +ℤ y)
 sum-fits {x} {y} p q = record { sfits = omega (arith, mag-add x y, p .sfits, q .sfits) }
 
@@ -100,6 +100,3 @@ difference-fits {x} {y} p q = record { sfits = omega (arith, mag-add x (negℤ y
 
 pub product-fits : {x y : ℤ} → SFits w32 x → SFits w32 y → SFits w64 (x *ℤ y)
 product-fits {x} {y} p q = record { sfits = mag-mul x y (p .sfits) (q .sfits) }
-
-pub quotient-fits : {x y : ℤ} → SFits w32 x → SFits w32 y → SFits w64 (quotZ x y)
-quotient-fits {x} {y} p q = record { sfits = omega (arith, mag-quot x y, p .sfits) }

@@ -1,6 +1,7 @@
 -- What the operations on integers answer.
-use Prim.Native.Nat.{ℕ}
-use lib.IntN.{ℤ}
+use mathlib.Core.Bool.{Bool, true, false}
+use Prim.Native.Nat.{ℕ, zero, suc}
+use lib.IntN.{ℤ, pos, negsuc}
 use Rattle.machine.specs.Try.{Try, got, stuck, stop}
 use Rattle.integers.specs.declared.Computed.{Computed}
 use Rattle.integers.specs.declared.Indexed.{Indexed}
@@ -16,3 +17,9 @@ unfoldable pub indexedOf : Try ℕ → Indexed
 indexedOf (got i) = Indexed.At i
 indexedOf stuck = Indexed.Undef
 indexedOf (stop e) = Indexed.Undef
+
+-- is it −1? By −1 the least integer has no quotient in range
+unfoldable pub isMinusOne : ℤ → Bool
+isMinusOne (pos n) = false
+isMinusOne (negsuc zero) = true
+isMinusOne (negsuc (suc n)) = false

@@ -1,15 +1,12 @@
 //! The integer arithmetic of the machine's steps: results in range, UNDEF or stuck.
 ghost use mathlib.Core.Path.{_≡_};
-ghost use mathlib.Core.Bool.{cond};
+ghost use mathlib.Core.Bool.{false, cond};
 ghost use lib.IntN.{pos, _+ℤ_, _-ℤ_, _*ℤ_};
-ghost use Prim.Native.Nat.{_<_};
 ghost use lib.Dec.{ltb};
-ghost use lib.Signed.{mag, ltZ, quotZ};
-ghost use mir.Syntax.{w64};
-ghost use mir.Val.{SFits, ofZ};
+ghost use lib.Signed.{mag, ltZ};
 ghost use Rattle.machine.specs.Try.{got};
-ghost use Rattle.machine.specs.Values.{ranged, isZero, divided, arith, index};
-ghost use Rattle.integers.specs.Computed.{computedOf, indexedOf};
+ghost use Rattle.machine.specs.Values.{ranged, isZero, floored, divided, arith, index};
+ghost use Rattle.integers.specs.Computed.{computedOf, indexedOf, isMinusOne};
 
 /// What an operation on integers comes to: an integer, UNDEF, or stuck where there is no such operation.
 pub enum Computed {
@@ -72,22 +69,38 @@ fn multiply(x: i32, y: i32) -> Computed
     ranged((x as i64) * (y as i64))
 }
 
-/// The quotient by a divisor that is not 0, rounded toward zero.
-fn quotient(x: i64, y: i64) -> i64
-    requires { ⌜ (0 < ofZ w64 y) × SFits w64 (quotZ x y) ⌝ }
-    ensures { λ r. ⌜ r ≡ quotZ x y ⌝ }
+/// The quotient by a divisor that is neither 0 nor −1, rounded toward minus infinity: where the signs differ, one below that of
+/// the number next to `x` toward zero.
+fn floor(x: i32, y: i32) -> i32
+    requires { ⌜ (isZero y ≡ false) × (isMinusOne y ≡ false) ⌝ }
+    ensures { λ r. ⌜ r ≡ floored x y ⌝ }
 {
-    x / y
+    if x < 0 {
+        if 0 < y {
+            return (x + 1) / y - 1;
+        }
+        return x / y;
+    }
+    if 0 < x {
+        if y < 0 {
+            return (x - 1) / y - 1;
+        }
+        return x / y;
+    }
+    0
 }
 
-/// The quotient, or UNDEF where it is out of range or `y` is 0.
+/// The quotient, or UNDEF where `y` is 0, or is −1 and `x` the least integer.
 fn divide(x: i32, y: i32) -> Computed
     ensures { λ r. ⌜ r ≡ computedOf (divided x y) ⌝ }
 {
     if is_zero(y) {
         return Computed::Undef;
     }
-    ranged(quotient(x as i64, y as i64))
+    if is_minus_one(y) {
+        return subtract(0, x);
+    }
+    Computed::Integer(floor(x, y))
 }
 
 /// 1 where `x` is less than `y`, else 0.
@@ -134,6 +147,13 @@ pub fn is_zero(z: i32) -> bool
     ensures { λ r. ⌜ r ≡ isZero z ⌝ }
 {
     z == 0
+}
+
+/// Is `z` −1?
+fn is_minus_one(z: i32) -> bool
+    ensures { λ r. ⌜ r ≡ isMinusOne z ⌝ }
+{
+    z == -1
 }
 
 /// What SELECT chooses: `b` where `c` is 0, else `a`.

@@ -1,9 +1,9 @@
 -- Steps: what the operations on integers give.
 use mathlib.Core.List.{[], _∷_}
 use mathlib.Core.Bool.{Bool, false, cond, not}
-use Prim.Native.Nat.{ℕ}
-use lib.IntN.{ℤ, pos, negsuc, _+ℤ_, _-ℤ_, _*ℤ_}
-use lib.Signed.{ltZ, mag, quotZ}
+use Prim.Native.Nat.{ℕ, suc}
+use lib.IntN.{ℤ, pos, negsuc, negℤ, _+ℤ_, _-ℤ_, _*ℤ_}
+use lib.Signed.{ltZ, mag, shrZ}
 use lib.Dec.{eqb, ltb}
 use Rattle.layout.specs.Records.{choose}
 use Rattle.machine.specs.Try.{Try, got, stuck, stop, _>>_, endUnless}
@@ -24,11 +24,16 @@ unfoldable pub isZero : ℤ → Bool
 isZero (pos n) = eqb n 0
 isZero (negsuc n) = false
 
--- UNDEF: divide by 0. Division rounds toward zero
+-- the quotient by a divisor that is not 0, rounded toward minus infinity; by a negative one, that of the negated numbers
+unfoldable pub floored : ℤ → ℤ → ℤ
+floored x (pos b) = shrZ x b
+floored x (negsuc b) = shrZ (negℤ x) (suc b)
+
+-- UNDEF: divide by 0
 unfoldable pub divided : ℤ → ℤ → Try ℤ
 divided x y = do
   endUnless End.Undef (not (isZero y))
-  ranged (quotZ x y)
+  ranged (floored x y)
 
 -- op 0 add, 1 subtract, 2 multiply, 3 divide, 4 less, which gives 1 or 0; there is no other
 unfoldable pub arith : ℕ → ℤ → ℤ → Try ℤ

@@ -4,6 +4,7 @@ use borrow.Author.Tests.{not-true, not-false}
 use native.Mathlib.Omega.{arith}
 use mir.Syntax.{w32}
 use mir.Val.{SFits}
+use Rattle.machine.specs.Values.{isZero}
 use Rattle.integers.proofs.Signs.{told}
 use Rattle.cells.proofs.Given.{whole-is, whole-stuck}
 use Rattle.instructions.proofs.Skipping.{skip-stuck, skip-left, skip-none, skip-far, skip-taken}
@@ -31,13 +32,13 @@ returns-2 : tie.Need-returns-2
 returns-2 c =
     let fits : SFits w32 ((c .before .before .before .z) .given .0 .0) = search needs in
     let is = whole-is (c .before .before .before .before .before .integer .ensures) (c .before .before .before .z .given .1) in
-    skip-left _ _ _ _ _ _ _ _ is (told fits (c .before .is-zero .ensures) (not-true (c .before .is-zero .result) (c .if1 .taken)))
+    skip-left _ _ _ _ _ _ _ _ is (told isZero fits (c .before .is-zero .ensures) (not-true (c .before .is-zero .result) (c .if1 .taken)))
 
 returns-3 : tie.Need-returns-3
 returns-3 c =
     let fits : SFits w32 ((c .before .before .before .before .z) .given .0 .0) = search needs in
     let is = whole-is (c .before .before .before .before .before .before .integer .ensures) (c .before .before .before .before .z .given .1) in
-    let zero = told fits (c .before .before .is-zero .ensures) (not-false (c .before .before .is-zero .result) (c .before .if1 .left)) in
+    let zero = told isZero fits (c .before .before .is-zero .ensures) (not-false (c .before .before .is-zero .result) (c .before .if1 .left)) in
     skip-none _ _ _ _ _ _ _ _ is zero (c .if2 .taken)
 
 sub-i : tie.Need-sub-i
@@ -67,7 +68,7 @@ returns-4 c =
     let start = begun .before .before .before .before in
     let fits : SFits w32 (start .z .given .0 .0) = search needs in
     let is = whole-is (start .before .before .integer .ensures) (start .z .given .1) in
-    let zero = told fits (begun .before .before .is-zero .ensures) (not-false (begun .before .before .is-zero .result) (begun .before .if1 .left)) in
+    let zero = told isZero fits (begun .before .before .is-zero .ensures) (not-false (begun .before .before .is-zero .result) (begun .before .if1 .left)) in
     let far = c .if3 .taken in
     skip-far _ _ _ _ _ _ _ _ is zero (omega (arith, begun .if2 .left)) (start .before .before .before .pre .2) (rw (c .before .before .wide .ensures .0, c .before .wide2 .ensures .0) at far)
 
@@ -83,7 +84,7 @@ returns-5 c =
     let start = begun .before .before .before .before in
     let fits : SFits w32 (start .z .given .0 .0) = search needs in
     let is = whole-is (start .before .before .integer .ensures) (start .z .given .1) in
-    let zero = told fits (begun .before .before .is-zero .ensures) (not-false (begun .before .before .is-zero .result) (begun .before .if1 .left)) in
+    let zero = told isZero fits (begun .before .before .is-zero .ensures) (not-false (begun .before .before .is-zero .result) (begun .before .if1 .left)) in
     let pre = start .before .before .before .pre in
     let near = rw (c .before .before .wide .ensures .0, c .before .wide2 .ensures .0) at (c .if3 .left) in
     rw (c .before .before .wide .ensures .0, c .before .wide2 .ensures .0) (skip-taken _ _ _ _ _ _ _ _ is zero (omega (arith, begun .if2 .left)) (pre .2) (pre .1) near refl)
