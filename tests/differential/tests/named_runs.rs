@@ -80,10 +80,38 @@ fn p8_set_on_an_empty_vector_is_undef() {
 }
 
 #[test]
-fn p10_minus_7_divided_by_2_is_minus_3() {
+fn p10_minus_7_divided_by_2_is_minus_4() {
     let image = image(DIVISION);
-    gives(&image, &[-1, -7, -1, 2], 2, done(-3), 2, &[]);
-    gives(&image, &[-1, 7, -1, -2], 2, done(-3), 2, &[]);
+    gives(&image, &[-1, -7, -1, 2], 2, done(-4), 2, &[]);
+    gives(&image, &[-1, 7, -1, -2], 2, done(-4), 2, &[]);
+    gives(&image, &[-1, 7, -1, 2], 2, done(3), 2, &[]);
+    gives(&image, &[-1, -7, -1, -2], 2, done(3), 2, &[]);
+    gives(&image, &[-1, -6, -1, 2], 2, done(-3), 2, &[]);
+    gives(&image, &[-1, 6, -1, -2], 2, done(-3), 2, &[]);
+    gives(
+        &image,
+        &[-1, Integer::MIN, -1, 1],
+        2,
+        done(Integer::MIN),
+        2,
+        &[],
+    );
+    gives(
+        &image,
+        &[-1, Integer::MIN, -1, Integer::MAX],
+        2,
+        done(-2),
+        2,
+        &[],
+    );
+    gives(
+        &image,
+        &[-1, Integer::MAX, -1, Integer::MIN],
+        2,
+        done(-1),
+        2,
+        &[],
+    );
     let undef = Answer::Ended(End::Undef);
     gives(&image, &[-1, 7, -1, 0], 2, undef, 1, &[]);
     gives(&image, &[-1, Integer::MIN, -1, -1], 2, undef, 1, &[]);

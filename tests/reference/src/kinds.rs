@@ -51,7 +51,7 @@ pub const ADD: u8 = 0;
 pub const SUBTRACT: u8 = 1;
 /// ARITH gives a × b.
 pub const MULTIPLY: u8 = 2;
-/// ARITH gives a / b, rounded toward zero.
+/// ARITH gives a / b, rounded toward minus infinity.
 pub const DIVIDE: u8 = 3;
 /// ARITH gives 1 if a < b, else 0.
 pub const LESS: u8 = 4;

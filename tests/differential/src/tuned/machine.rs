@@ -191,11 +191,13 @@ impl<'c> Machine<'c> {
                     frames.put_integer(frame, d, product);
                 }
                 Op::Divide { d, a, b } => {
-                    let a = frames.integer(frame, a);
-                    let Some(quotient) = a.checked_div(frames.integer(frame, b)) else {
+                    let (a, b) = (frames.integer(frame, a), frames.integer(frame, b));
+                    let Some(quotient) = a.checked_div(b) else {
                         break Some(End::Undef);
                     };
-                    frames.put_integer(frame, d, quotient);
+                    // Toward minus infinity: one less where the signs differ and it is not exact.
+                    let less = (a ^ b) < 0 && quotient * b != a;
+                    frames.put_integer(frame, d, quotient - Integer::from(less));
                 }
                 Op::Less { d, a, b } => {
                     let less = frames.integer(frame, a) < frames.integer(frame, b);

@@ -36,6 +36,9 @@ impl Body<'_> {
 
     /// An operation that is expected to stay in range.
     pub(super) fn arith(&mut self) -> Option<()> {
+        if self.random.one_in(6) {
+            return self.division();
+        }
         let (a, b) = (self.integer()?, self.integer()?);
         let op = self.random.pick(&[
             kinds::ADD,
@@ -50,11 +53,42 @@ impl Body<'_> {
         let (op, b) = match outcome(op, self.fact(a), self.fact(b)) {
             Some(_) => (op, b),
             None if risky => (op, b),
-            None if op == kinds::DIVIDE => (op, self.integer_between(1, 9)?),
+            None if op == kinds::DIVIDE => {
+                let (low, high) = self.random.pick(&[(1, 9), (-9, -2)]);
+                (op, self.integer_between(low, high)?)
+            }
             None => (kinds::LESS, b),
         };
         let d = self.target(Gives::Plain(Kind::INTEGER))?;
         let fact = outcome(op, self.fact(a), self.fact(b)).unwrap_or(Fact::MODERATE);
+        self.emit(Instruction::Arith { d, op, a, b }, fact);
+        Some(())
+    }
+
+    /// A division of literals of both signs, exact or not, some at an end of the range.
+    fn division(&mut self) -> Option<()> {
+        let divisor = self.random.between(1, 9);
+        let ends = [RANGE.0, RANGE.0 + 1, RANGE.1, RANGE.1 - 1];
+        let b = match self.random.below(8) {
+            0 => self.random.pick(&ends),
+            1 => self.random.pick(&[1, -1]),
+            _ => self.random.pick(&[divisor, -divisor]),
+        };
+        let exact = b.signum() * self.random.between(-9, 9) * divisor;
+        let any = self.random.between(-100, 100);
+        let a = match self.random.below(8) {
+            0 => self.random.pick(&ends),
+            1..=3 => exact,
+            _ => any,
+        };
+        let quotient = a.div_euclid(b) - i64::from(b < 0 && a.rem_euclid(b) != 0);
+        if quotient > RANGE.1 {
+            return None;
+        }
+        let (a, b) = (self.literal(a)?, self.literal(b)?);
+        let d = self.target(Gives::Plain(Kind::INTEGER))?;
+        let op = kinds::DIVIDE;
+        let fact = Fact::exactly(quotient);
         self.emit(Instruction::Arith { d, op, a, b }, fact);
         Some(())
     }
@@ -101,6 +135,10 @@ fn outcome(op: u8, a: Fact, b: Fact) -> Option<Fact> {
             (low, products.into_iter().max()?)
         }
         kinds::DIVIDE if bl > 0 => (al.min(0), ah.max(0)),
+        kinds::DIVIDE if bh < 0 => {
+            let most = al.abs().max(ah.abs());
+            (-most, most)
+        }
         kinds::DIVIDE => return None,
         _ => (0, 1),
     };

@@ -3,6 +3,7 @@
 mod accepted;
 mod broken;
 mod damaged;
+mod division;
 mod events;
 mod refill;
 mod round_trip;

@@ -14,7 +14,7 @@ impl State {
             kinds::ADD => a.checked_add(b),
             kinds::SUBTRACT => a.checked_sub(b),
             kinds::MULTIPLY => a.checked_mul(b),
-            kinds::DIVIDE => a.checked_div(b),
+            kinds::DIVIDE => quotient(a, b),
             kinds::LESS => Some(Integer::from(a < b)),
             _ => return Err(Halt::Stuck),
         };
@@ -51,4 +51,13 @@ impl State {
         self.pass(1);
         Ok(())
     }
+}
+
+/// The quotient, rounded toward minus infinity; none for a divisor of 0, and for
+/// the least integer by −1.
+fn quotient(a: Integer, b: Integer) -> Option<Integer> {
+    let toward_zero = a.checked_div(b)?;
+    let rest = a % b;
+    let above = rest != 0 && (rest < 0) != (b < 0);
+    Some(if above { toward_zero - 1 } else { toward_zero })
 }

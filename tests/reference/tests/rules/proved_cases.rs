@@ -76,9 +76,9 @@ fn p9_set_on_the_shared_vector_is_8_at_the_set() {
 }
 
 #[test]
-fn p10_minus_7_divided_by_2_is_minus_3() {
+fn p10_minus_7_divided_by_2_is_minus_4() {
     let (answer, steps, _) = run(&image(DIVISION), &[-1, -7, -1, 2], 100);
-    assert_eq!((answer, steps), (Answer::Ended(End::Integer(-3)), 2));
+    assert_eq!((answer, steps), (Answer::Ended(End::Integer(-4)), 2));
 }
 
 #[test]

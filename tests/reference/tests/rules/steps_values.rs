@@ -71,15 +71,43 @@ fn multiply_is_undef_only_out_of_range() {
 }
 
 #[test]
-fn divide_rounds_toward_zero() {
+fn divide_rounds_toward_minus_infinity() {
     operation("div", 7, 2, 3);
-    operation("div", -7, 2, -3);
-    operation("div", 7, -2, -3);
+    operation("div", -7, 2, -4);
+    operation("div", 7, -2, -4);
     operation("div", -7, -2, 3);
-    operation("div", -6, 2, -3);
     operation("div", 1, 2, 0);
-    operation("div", -1, 2, 0);
+    operation("div", -1, 2, -1);
+    operation("div", 1, -2, -1);
+    operation("div", -1, -2, 0);
+}
+
+#[test]
+fn divide_is_exact_where_nothing_is_left() {
+    operation("div", 6, 2, 3);
+    operation("div", -6, 2, -3);
+    operation("div", 6, -2, -3);
+    operation("div", -6, -2, 3);
+    operation("div", 0, -5, 0);
+    operation("div", 0, 5, 0);
+}
+
+#[test]
+fn divide_at_both_ends_of_the_range() {
     operation("div", LEAST, 1, LEAST);
+    operation("div", LEAST, 2, -1_073_741_824);
+    operation("div", LEAST, 3, -715_827_883);
+    operation("div", LEAST, -3, 715_827_882);
+    operation("div", GREATEST, -1, -2_147_483_647);
+    operation("div", GREATEST, 2, 1_073_741_823);
+    operation("div", GREATEST, -2, -1_073_741_824);
+    operation("div", LEAST, GREATEST, -2);
+    operation("div", GREATEST, LEAST, -1);
+    operation("div", 1, LEAST, -1);
+    operation("div", -1, LEAST, 0);
+    operation("div", -1, GREATEST, -1);
+    operation("div", LEAST, LEAST, 1);
+    operation("div", LEAST + 1, -1, GREATEST);
 }
 
 #[test]
