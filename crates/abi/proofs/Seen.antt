@@ -1,6 +1,6 @@
 -- A field of a caller's state behind a `&`, at the state's own lifetime: the state's `&` stays, and there is no loan.
 --     Sees F d x   a `&κ` to the state h, with a token  ⊢ ⇛ ∃ γ′. what a `&κ` to the field x, d bytes on, owns ∗ the token
---     sees-codes, sees-numbers, sees-calls
+--     sees-codes, sees-numbers, sees-owners, sees-calls
 -- Assumes `Given`.
 use mathlib.Core.Path.{refl, subst}
 use Prim.Native.Nat.{ℕ, _+_}
@@ -47,6 +47,10 @@ module _ {M : Type 1} (𝓤 : URA M) (H : Heap 𝓤) (A : Atoms 𝓤) (W : Given
   pub sees-numbers : Sees (Array i32 768) 0 (h .numbers)
   sees-numbers = sees (Array i32 768) 0 (h .numbers) (subst (λ (xs : List (i32 .Denot)). ent 𝓤 (sep 𝓤 (A .shr-bor κ (λ s. partAt T.the-row s h b o)) (A .lft κ q)) (H .⇛ (sep 𝓤 (A .shr-bor κ (λ s. partAt (Array i32 768) s xs b (o + 0))) (A .lft κ q)))) (map-id (h .numbers))
       (part-field 𝓤 H A W T.the-type T′.the-laws T′.the-copy 0 0 refl refl (T.struct .as-values) (λ x. refl) κ q h b o))
+
+  pub sees-owners : Sees (Array u8 64) 9024 (h .owners)
+  sees-owners = sees (Array u8 64) 9024 (h .owners) (subst (λ (xs : List ℕ). ent 𝓤 (sep 𝓤 (A .shr-bor κ (λ s. partAt T.the-row s h b o)) (A .lft κ q)) (H .⇛ (sep 𝓤 (A .shr-bor κ (λ s. partAt (Array u8 64) s xs b (o + 9024))) (A .lft κ q)))) (map-id (h .owners))
+      (part-field 𝓤 H A W T.the-type T′.the-laws T′.the-copy 5 9024 refl refl (T.struct .as-values) (λ x. refl) κ q h b o))
 
   pub sees-calls : Sees u8 9536 (h .calls)
   sees-calls = sees u8 9536 (h .calls) (part-field 𝓤 H A W T.the-type T′.the-laws T′.the-copy 9 9536 refl refl (T.struct .as-values) (λ x. refl) κ q h b o)

@@ -6,6 +6,7 @@ use Rattle.checker.specs.Reports.{reportedOf}
 use Rattle.checker.specs.declared.Reported.{Reported}
 use Rattle.checker.specs.declared.Verdict.{Verdict}
 use Rattle.machine.specs.declared.Answer.{Answer}
+use Rattle.machine.specs.declared.Changed.{Changed}
 use Rattle.machine.specs.declared.Entry.{Entry}
 use Rattle.machine.specs.declared.Said.{Said}
 use Rattle.snapshots.specs.Held.{endingOf}
@@ -32,6 +33,11 @@ writtenOf t places = lengthIn (reportedOf t places)
 unfoldable pub entryNumbers : Entry → FirEntry
 entryNumbers Entry.Begun = record { offset = 0; question = 0 }
 entryNumbers (Entry.Refused q p) = record { offset = p; question = q }
+
+-- a new image: a refusal's offset and number
+unfoldable pub changedNumbers : Changed → FirEntry
+changedNumbers Changed.Taken = record { offset = 0; question = 0 }
+changedNumbers (Changed.Refused q p) = record { offset = p; question = q }
 
 -- a single step: 0 goes on, 1 to 6 an end, 7 stuck
 unfoldable pub saidNumbers : Said → FirSaid

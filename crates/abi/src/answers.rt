@@ -1,10 +1,11 @@
 //! Answers as numbers, in the layout of C.
 ghost use mathlib.Core.Path.{_≡_};
-ghost use Rattle.abi.specs.Answers.{answerNumbers, entryNumbers, plainNumbers, saidNumbers, verdictNumbers};
+ghost use Rattle.abi.specs.Answers.{answerNumbers, changedNumbers, entryNumbers, plainNumbers, saidNumbers, verdictNumbers};
 ghost use Rattle.abi.specs.Looks.{noPlace, valueNumbers};
 ghost use Rattle.engine.specs.Parts.{saidOf};
 use checker::Verdict;
 use machine::Answer;
+use machine::Changed;
 use machine::Entry;
 use machine::Value;
 
@@ -15,7 +16,7 @@ pub struct FirVerdict {
     pub question: u8,
 }
 
-/// Whether a run has begun: 0, or the question that refuses it and the offset.
+/// Whether a run has begun, or goes on under a new image: 0, or the question that refuses it and the offset.
 #[repr(C)]
 pub struct FirEntry {
     pub offset: u16,
@@ -75,6 +76,22 @@ pub fn entry(entry: Entry) -> FirEntry
             question: 0,
         },
         Entry::Refused(q, p) => FirEntry {
+            offset: p,
+            question: q,
+        },
+    }
+}
+
+/// The numbers of a change.
+pub fn changed(changed: Changed) -> FirEntry
+    ensures { λ r. ⌜ r ≡ changedNumbers changed ⌝ }
+{
+    match changed {
+        Changed::Taken => FirEntry {
+            offset: 0,
+            question: 0,
+        },
+        Changed::Refused(q, p) => FirEntry {
             offset: p,
             question: q,
         },

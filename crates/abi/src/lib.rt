@@ -5,9 +5,10 @@ ghost use Rattle.checker.specs.Verdicts.{verdictOf};
 ghost use Rattle.checker.specs.Reports.{reportText};
 ghost use Rattle.writer.specs.Text.{placed};
 ghost use Rattle.machine.specs.Begin.{beginOf, programOf, runOf};
+ghost use Rattle.machine.specs.Changes.{changeOf};
 ghost use Rattle.machine.specs.Runs.{budgetOf, stepOf};
 ghost use Rattle.snapshots.specs.Held.{held};
-ghost use Rattle.abi.specs.Answers.{entryNumbers, saidNumbers, stateAlignment, stateSize, verdictNumbers, writtenOf};
+ghost use Rattle.abi.specs.Answers.{changedNumbers, entryNumbers, saidNumbers, stateAlignment, stateSize, verdictNumbers, writtenOf};
 ghost use Rattle.abi.specs.Exits.{Answers, Began};
 ghost use Rattle.abi.specs.Looks.{lookOf};
 use answers::FirAnswer;
@@ -187,6 +188,15 @@ pub extern "C" fn fir_run(
         &mut state.length,
         &mut state.value,
     )
+}
+
+/// Whether the state goes on under the new image: its questions are asked, and then 15. Nothing is written: where the answer
+/// is 0 the caller goes on with the new image, else with the old one.
+#[no_mangle]
+pub extern "C" fn fir_change(old: &[u8], new: &[u8], state: &Snapshot) -> FirEntry
+    ensures { λ r. ⌜ r ≡ changedNumbers (changeOf (now (old .entry)) (now (new .entry)) (held (now (state .entry)))) ⌝ }
+{
+    parts::change(old, new, &state.owners, &state.calls)
 }
 
 /// What the place of a live call holds: registers are the places 0 to 15, names the places 16 to 23.

@@ -3,18 +3,21 @@ ghost use mathlib.Core.Path.{_≡_};
 ghost use Prim.Native.Nat.{ℕ, _<_};
 ghost use lib.IntN.{ℤ};
 ghost use mathlib.Core.List.{List};
+ghost use Rattle.changes.specs.Owners.{ownedBy};
 ghost use Rattle.machine.specs.Begin.{programOf};
+ghost use Rattle.machine.specs.Changes.{changeOf};
 ghost use Rattle.machine.specs.Runs.{budgetIn, budgetOf, runFrom, stepOf};
 ghost use Rattle.machine.specs.declared.Answer.{Answer};
 ghost use Rattle.machine.specs.declared.Status.{Status};
 ghost use Rattle.memory.specs.Memory.{memoryOf};
 ghost use Rattle.snapshots.specs.Held.{held, snapshotOf, statusOf};
 ghost use Rattle.stepping.specs.Going.{Placed, ranOf};
-ghost use Rattle.abi.specs.Answers.{saidNumbers};
+ghost use Rattle.abi.specs.Answers.{changedNumbers, saidNumbers};
 ghost use Rattle.abi.specs.Exits.{Answers, Comes};
 ghost use Rattle.abi.specs.Looks.{lookIn};
 use crate::answers;
 use crate::answers::FirAnswer;
+use crate::answers::FirEntry;
 use crate::answers::FirSaid;
 use crate::answers::FirValue;
 use flat::frames;
@@ -312,4 +315,12 @@ pub fn look<'s>(
     }
     let value = frames::cell(codes, numbers, CELLS * call + place);
     answers::value(value)
+}
+
+/// Whether the state goes on under the new image.
+pub fn change<'s>(old: &[u8], new: &[u8], owners: &'s [u8; 64], calls: &'s u8) -> FirEntry
+    ensures { λ r. ⌜ r ≡ changedNumbers (changeOf (now (old .entry)) (now (new .entry)) (ownedBy (now (owners .entry)) (now (calls .entry)))) ⌝ }
+{
+    let live = *calls;
+    answers::changed(changes::change(old, new, owners, live))
 }

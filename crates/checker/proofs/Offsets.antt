@@ -153,6 +153,11 @@ unfolding first Each Within
 first-in q n [] e = tt
 first-in q n (v ∷ vs) e = within-either n (q .ofVersion v) _ (At (v .at)) (block-in q v 0 n (v .blocks) _ (e .0 .1) (first-in q n vs (e .1))) (e .0 .0)
 
+-- the first record of an image that fails a question to its program stands within the image
+pub first-low : (q : Question) (s : List ℕ) (p : ℕ) → first q (program (records s)) ≡ At p → p ≤ length s
+unfolding Within
+first-low q s p e = let h : Within (length s) (first q (program (records s))) = first-in q (length s) (program (records s)) (view-in (length s) (records s) (records-in s) .versions) in rw e at h
+
 -- ---- the verdict
 
 -- the offset of a refusal is at most n

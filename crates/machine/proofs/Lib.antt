@@ -1,3 +1,4 @@
 pub mod Places
 pub mod Tries
 pub mod Matching
+pub mod Changes

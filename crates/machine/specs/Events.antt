@@ -1,44 +1,69 @@
--- What demand 3 speaks of: lists of single steps and budgets, and what each leaves.
-use mathlib.Core.List.{List, [], _∷_, _++_}
+-- What demand 3 speaks of: lists of single steps, budgets and changes of the image, and what each leaves.
+use mathlib.Core.List.{List, [], _∷_, _++_, map}
 use mathlib.Core.Bool.{true, false}
 use Prim.Native.Nat.{ℕ, zero, suc}
 use lib.IntN.{ℤ}
 use Rattle.program.specs.Program.{Program}
 use Rattle.machine.specs.Runs.{longEnough, stepOf, budgetOf, bufferOf}
+use Rattle.machine.specs.Begin.{programOf}
+use Rattle.machine.specs.Changes.{changeOf}
 use Rattle.machine.specs.declared.Answer.{Answer}
+use Rattle.machine.specs.declared.Changed.{Changed}
 use Rattle.machine.specs.declared.Said.{Said}
 use Rattle.machine.specs.declared.State.{State}
 use Rattle.machine.specs.declared.Status.{Status}
 
--- a single step, or a budget of steps with any lent buffer
+-- a run: its state, and the image in force
+pub record Run : Type 0 where
+  pub image : List ℕ
+  pub state : State
+
+-- the program of the image in force
+abbrev pub programIn : Run → Program
+programIn r = programOf (r .image)
+
+-- the run in another state
+abbrev pub inState : Run → State → Run
+inState r s = record { image = r .image; state = s }
+
+-- a single step, a budget of steps with any lent buffer, or a change to another image
 pub data Event : Type 0 where
   single : Event
   budget : ℕ → List ℤ → Event
+  change : List ℕ → Event
 
--- what an event says: a single step its word, a budget its answer, its steps and the lent buffer
+-- what an event says: a single step its word, a budget its answer, its steps and the lent buffer, a change whether it is taken
 pub data Reply : Type 0 where
   said : Said → Reply
   gave : Answer → ℕ → List ℤ → Reply
+  became : Changed → Reply
 
--- the state that an event returns or leaves, and its reply
+-- the run that an event returns or leaves, and its reply
 pub record Handled : Type 0 where
-  pub state : State
+  pub run : Run
   pub reply : Reply
 
--- what one event does to the state s, and its reply
-unfoldable pub handle : Program → Event → State → Handled
-handle P single s = let r = stepOf P s in record { state = r .state; reply = said (r .said) }
-handle P (budget n buffer) s = let r = budgetOf P s n buffer in record { state = r .state; reply = gave (r .answer) (r .steps) (bufferOf r buffer) }
+-- the image in force after a change; any refusal leaves the state under the old one
+unfoldable pub inForce : Changed → List ℕ → List ℕ → List ℕ
+inForce Changed.Taken old new = new
+inForce (Changed.Refused q p) old new = old
 
--- the state after a list of events, each handed the state that the one before left
-unfoldable pub after : Program → List Event → State → State
-after P [] s = s
-after P (e ∷ es) s = after P es (handle P e s .state)
+-- what one event does to a run under the image in force, and its reply; a change carries the state over whole
+unfoldable pub handle : Event → Run → Handled
+handle single r = let x = stepOf (programIn r) (r .state) in record { run = inState r (x .state); reply = said (x .said) }
+handle (budget n buffer) r =
+    let x = budgetOf (programIn r) (r .state) n buffer in record { run = inState r (x .state); reply = gave (x .answer) (x .steps) (bufferOf x buffer) }
+handle (change new) r = let x = changeOf (r .image) new (r .state) in record { run = record { image = inForce x (r .image) new; state = r .state }; reply = became x }
+
+-- the run after a list of events, each handed what the one before left
+unfoldable pub after : List Event → Run → Run
+after [] r = r
+after (e ∷ es) r = after es (handle e r .run)
 
 -- their replies, in order
-unfoldable pub replies : Program → List Event → State → List Reply
-replies P [] s = []
-replies P (e ∷ es) s = let h = handle P e s in h .reply ∷ replies P es (h .state)
+unfoldable pub replies : List Event → Run → List Reply
+replies [] r = []
+replies (e ∷ es) r = let h = handle e r in h .reply ∷ replies es (h .run)
 
 -- ---- history: the states in which a step was tried, in order
 
@@ -58,12 +83,17 @@ unfoldable pub triedIn : Program → State → ℕ → Status → List State
 triedIn P s n Status.Running = triedUnder P n s
 triedIn P s n (Status.Ended e) = []
 
--- by one event: a budget refused by 13, or on an ended run, tries none
-unfoldable pub tried : Program → Event → State → List State
-tried P single s = s ∷ []
-tried P (budget n buffer) s = elim (longEnough buffer) [ true ↦ triedIn P s n (s .status) | false ↦ [] ]
+-- by a budget; one refused by 13 tries none
+unfoldable pub triedBy : Program → State → ℕ → List ℤ → List State
+triedBy P s n buffer = elim (longEnough buffer) [ true ↦ triedIn P s n (s .status) | false ↦ [] ]
 
--- What demand 3 speaks of: by a list of events, every state in which a step was tried
-unfoldable pub history : Program → List Event → State → List State
-history P [] s = []
-history P (e ∷ es) s = tried P e s ++ history P es (handle P e s .state)
+-- by one event, each with the image in force then; a change tries none
+unfoldable pub tried : Event → Run → List Run
+tried single r = r ∷ []
+tried (budget n buffer) r = map (inState r) (triedBy (programIn r) (r .state) n buffer)
+tried (change new) r = []
+
+-- What demand 3 speaks of: by a list of events, every state in which a step was tried, with the image in force then
+unfoldable pub history : List Event → Run → List Run
+history [] r = []
+history (e ∷ es) r = tried e r ++ history es (handle e r .run)

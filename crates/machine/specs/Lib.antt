@@ -5,5 +5,6 @@ pub mod Calls
 pub mod Steps
 pub mod Runs
 pub mod Begin
+pub mod Changes
 pub mod Events
 pub mod Frames

@@ -121,6 +121,12 @@ pub enum Entry {
     Refused(u8, u16),
 }
 
+/// Whether a state goes on under a new image, or a refusal's number and offset.
+pub enum Changed {
+    Taken,
+    Refused(u8, u16),
+}
+
 /// A run begun: its state before the first step; one without calls where it is refused.
 pub struct Begun {
     pub state: State,

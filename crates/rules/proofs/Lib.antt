@@ -1,4 +1,5 @@
 pub mod Before
+pub mod Calm
 pub mod Follows
 pub mod Needs
 pub mod Prefixes

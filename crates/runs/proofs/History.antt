@@ -10,14 +10,13 @@ use lib.IntN.{ℤ}
 use lib.ListN.{length}
 use Rattle.program.specs.Program.{Program}
 use Rattle.machine.specs.Runs.{stepOf, lastStep, continued, runFrom, budgetIn, longEnough, budgetOf}
-use Rattle.machine.specs.Events.{budget}
 use Rattle.machine.specs.declared.Answer.{Answer}
 use Rattle.machine.specs.declared.End.{End}
 use Rattle.machine.specs.declared.Ran.{Ran}
 use Rattle.machine.specs.declared.Said.{Said}
 use Rattle.machine.specs.declared.State.{State}
 use Rattle.machine.specs.declared.Status.{Status}
-use Rattle.machine.specs.Events.{onward, triedUnder, triedIn, tried}
+use Rattle.machine.specs.Events.{onward, triedUnder, triedIn, triedBy}
 
 -- ---- the statement
 
@@ -27,7 +26,7 @@ Stops run m b = (j : ℕ) × (j < m) × (run j .answer ≡ Answer.Steps) × (run
 
 -- a step is tried in b exactly where a smaller budget, with the same buffer, stops with STEPS in b
 abbrev pub TriedWhere : Program → State → ℕ → List ℤ → State → Type 0
-TriedWhere P s m buffer b = List·Memᴰ b (tried P (budget m buffer) s) ↔ Stops (λ j. budgetOf P s j buffer) m b
+TriedWhere P s m buffer b = List·Memᴰ b (triedBy P s m buffer) ↔ Stops (λ j. budgetOf P s j buffer) m b
 
 -- one more in the budget is one more single step, where it stopped with STEPS
 abbrev pub Linked : Program → State → ℕ → List ℤ → Type 0
@@ -42,7 +41,7 @@ untaken Answer.Stuck = 1
 
 -- as many states as steps tried
 abbrev pub TriedCount : Program → State → ℕ → List ℤ → Type 0
-TriedCount P s n buffer = length (tried P (budget n buffer) s) ≡ budgetOf P s n buffer .steps + untaken (budgetOf P s n buffer .answer)
+TriedCount P s n buffer = length (triedBy P s n buffer) ≡ budgetOf P s n buffer .steps + untaken (budgetOf P s n buffer .answer)
 
 -- ---- a run that goes on, behind n steps
 
@@ -140,12 +139,12 @@ module _ (P : Program) (s : State) (buffer : List ℤ) where
 
   -- THE LAW: where a budget tries its steps
   pub tried-where : (m : ℕ) (b : State) → TriedWhere P s m buffer b
-  unfolding tried budgetOf
+  unfolding triedBy budgetOf
   tried-where m b = go (longEnough buffer) refl
     where
       go : (l : Bool) → longEnough buffer ≡ l → TriedWhere P s m buffer b
-      go true e = rw (e, tried, budgetOf) (in-where (s .status) m b)
-      go false e = rw (e, tried, budgetOf) (λ l. absurd (List·Memᴰ·not-nil l), λ t. absurd (not-refused 13 0 (t .2)))
+      go true e = rw (e, triedBy, budgetOf) (in-where (s .status) m b)
+      go false e = rw (e, triedBy, budgetOf) (λ l. absurd (List·Memᴰ·not-nil l), λ t. absurd (not-refused 13 0 (t .2)))
 
   -- one more step of a budget that is not refused
   in-linked : (st : Status) (j : ℕ) → budgetIn P s j st .answer ≡ Answer.Steps → budgetIn P s (suc j) st .state ≡ stepOf P (budgetIn P s j st .state) .state
@@ -170,9 +169,9 @@ module _ (P : Program) (s : State) (buffer : List ℤ) where
 
   -- THE LAW: how many they are
   pub tried-count : (n : ℕ) → s .status ≡ Status.Running → TriedCount P s n buffer
-  unfolding tried budgetOf untaken
+  unfolding triedBy budgetOf untaken
   tried-count n run = go (longEnough buffer) refl
     where
       go : (l : Bool) → longEnough buffer ≡ l → TriedCount P s n buffer
-      go true e = rw (e, tried, budgetOf) (in-count (s .status) n run)
-      go false e = rw (e, tried, budgetOf) refl
+      go true e = rw (e, triedBy, budgetOf) (in-count (s .status) n run)
+      go false e = rw (e, triedBy, budgetOf) refl

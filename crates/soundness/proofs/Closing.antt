@@ -1,7 +1,7 @@
--- From one step to all events: the invariant is kept, and a state that has it, with the history that led to it, is safe.
+-- From one step to a budget: the invariant is kept, and what the claim says of a state that has it.
 use mathlib.Core.Path.{_≡_, refl, sym, ap, _∙_, subst}
 use mathlib.Core.Logic.{_≢_, _⊎_, inl, inr}
-use mathlib.Core.List.{List, [], _∷_, _++_, List·Memᴰ, List·Memᴰ·head, List·Memᴰ·tail}
+use mathlib.Core.List.{List, [], _∷_, List·Memᴰ, List·Memᴰ·head, List·Memᴰ·tail}
 use mathlib.Core.Option.{some}
 use mathlib.Core.Bool.{Bool, true, false, true≢false, false≢true}
 use Prim.Native.Nat.{ℕ, zero, suc, _+_, _<_}
@@ -21,7 +21,7 @@ use Rattle.machine.specs.Try.{Try, got, stuck, stop, _>>=_, orStuck, at}
 use Rattle.machine.specs.States.{register, named, withEnd}
 use Rattle.machine.specs.Steps.{advance}
 use Rattle.machine.specs.Runs.{saying, settled, stepIn, stepOf, continued, runFrom, budgetIn, longEnough, budgetOf}
-use Rattle.machine.specs.Events.{Event, single, budget, handle, after, onward, triedUnder, triedIn, tried, history}
+use Rattle.machine.specs.Events.{onward, triedUnder, triedIn, triedBy}
 use Rattle.machine.specs.declared.End.{End}
 use Rattle.machine.specs.declared.Frame.{Frame}
 use Rattle.machine.specs.declared.Ran.{Ran}
@@ -29,20 +29,18 @@ use Rattle.machine.specs.declared.Said.{Said}
 use Rattle.machine.specs.declared.State.{State}
 use Rattle.machine.specs.declared.Status.{Status}
 use Rattle.machine.specs.declared.Value.{Value}
-use Rattle.soundness.specs.Claim.{Live, entered, Declared, OfType, nothing, ofKind, Owns, Borrows, Safe}
+use Rattle.soundness.specs.Claim.{Live, entered, Declared, OfType, nothing, ofKind, Owns, Borrows}
 use Rattle.soundness.proofs.Cells.{Whole, cell, cellAt, frameAt, register-is, named-is}
 use Rattle.soundness.proofs.Invariant.{Sure, versionAt, cellType, typeAt, isFull, Fits, Unshared, Inv}
 use Rattle.soundness.proofs.Progress.{Good}
 use Rattle.checker.proofs.Limits.{limited}
 use Rattle.soundness.proofs.LiveCalls.{live-frame}
 use Rattle.soundness.proofs.KindsOf.{valueKind, kind-got, kind-within}
-use Rattle.soundness.proofs.Quiet.{reflective-runs, none-quiet}
 
 -- a step of a run that goes on is not stuck and keeps the invariant
 abbrev pub StepSafe : Program → Type 0
 StepSafe P = (s : State) → Inv P s → s .status ≡ Status.Running → Good (Inv P) (advance P s)
 
--- an ended run does not go on
 -- an end keeps all but the stack, which is spoken of only while the run goes on
 pub end-keeps : (P : Program) (s : State) (xs : List ℤ) (e : End) → Inv P s → Inv P (withEnd s xs e)
 unfolding withEnd
@@ -94,21 +92,10 @@ module _ (P : Program) (safe : StepSafe P) where
       go true e = rw (e, budgetOf) (budget-in-keeps s n (s .status) inv)
       go false e = rw (e, budgetOf) inv
 
-  pub handle-keeps : (e : Event) (s : State) → Inv P s → Inv P (handle P e s .state)
-  unfolding handle
-  handle-keeps single s inv = step-keeps s inv
-  handle-keeps (budget n buffer) s inv = budget-keeps s n buffer inv
-
-  -- any list of events
-  pub after-keeps : (es : List Event) (s : State) → Inv P s → Inv P (after P es s)
-  unfolding after
-  after-keeps [] s inv = inv
-  after-keeps (e ∷ es) s inv = after-keeps es (handle P e s .state) (handle-keeps e s inv)
-
 -- ---- every state in which a step was tried has the invariant
 
 -- what holds of every state in a list
-abbrev All : (State → Type 0) → List State → Type 0
+abbrev pub All : (State → Type 0) → List State → Type 0
 All Q l = (b : State) → List·Memᴰ b l → Q b
 
 -- no state
@@ -119,11 +106,6 @@ all-none Q b m = elim m [ ]
 all-cons : (Q : State → Type 0) (s : State) (l : List State) → Q s → All Q l → All Q (s ∷ l)
 all-cons Q s l q all b (List·Memᴰ·head e) = subst Q (sym e) q
 all-cons Q s l q all b (List·Memᴰ·tail m) = all b m
-
--- two lists
-all-append : (Q : State → Type 0) (l m : List State) → All Q l → All Q m → All Q (l ++ m)
-all-append Q [] m p q = q
-all-append Q (x ∷ l) m p q = all-cons Q x (l ++ m) (p x (List·Memᴰ·head refl)) (all-append Q l m (λ b i. p b (List·Memᴰ·tail i)) q)
 
 module _ (P : Program) (safe : StepSafe P) where
   -- those behind a step
@@ -145,20 +127,14 @@ module _ (P : Program) (safe : StepSafe P) where
   in-all s n Status.Running inv = under-all n s inv
   in-all s n (Status.Ended e) inv = all-none (Inv P)
 
-  -- those of one event
-  tried-all : (e : Event) (s : State) → Inv P s → All (Inv P) (tried P e s)
-  unfolding tried
-  tried-all single s inv = all-cons (Inv P) s [] inv (all-none (Inv P))
-  tried-all (budget n buffer) s inv = go (longEnough buffer) refl
+  -- those of any budget
+  pub tried-all : (s : State) (n : ℕ) (buffer : List ℤ) → Inv P s → All (Inv P) (triedBy P s n buffer)
+  unfolding triedBy
+  tried-all s n buffer inv = go (longEnough buffer) refl
     where
-      go : (b : Bool) → longEnough buffer ≡ b → All (Inv P) (tried P (budget n buffer) s)
-      go true e = rw (e, tried) (in-all s n (s .status) inv)
-      go false e = rw (e, tried) (all-none (Inv P))
-
-  pub history-all : (es : List Event) (s : State) → Inv P s → (b : State) → List·Memᴰ b (history P es s) → Inv P b
-  unfolding history
-  history-all [] s inv = all-none (Inv P)
-  history-all (e ∷ es) s inv = all-append (Inv P) (tried P e s) (history P es (handle P e s .state)) (tried-all e s inv) (history-all es (handle P e s .state) (handle-keeps P safe e s inv))
+      go : (b : Bool) → longEnough buffer ≡ b → All (Inv P) (triedBy P s n buffer)
+      go true e = rw (e, triedBy) (in-all s n (s .status) inv)
+      go false e = rw (e, triedBy) (all-none (Inv P))
 
   -- ---- no step is stuck
 
@@ -250,7 +226,7 @@ module _ (P : Program) (sure : Sure P) (s : State) (inv : Inv P s) where
     live-whole = subst Whole frame-at (inv .heap .sized .whole k (omega (arith, is-live, inv .heap .bound)))
 
     -- its version is one of the program
-    live-known : entered P f ≡ some (versionAt P (s .frames) k)
+    pub live-known : entered P f ≡ some (versionAt P (s .frames) k)
     unfolding entered
     live-known = ap (λ (g : Frame). findVersion P (g .function) (g .version)) (sym frame-at) ∙ inv .heap .known k is-live
 
@@ -278,7 +254,7 @@ module _ (P : Program) (sure : Sure P) (s : State) (inv : Inv P s) where
         register-type (versionAt P (s .frames) k) r (declared-register r t d) ∙ ap (λ (v : Version). typeOf v r) (sym (declared-version r t d)) ∙ get-in (d .version .types) r 0 t (d .typed) .1
 
     -- it holds nothing or a value of its type
-    register-typed : (r t : ℕ) → Declared P f r t → (v : Value) × (register f r ≡ got v) × OfType P s t v
+    pub register-typed : (r t : ℕ) → Declared P f r t → (v : Value) × (register f r ≡ got v) × OfType P s t v
     register-typed r t d = (cell f r, register-is f live-whole r (declared-register r t d), rw (cell-at r) (of-type k t (cellAt (s .frames) k r) is-live (rw (declared-type r t d) at (inv .heap .typed k r is-live))))
 
     -- a borrowed cell of it is a borrowed register
@@ -313,7 +289,7 @@ module _ (P : Program) (sure : Sure P) (s : State) (inv : Inv P s) where
     shares k′ c′ f′ l e = inv .heap .own k r k′ c′ v owner-live (is-live k′ f′ l) owner-holds (sym (cell-at k′ f′ l c′) ∙ e) owner-owned
 
     -- so no name holds it
-    none-named : (k′ x : ℕ) (f′ : Frame) → Live s k′ f′ → named f′ x ≢ got (Value.Vector v)
+    pub none-named : (k′ x : ℕ) (f′ : Frame) → Live s k′ f′ → named f′ x ≢ got (Value.Vector v)
     unfolding typeAt
     none-named k′ x f′ l e = go (shares k′ (REGISTERS + x) f′ l (name-holds f′ (live-whole k′ f′ l) x (Value.Vector v) e))
       where
@@ -321,7 +297,7 @@ module _ (P : Program) (sure : Sure P) (s : State) (inv : Inv P s) where
         go (inl q) = omega (arith, q .1, owner-register)
         go (inr q) = true≢false (sym (q .0) ∙ name-not-borrowed (versionAt P (s .frames) k′) x)
 
-    none-shared : (k′ r′ : ℕ) (f′ : Frame) → Live s k′ f′ → register f′ r′ ≡ got (Value.Vector v) → ((k′ ≡ k) × (r′ ≡ r)) ⊎ ((k < k′) × Borrows P f′ r′)
+    pub none-shared : (k′ r′ : ℕ) (f′ : Frame) → Live s k′ f′ → register f′ r′ ≡ got (Value.Vector v) → ((k′ ≡ k) × (r′ ≡ r)) ⊎ ((k < k′) × Borrows P f′ r′)
     none-shared k′ r′ f′ l e = go (shares k′ r′ f′ l (h .1))
       where
         h : (r′ < REGISTERS) × (cell f′ r′ ≡ Value.Vector v)
@@ -330,20 +306,3 @@ module _ (P : Program) (sure : Sure P) (s : State) (inv : Inv P s) where
         go : ((k′ ≡ k) × (r′ ≡ r)) ⊎ ((isBorrowed (typeAt P (s .frames) k′ r′) ≡ true) × (k < k′)) → ((k′ ≡ k) × (r′ ≡ r)) ⊎ ((k < k′) × Borrows P f′ r′)
         go (inl q) = inl q
         go (inr q) = inr (q .1, register-borrows k′ f′ l r′ (h .0) (q .0))
-
--- THE LAW: from a state with the invariant, every list of events is safe
-pub safe-after : (P : Program) → Sure P → StepSafe P → (events : List Event) (s : State) → Inv P s → Safe P (history P events s) (after P events s)
-safe-after P sure safe events s inv = record {
-  known = λ k f l. (versionAt P (t .frames) k, live-known P sure t last k f l);
-  typed = λ k r τ f l d. register-typed P sure t last k f l r τ d;
-  unstuck = λ b m. step-unstuck P safe b (history-all P safe events s inv b m);
-  unnamed = λ k r v o k′ x f′ l. none-named P sure t last k r v o k′ x f′ l;
-  owned = λ k r v o k′ r′ f′ l e. none-shared P sure t last k r v o k′ r′ f′ l e;
-  quiet = λ b m e k f l. none-quiet P sure b (history-all P safe events s inv b m) (reflective-runs P b e) e k f l;
-}
-  where
-    t : State
-    t = after P events s
-
-    last : Inv P (after P events s)
-    last = after-keeps P safe events s inv

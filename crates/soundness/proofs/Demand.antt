@@ -1,38 +1,59 @@
--- Demand 3, from a safe step: an image whose run has begun is accepted, so its program is checked.
-use mathlib.Core.Path.{_≡_, refl}
+-- Demand 3, that a change leaves each live call its version, and that DONE ends one call alone: for every list of events of every begun run.
 use mathlib.Core.List.{List}
-use Prim.Native.Nat.{ℕ}
-use lib.IntN.{ℤ}
 use Rattle.program.specs.Program.{Program}
-use Rattle.checker.specs.Verdicts.{verdictOf}
-use Rattle.checker.specs.declared.Verdict.{Verdict}
-use Rattle.checker.proofs.Accepted.{checked}
-use Rattle.machine.specs.Begin.{refused, beginAfter, beginOf, programOf}
-use Rattle.machine.specs.declared.Begun.{Begun}
-use Rattle.machine.specs.declared.Entry.{Entry}
-use Rattle.soundness.specs.Claim.{Demand3}
-use Rattle.soundness.proofs.Invariant.{Sure, Inv}
-use Rattle.soundness.proofs.Start.{begun-inv}
-use Rattle.runs.proofs.Lives.{refused-begun}
-use Rattle.soundness.proofs.Closing.{StepSafe, safe-after}
+use Rattle.machine.specs.Events.{Run, Event, programIn, after, history}
+use Rattle.machine.specs.declared.State.{State}
+use Rattle.soundness.specs.Claim.{entered, Safe, begun, Demand3}
+use Rattle.soundness.specs.LastCall.{LastCall}
+use Rattle.soundness.specs.Stay.{Stay}
+use Rattle.soundness.proofs.Invariant.{Sure, versionAt}
+use Rattle.soundness.proofs.Closing.{step-unstuck, live-known, register-typed, none-named, none-shared}
+use Rattle.soundness.proofs.Quiet.{reflective-runs, none-quiet}
+use Rattle.soundness.proofs.Safety.{one-call}
+use Rattle.soundness.proofs.Taken.{taken-passed, live-alike}
+use Rattle.soundness.proofs.Histories.{Sound, sure-of, safe-of, after-keeps, history-sound, begun-sound}
 
--- a begun run: its program is checked, and its state has the invariant
-pub record Started (image : List ℕ) (b : Begun) : Type 0 where
-  pub sure : Sure (programOf image)
-  pub inv : Inv (programOf image) (b .state)
-
--- from what begin answers
-pub started : (image : List ℕ) (f v : ℕ) (words buffer : List ℤ) → beginOf image f v words buffer .entry ≡ Entry.Begun → Started image (beginOf image f v words buffer)
-unfolding beginOf beginAfter refused
-started image f v words buffer h = go (verdictOf image) refl h
+-- what the claim says of a sound run and the list of events that follow
+sound-safe : (es : List Event) (r : Run) → Sound r → Safe (history es r) (after es r)
+sound-safe es r o = record {
+  known = λ k f l. (versionAt P (s .frames) k, live-known P sure s (last .inv) k f l);
+  typed = λ k i t f l d. register-typed P sure s (last .inv) k f l i t d;
+  unstuck = λ b m. let x = history-sound es r o b m in step-unstuck (programIn b) (safe-of b x) (b .state) (x .inv);
+  unnamed = λ k i v w k′ x f′ l. none-named P sure s (last .inv) k i v w k′ x f′ l;
+  owned = λ k i v w k′ i′ f′ l e. none-shared P sure s (last .inv) k i v w k′ i′ f′ l e;
+  quiet = λ b m e k f l. let x = history-sound es r o b m in none-quiet (programIn b) (sure-of b x) (b .state) (x .inv) (reflective-runs (programIn b) (b .state) e) e k f l;
+}
   where
-    go : (a : Verdict) → verdictOf image ≡ a → beginAfter a (programOf image) f v words buffer .entry ≡ Entry.Begun → Started image (beginAfter a (programOf image) f v words buffer)
-    go (Verdict.Refused q p) e g = absurd (refused-begun q p g)
-    go (Verdict.Accepted n) e g = record { sure = checked image n e; inv = begun-inv (programOf image) (checked image n e) f v words buffer g }
+    last : Sound (after es r)
+    last = after-keeps es r o
 
--- THE LAW: demand 3 holds where every step is safe
-pub demand3-from : ((P : Program) → Sure P → StepSafe P) → Demand3
+    P : Program
+    P = programIn (after es r)
+
+    s : State
+    s = after es r .state
+
+    sure : Sure P
+    sure = sure-of (after es r) last
+
+-- DEMAND 3
+pub demand3 : Demand3
 unfolding Demand3
-demand3-from safe image f v words buffer h events =
-    let t = started image f v words buffer h in
-    safe-after (programOf image) (t .sure) (safe (programOf image) (t .sure)) events (beginOf image f v words buffer .state) (t .inv)
+demand3 image f v words buffer h events = sound-safe events (begun image f v words buffer) (begun-sound image f v words buffer h)
+
+-- THE LAW: a change that is taken leaves every live call the version that it entered
+pub stay : Stay
+unfolding Stay entered
+stay image f v words buffer h events new e k g l =
+    let r = after events (begun image f v words buffer) in
+    let o = after-keeps events (begun image f v words buffer) (begun-sound image f v words buffer h) in
+    let W = versionAt (programIn r) (r .state .frames) k in
+    let y = live-known (programIn r) (sure-of r o) (r .state) (o .inv) k g l in
+    let t = live-alike (r .image) new (o .versions) (o .verdict) (r .state) (taken-passed (r .image) new (r .state) e) k g W l y in
+    (W, t .0, y, t .1, t .2)
+
+-- THE LAW: in every state in which a step was tried, one activation means one call
+pub last-call : LastCall
+unfolding LastCall
+last-call image f v words buffer h events b m run d =
+    one-call (programIn b) (b .state) (history-sound events (begun image f v words buffer) (begun-sound image f v words buffer h) b m .inv) run d

@@ -24,6 +24,13 @@ pub mod Ends
 pub mod Quiet
 pub mod Closing
 pub mod Start
-pub mod Demand
-pub mod Results
 pub mod Safety
+pub mod Same
+pub mod Likeness
+pub mod Defined
+pub mod Transfer
+pub mod Bytes
+pub mod Taken
+pub mod Histories
+pub mod Results
+pub mod Demand

@@ -1,7 +1,7 @@
--- Every run from the start gives one of the results, from a safe step.
+-- Every run from the start gives one of the results, and every event of a list one of its replies, from a safe step.
 use mathlib.Core.Path.{_≡_, refl}
 use mathlib.Core.Logic.{_≢_}
-use mathlib.Core.List.{List, []}
+use mathlib.Core.List.{List, [], _∷_}
 use mathlib.Core.Option.{Option, none, some}
 use mathlib.Core.Bool.{Bool, true, false}
 use Prim.Native.Nat.{ℕ, zero, suc, _+_, _≤_}
@@ -15,6 +15,8 @@ use Rattle.checker.specs.declared.Verdict.{Verdict}
 use Rattle.machine.specs.States.{over}
 use Rattle.machine.specs.Runs.{stepOf, lastStep, continued, runFrom, budgetIn, longEnough, budgetOf, written, bufferOf}
 use Rattle.machine.specs.Begin.{Given, arguments, refused, question11, question12, question13, enteredOf, beginAfter, beginOf, programOf, runAfter, runOf}
+use Rattle.machine.specs.Changes.{answer15, changedBy, changeAfter, changeOf}
+use Rattle.machine.specs.Events.{Run, Event, single, budget, change, programIn, handle, replies}
 use Rattle.machine.specs.declared.Answer.{Answer}
 use Rattle.machine.specs.declared.Begun.{Begun}
 use Rattle.machine.specs.declared.End.{End}
@@ -23,10 +25,11 @@ use Rattle.machine.specs.declared.Ran.{Ran}
 use Rattle.machine.specs.declared.Said.{Said}
 use Rattle.machine.specs.declared.State.{State}
 use Rattle.machine.specs.declared.Status.{Status}
-use Rattle.soundness.specs.Results.{Refusal, Result, isRefused, isSteps, isEnded, Told, Results}
-use Rattle.soundness.proofs.Invariant.{Sure, Inv}
+use Rattle.soundness.specs.Results.{Refusal, Result, isRefused, isSteps, isEnded, Told, Results, Outcome, isTaken, isNotTaken, Listed, steps, gives, changes, AllListed, end, next, Replies}
+use Rattle.soundness.specs.Claim.{begun}
+use Rattle.soundness.proofs.Invariant.{Inv}
 use Rattle.soundness.proofs.Closing.{StepSafe, step-keeps, step-unstuck}
-use Rattle.soundness.proofs.Demand.{started}
+use Rattle.soundness.proofs.Histories.{Sound, safe-of, handle-keeps, begun-sound}
 
 -- ---- refusals
 
@@ -170,14 +173,58 @@ budget-told P safe s n buffer inv = long (longEnough buffer) refl
     long true e = rw (e, budgetOf) (inner (s .status))
     long false e = rw (e, budgetOf) (refused-told n buffer s 13 0 (late 13 (omega arith) (omega arith)))
 
--- THE LAW: every run from the start has a result where every step is safe
-pub results-from : ((P : Program) → Sure P → StepSafe P) → Results
+-- and only 13 refuses it
+refused-13 : (P : Program) → StepSafe P → (s : State) (n : ℕ) (buffer : List ℤ) → Inv P s → (q p : ℕ) → budgetOf P s n buffer .answer ≡ Answer.Refused q p → (q ≡ 13) × (p ≡ 0)
+unfolding budgetOf budgetIn
+refused-13 P safe s n buffer inv q p = long (longEnough buffer) refl
+  where
+    inner : (st : Status) → budgetIn P s n st .answer ≡ Answer.Refused q p → (q ≡ 13) × (p ≡ 0)
+    inner Status.Running e = absurd (run-took P safe n s 0 inv .plain q p e)
+    inner (Status.Ended x) e = let z : _≡_ {A = ℕ} 0 1 = cc in absurd (omega arith)
+
+    long : (b : Bool) → longEnough buffer ≡ b → budgetOf P s n buffer .answer ≡ Answer.Refused q p → (q ≡ 13) × (p ≡ 0)
+    long true e = rw (e, budgetOf) (inner (s .status))
+    long false e = rw (e, budgetOf) (λ h. (cc, cc))
+
+-- THE LAW: every run from the start has a result
+pub results : Results
 unfolding Results runOf runAfter Entered
-results-from safe image f v words n buffer = go (beginOf image f v words buffer .entry) refl (begin-entered image f v words buffer)
+results image f v words n buffer = go (beginOf image f v words buffer .entry) refl (begin-entered image f v words buffer)
   where
     s : State
     s = beginOf image f v words buffer .state
 
     go : (e : Entry) → beginOf image f v words buffer .entry ≡ e → Entered e → Told n buffer (runAfter e (programOf image) s n buffer)
     go (Entry.Refused q p) e h = refused-told n buffer s q p h
-    go Entry.Begun e h = let t = started image f v words buffer e in budget-told (programOf image) (safe (programOf image) (t .sure)) s n buffer (t .inv)
+    go Entry.Begun e h = let o = begun-sound image f v words buffer e in budget-told (programOf image) (safe-of (begun image f v words buffer) o) s n buffer (o .inv)
+
+-- ---- lists of events
+
+-- a change is taken or refused by a question
+outcome : (old new : List ℕ) (s : State) → Outcome (changeOf old new s)
+unfolding changeOf changeAfter changedBy Numbered
+outcome old new s = go (verdictOf new) (verdict-numbered new)
+  where
+    by15 : (x : Found) → Outcome (changedBy x)
+    by15 Nothing = isTaken
+    by15 (At p) = isNotTaken 15 p (omega arith) (omega arith) (λ _ h. omega arith)
+
+    go : (a : Verdict) → Numbered a → Outcome (changeAfter a old new s)
+    go (Verdict.Refused q p) m = isNotTaken q p (m .0) (omega (arith, m .1)) (m .2)
+    go (Verdict.Accepted n) m = by15 (answer15 old new s)
+
+listed : (e : Event) (r : Run) → Sound r → Listed e (handle e r .reply)
+unfolding handle
+listed single r o = steps _ (step-unstuck (programIn r) (safe-of r o) (r .state) (o .inv))
+listed (budget n buffer) r o = gives n buffer (budgetOf (programIn r) (r .state) n buffer) (budget-told (programIn r) (safe-of r o) (r .state) n buffer (o .inv)) (refused-13 (programIn r) (safe-of r o) (r .state) n buffer (o .inv))
+listed (change new) r o = changes new _ (outcome (r .image) new (r .state))
+
+all-listed : (es : List Event) (r : Run) → Sound r → AllListed es (replies es r)
+unfolding replies
+all-listed [] r o = end
+all-listed (e ∷ es) r o = next e _ es _ (listed e r o) (all-listed es (handle e r .run) (handle-keeps e r o))
+
+-- THE LAW: every event of every list has a listed reply
+pub all-replies : Replies
+unfolding Replies
+all-replies image f v words buffer h events = all-listed events (begun image f v words buffer) (begun-sound image f v words buffer h)

@@ -1,4 +1,4 @@
--- One step of a running state keeps the invariant and is not stuck; so the demands hold.
+-- One step of a running state keeps the invariant and is not stuck.
 use mathlib.Core.Path.{_≡_, refl, _∙_}
 use mathlib.Core.List.{List}
 use mathlib.Core.Option.{some}
@@ -12,8 +12,6 @@ use Rattle.machine.specs.Steps.{position, proceed}
 use Rattle.machine.specs.declared.Activation.{Activation}
 use Rattle.machine.specs.declared.State.{State}
 use Rattle.machine.specs.declared.Status.{Status}
-use Rattle.soundness.specs.Claim.{Demand3}
-use Rattle.soundness.specs.Results.{Results}
 use Rattle.soundness.proofs.Invariant.{Sure, versionAt, blockAt, stackOf, Inv, Opened, below, awaited, Base, Stack, top}
 use Rattle.soundness.proofs.Progress.{Good}
 use Rattle.soundness.proofs.Stacks.{topOf, hereOf, has-top, at-top, advance-is, position-is, stack-top, Standing, at-line, at-end, standing}
@@ -26,12 +24,8 @@ use Rattle.soundness.proofs.Promises.{prom, force-step}
 use Rattle.soundness.proofs.Skips.{skip-step}
 use Rattle.soundness.proofs.Calling.{call-step, dispatch-step}
 use Rattle.soundness.proofs.Ends.{end-ok}
-use Rattle.soundness.proofs.Closing.{StepSafe, history-all}
-use Rattle.soundness.proofs.Demand.{demand3-from, started}
-use Rattle.soundness.proofs.Results.{results-from}
-use Rattle.machine.specs.Begin.{beginOf, programOf}
+use Rattle.soundness.proofs.Closing.{StepSafe}
 use Rattle.machine.specs.declared.Opener.{Opener}
-use Rattle.soundness.specs.LastCall.{LastCall}
 
 -- every instruction, by its kind
 executes : (P : Program) (sure : Sure P) (s : State) (a : Activation) (rest : List Activation) (l : Line) (W : At P s a rest l) (i : Instr) → l .does ≡ i → Stepped P sure s a rest l W i
@@ -89,14 +83,6 @@ step-safe P sure s inv run =
     let t = has-top P s inv run in
     rw (advance-is P s inv run (t .0) (t .1), position-is P sure s inv run (t .0) (t .1)) (steps P sure s inv run (t .0) (t .1) (standing _ _ (at-top P s inv run (t .0) (t .1) .0 .inside)))
 
--- DEMAND 3
-pub demand3 : Demand3
-demand3 = demand3-from step-safe
-
--- DEMAND 1, over the definitions
-pub results : Results
-results = results-from step-safe
-
 -- ---- DONE ends one call alone
 
 -- an activation with no frame below it has the only one
@@ -106,7 +92,7 @@ opened-one n f b Opener.Call h e = omega (arith, h .0)
 opened-one n f b (Opener.Force p) h e = absurd (omega (arith, h .0))
 
 -- one activation, one call
-one-call : (P : Program) (s : State) → Inv P s → s .status ≡ Status.Running → s .depth ≡ 1 → s .calls ≡ 1
+pub one-call : (P : Program) (s : State) → Inv P s → s .status ≡ Status.Running → s .depth ≡ 1 → s .calls ≡ 1
 unfolding Stack stackOf Base awaited
 one-call P s inv run d = go (s .depth) d (inv .stack run)
   where
@@ -114,10 +100,3 @@ one-call P s inv run d = go (s .depth) d (inv .stack run)
     go zero e st = absurd st
     go (suc zero) e st = opened-one (s .calls) _ _ _ (st .1) (st .2)
     go (suc (suc n)) e st = absurd (omega arith)
-
--- THE LAW: in every state in which a step was tried
-pub last-call : LastCall
-unfolding LastCall
-last-call image f v words buffer h events b m run d =
-    let t = started image f v words buffer h in
-    one-call (programOf image) b (history-all (programOf image) (step-safe (programOf image) (t .sure)) events (beginOf image f v words buffer .state) (t .inv) b m) run d

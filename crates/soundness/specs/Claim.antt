@@ -1,4 +1,4 @@
--- Demand 3, as the section "What demand 3 speaks of" has it: the statement alone.
+-- Demand 3, as the section "What demand 3 speaks of" has it, with the changes of 02, 3 among the events: the statement alone.
 use mathlib.Core.Path.{_≡_}
 use mathlib.Core.Logic.{_≢_, _⊎_}
 use mathlib.Core.List.{List, List·Memᴰ}
@@ -14,8 +14,8 @@ use Rattle.machine.specs.Try.{Try, got, stuck, stop, _>>=_}
 use Rattle.machine.specs.States.{kindIn, liveFrames, register, named}
 use Rattle.machine.specs.Steps.{Position, instruction, blockEnd, outside, here, positionOf}
 use Rattle.machine.specs.Runs.{lastStep, stepOf}
-use Rattle.machine.specs.Begin.{beginOf, programOf}
-use Rattle.machine.specs.Events.{Event, after, history}
+use Rattle.machine.specs.Begin.{beginOf}
+use Rattle.machine.specs.Events.{Run, Event, programIn, after, history}
 use Rattle.machine.specs.declared.Entry.{Entry}
 use Rattle.machine.specs.declared.Frame.{Frame}
 use Rattle.machine.specs.declared.Said.{Said}
@@ -115,25 +115,29 @@ pub record Borrows (P : Program) (f : Frame) (r : ℕ) : Type 0 where
 
 -- ---- the claim
 
--- of a state and the history that led to it; each field is a sentence of the demand, but the first, without which they could be empty
-pub record Safe (P : Program) (h : List State) (s : State) : Type 0 where
-  -- Every live call is one of a version of the image.
-  pub known : (k : ℕ) (f : Frame) → Live s k f → (W : Version) × (entered P f ≡ some W)
+-- of a run under the image in force now, and the history that led to it, each under the one in force then; each field is a sentence of the demand, but the first, without which they could be empty
+pub record Safe (h : List Run) (now : Run) : Type 0 where
+  -- Every live call is one of a version of the image in force.
+  pub known : (k : ℕ) (f : Frame) → Live (now .state) k f → (W : Version) × (entered (programIn now) f ≡ some W)
   -- Every register that a live call's version declares holds nothing or a value of its declared type.
-  pub typed : (k r t : ℕ) (f : Frame) → Live s k f → Declared P f r t → (v : Value) × (register f r ≡ got v) × OfType P s t v
+  pub typed : (k r t : ℕ) (f : Frame) → Live (now .state) k f → Declared (programIn now) f r t → (v : Value) × (register f r ≡ got v) × OfType (programIn now) (now .state) t v
   -- No step was stuck, neither a single one nor one inside a budget.
-  pub unstuck : (b : State) → List·Memᴰ b h → stepOf P b .said ≢ Said.Stuck
+  pub unstuck : (b : Run) → List·Memᴰ b h → stepOf (programIn b) (b .state) .said ≢ Said.Stuck
   -- A vector in an owned register is in no name
-  pub unnamed : (k r v : ℕ) → Owns P s k r v → (k′ x : ℕ) (f′ : Frame) → Live s k′ f′ → named f′ x ≢ got (Value.Vector v)
+  pub unnamed : (k r v : ℕ) → Owns (programIn now) (now .state) k r v → (k′ x : ℕ) (f′ : Frame) → Live (now .state) k′ f′ → named f′ x ≢ got (Value.Vector v)
   -- and in no other register, except borrowed ones of calls above it.
-  pub owned : (k r v : ℕ) → Owns P s k r v → (k′ r′ : ℕ) (f′ : Frame) → Live s k′ f′ → register f′ r′ ≡ got (Value.Vector v) → ((k′ ≡ k) × (r′ ≡ r)) ⊎ ((k < k′) × Borrows P f′ r′)
+  pub owned : (k r v : ℕ) → Owns (programIn now) (now .state) k r v → (k′ r′ : ℕ) (f′ : Frame) → Live (now .state) k′ f′ → register f′ r′ ≡ got (Value.Vector v) → ((k′ ≡ k) × (r′ ≡ r)) ⊎ ((k < k′) × Borrows (programIn now) f′ r′)
   -- Between the entry and the end of a call of mark 0, or up to now, no reflective read or write took place:
-  -- where one was tried, no call that was live then is quiet.
-  pub quiet : (b : State) → List·Memᴰ b h → reflective P b ≡ true → (k : ℕ) (f : Frame) → Live b k f → isQuiet (entered P f) ≡ false
+  -- where one was tried, no call that was live then is quiet, judged under the image in force at that step; `Stay` says that this is the version entered.
+  pub quiet : (b : Run) → List·Memᴰ b h → reflective (programIn b) (b .state) ≡ true → (k : ℕ) (f : Frame) → Live (b .state) k f → isQuiet (entered (programIn b) f) ≡ false
 
--- After every list of events from the state of every run that begin did not refuse; begin puts the questions to the image too
+-- the run that begin gives, under its image
+abbrev pub begun : List ℕ → ℕ → ℕ → List ℤ → List ℤ → Run
+begun image f v words buffer = record { image = image; state = beginOf image f v words buffer .state }
+
+-- After every list of steps, budgets and changes from the state of every run that begin did not refuse; begin puts the questions to the image too
 unfoldable pub Demand3 : Type 0
 Demand3 =
     (image : List ℕ) (f v : ℕ) (words buffer : List ℤ) → beginOf image f v words buffer .entry ≡ Entry.Begun
     → (events : List Event)
-    → let s = beginOf image f v words buffer .state in Safe (programOf image) (history (programOf image) events s) (after (programOf image) events s)
+    → let r = begun image f v words buffer in Safe (history events r) (after events r)

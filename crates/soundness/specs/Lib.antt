@@ -1,3 +1,5 @@
+pub mod Alike
 pub mod Claim
 pub mod LastCall
 pub mod Results
+pub mod Stay

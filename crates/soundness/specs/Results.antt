@@ -1,14 +1,19 @@
--- What a run from the start gives, as the sections "Questions put to an image" and "Steps" have it: the statement alone.
+-- What a run from the start and each event of a list gives, as the sections "Questions put to an image" and "Steps" and 02, 3 have it: the statements alone.
 use mathlib.Core.Path.{_≡_}
 use mathlib.Core.Logic.{_≢_}
-use mathlib.Core.List.{List}
+use mathlib.Core.List.{List, [], _∷_}
 use Prim.Native.Nat.{ℕ, _≤_}
 use lib.IntN.{ℤ}
 use Rattle.machine.specs.Runs.{bufferOf}
-use Rattle.machine.specs.Begin.{runOf}
+use Rattle.machine.specs.Begin.{beginOf, runOf}
+use Rattle.machine.specs.Events.{Event, single, budget, change, Reply, said, gave, became, replies}
 use Rattle.machine.specs.declared.Answer.{Answer}
+use Rattle.machine.specs.declared.Changed.{Changed}
 use Rattle.machine.specs.declared.End.{End}
+use Rattle.machine.specs.declared.Entry.{Entry}
 use Rattle.machine.specs.declared.Ran.{Ran}
+use Rattle.machine.specs.declared.Said.{Said}
+use Rattle.soundness.specs.Claim.{begun}
 
 -- the number of one of the questions 1 to 14, and an offset, which is 0 for those to a run, 11 to 13
 pub record Refusal (q p : ℕ) : Type 0 where
@@ -37,3 +42,23 @@ pub record Told (n : ℕ) (buffer : List ℤ) (r : Ran) : Type 0 where
 -- Every image, entry, argument words, budget and buffer has such a result
 unfoldable pub Results : Type 0
 Results = (image : List ℕ) (f v : ℕ) (words : List ℤ) (n : ℕ) (buffer : List ℤ) → Told n buffer (runOf image f v words n buffer)
+
+-- a change is taken, or refused by one of the questions to an image, 1 to 10 and 14, or by 15
+pub data Outcome : Changed → Type 0 where
+  isTaken : Outcome Changed.Taken
+  isNotTaken : (q p : ℕ) → 1 ≤ q → q ≤ 15 → (11 ≤ q → q ≤ 13 → ⊥) → Outcome (Changed.Refused q p)
+
+-- the reply to an event is one of those listed for it: no step is stuck, and a budget is refused by 13 alone
+pub data Listed : Event → Reply → Type 0 where
+  steps : (d : Said) → d ≢ Said.Stuck → Listed single (said d)
+  gives : (n : ℕ) (buffer : List ℤ) (r : Ran) → Told n buffer r → ((q p : ℕ) → r .answer ≡ Answer.Refused q p → (q ≡ 13) × (p ≡ 0)) → Listed (budget n buffer) (gave (r .answer) (r .steps) (bufferOf r buffer))
+  changes : (new : List ℕ) (c : Changed) → Outcome c → Listed (change new) (became c)
+
+-- each reply to the event at its place
+pub data AllListed : List Event → List Reply → Type 0 where
+  end : AllListed [] []
+  next : (e : Event) (r : Reply) (es : List Event) (rs : List Reply) → Listed e r → AllListed es rs → AllListed (e ∷ es) (r ∷ rs)
+
+-- Every event of every list, on every begun run, has such a reply
+unfoldable pub Replies : Type 0
+Replies = (image : List ℕ) (f v : ℕ) (words buffer : List ℤ) → beginOf image f v words buffer .entry ≡ Entry.Begun → (events : List Event) → AllListed events (replies events (begun image f v words buffer))
