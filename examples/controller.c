@@ -52,7 +52,7 @@ static fir_state state;
 /* What is checked of an image, by the number of the question. */
 static const char *const questions[] = {"accepted", "size",      "records", "kinds", "bounds", "numbering", "type bytes",
                                         "existence", "types", "effects", "flow",  "entry",  "arguments", "buffer",
-                                        "skips"};
+                                        "skips",     "change"};
 
 static int refused(const char *what, unsigned question, size_t offset)
 {

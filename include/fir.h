@@ -9,7 +9,10 @@
  *     point to anything, but it is not NULL.
  *   - A pointer to a fir_state points to one, aligned as fir_state_alignment says. Its content may be anything.
  *   - What a call writes (a state, a text, a result buffer) overlaps nothing else that the call is lent.
- *   - Nobody else reads or writes what is lent until the call returns, and the image of a run stays the same.
+ *   - Nobody else reads or writes what is lent until the call returns.
+ *   - A step, a budget and, as its old image, fir_change are lent the image in force: the one that the run was begun with,
+ *     or the last one that fir_change accepted for it. The caller keeps it, byte for byte, until another is accepted or the
+ *     run is given up.
  * Nothing of this can be tested by the library. All else is: every image, entry, argument list, budget, buffer and state
  * gets an answer that is listed here, and nothing outside the lent memory is read or written.
  */
@@ -51,6 +54,7 @@ extern "C" {
 #define FIR_REFUSED_ENTRY 11     /* the entry exists */
 #define FIR_REFUSED_ARGUMENTS 12 /* the argument words are used up, each argument matching its parameter */
 #define FIR_REFUSED_BUFFER 13    /* the result buffer has at least 16 places */
+#define FIR_REFUSED_CHANGE 15    /* every version with a live call has the same bytes and number in both images */
 
 /* A verdict on an image: FIR_ACCEPTED and its number of versions, or the question that refuses it and the offset of the
  * first record that fails. */
@@ -59,8 +63,8 @@ typedef struct fir_verdict {
     uint8_t question;
 } fir_verdict;
 
-/* Whether a run has begun: FIR_ACCEPTED, or the question that refuses it, 1 to 14, and the offset. With FIR_ACCEPTED and 11
- * to 13 the offset is 0. */
+/* Whether a run has begun, or goes on under a new image: FIR_ACCEPTED, or the question that refuses it, 1 to 15, and the
+ * offset. With FIR_ACCEPTED and 11 to 13 the offset is 0. */
 typedef struct fir_entry {
     uint16_t offset;
     uint8_t question;
@@ -77,7 +81,7 @@ typedef struct fir_entry {
 #define FIR_DEEP 4      /* DEEP: a 33rd activation is needed */
 #define FIR_VECTORS 5   /* VECTORS: a 65th vector is needed */
 #define FIR_PROMISES 6  /* PROMISES: a 65th promise is needed */
-#define FIR_STUCK 7     /* the state is none of a begun run of this image; it stands for what it stood for */
+#define FIR_STUCK 7     /* the state is none of a begun run that this image is in force for; what it stands for stays */
 #define FIR_REFUSED 8   /* refused by `question` at `offset`; state and buffer are as they were */
 
 /* What a single step says: FIR_STEPS to FIR_STUCK. */
@@ -101,6 +105,14 @@ typedef struct fir_answer {
 
 /* Numbers alone: it may be copied, stored and compared as bytes. Write it by the functions below only; its fields are here
  * so that it can be declared, and for tests to read. What lies above a count means nothing.
+ *
+ * A stored state is these fir_state_size() bytes, kept anywhere and read back at any time, by another program too. There
+ * are no bytes that cannot be loaded: all of them stand for some state. A state does not hold its image: whoever stores it
+ * stores the image in force with it, or knows which one that was.
+ *
+ * Where the image was exchanged without an accepted fir_change, every step and budget still gives an answer that is listed
+ * here and keeps to the lent memory, but nothing that is promised of a begun run holds any more: a step may be stuck, and
+ * what registers hold may be of other types than the image declares.
  *
  * A cell stands for a register or a name: code 1 is the integer in `numbers`, 256 + v the vector v, 512 + p the promise p;
  * all else is nothing. The call k has the cells 24 k to 24 k + 23, its registers and then its names. */
@@ -162,6 +174,20 @@ fir_answer fir_budget(const uint8_t *image, size_t image_length, fir_state *stat
 /* Begins a run and takes at most `budget` steps. Where it is refused, the state is as it was. */
 fir_answer fir_run(const uint8_t *image, size_t image_length, size_t function, size_t version, const int32_t *words,
                    size_t words_length, uint32_t budget, int32_t *buffer, size_t buffer_length, fir_state *state);
+
+/* ---- A new image for a run that goes on ---- */
+
+/* Whether the run of a state, ended or not, may go on under a new image in place of the one in force: FIR_ACCEPTED, or the
+ * question that refuses it and its offset. Put are the questions to the new image, 1 to 10 and 14, and then 15; the old
+ * image is not asked again. 15 is at the new image's first version with a live call that differs, or at the new image's
+ * length if none differs and one is missing. A run that is DONE has no live call and may go on under any accepted image.
+ *
+ * Nothing is written and no step is taken: the state is carried over whole, and the answer alone says under which image it
+ * goes on. With FIR_ACCEPTED the new image is in force from then on, and the old one need not be kept; else the old image
+ * stays in force, and the new one need not be kept. Where the state is none of a run under the old image, FIR_ACCEPTED
+ * promises nothing of its steps. */
+fir_entry fir_change(const uint8_t *old_image, size_t old_length, const uint8_t *new_image, size_t new_length,
+                     const fir_state *state);
 
 /* ---- Looking at a state ---- */
 

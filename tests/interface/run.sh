@@ -1,6 +1,6 @@
 #!/usr/bin/env bash
 # Tries the C interface: its header as C99 and as C++, the layout of what crosses it, the stack that each function takes, and
-# the example controller, whose output is stored. Needs a C and a C++ compiler and valgrind.
+# the examples controller and update, whose output is stored. Needs a C and a C++ compiler and valgrind.
 # Its last line is `interface: N passed, 0 failed`; where something fails, it says what and its status is 1.
 set -euo pipefail
 cd "$(dirname "$0")/../.."
@@ -35,20 +35,37 @@ for host in layout stack; do
     ok "$host"
 done
 
-cc -std=c99 -O2 "${strict[@]}" examples/controller.c "$library" -o "$out/controller" || fail "the controller does not compile"
-printf '\013\000\001' >"$out/short.fir"
-controllers() {
-    for image in "" "$out/short.fir"; do
-        # shellcheck disable=SC2086
-        "$@" "$out/controller" $image && echo "status 0" || echo "status $?"
-    done
+# Compiles an example and compares what its runs print with the text beside it, also under valgrind. The function of its name
+# does its runs, each under the command that it is given, if any.
+example() {
+    local name=$1
+    cc -std=c99 -O2 "${strict[@]}" "examples/$name.c" "$library" -o "$out/$name" || fail "the $name does not compile"
+    "$name" >"$out/$name.txt"
+    diff "examples/$name.txt" "$out/$name.txt" || fail "the $name prints something else"
+    ok "the $name prints what is stored"
+    "$name" valgrind -q --error-exitcode=99 >"$out/$name.txt" 2>"$out/valgrind.txt" || fail "valgrind"
+    diff "examples/$name.txt" "$out/$name.txt" || fail "the $name under valgrind: $(head -n 5 "$out/valgrind.txt")"
+    [ ! -s "$out/valgrind.txt" ] || fail "valgrind says: $(head -n 5 "$out/valgrind.txt")"
+    ok "the $name under valgrind"
 }
-controllers >"$out/controller.txt"
-diff examples/controller.txt "$out/controller.txt" || fail "the controller prints something else"
-ok "the controller prints what is stored"
-controllers valgrind -q --error-exitcode=99 >"$out/controller.txt" 2>"$out/valgrind.txt" || fail "valgrind"
-diff examples/controller.txt "$out/controller.txt" || fail "the controller under valgrind: $(head -n 5 "$out/valgrind.txt")"
-[ ! -s "$out/valgrind.txt" ] || fail "valgrind says: $(head -n 5 "$out/valgrind.txt")"
-ok "the controller under valgrind"
+
+# Prints what a command prints, and its status.
+with_status() {
+    "$@" && echo "status 0" || echo "status $?"
+}
+
+# The controller with its own image, and with one that is cut short.
+printf '\013\000\001' >"$out/short.fir"
+controller() {
+    with_status "$@" "$out/controller"
+    with_status "$@" "$out/controller" "$out/short.fir"
+}
+
+update() {
+    with_status "$@" "$out/update"
+}
+
+example controller
+example update
 
 echo "interface: $passed passed, 0 failed"

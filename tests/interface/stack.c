@@ -10,9 +10,11 @@
 #define STACK (4u << 20)
 #define LIMIT (48u << 10)
 #define PAINT 0xa5
+#define MIDWAY 13 /* steps after which no run has ended: the shortest takes 24 */
 
 static image tried;
 static fir_state state;
+static fir_state midway; /* of a run with live calls */
 static int32_t buffer[FIR_ITEMS];
 static const int32_t words[] = {-1, 40};
 static uint8_t text[1u << 16];
@@ -24,15 +26,18 @@ static void begin(void) { fir_begin(tried.bytes, tried.length, 0, 0, words, 2, b
 static void step(void) { fir_step(tried.bytes, tried.length, &state); }
 static void budget(void) { fir_budget(tried.bytes, tried.length, &state, 100000, buffer, FIR_ITEMS); }
 static void run(void) { fir_run(tried.bytes, tried.length, 0, 0, words, 2, 100000, buffer, FIR_ITEMS, &state); }
+static void change(void) { fir_change(tried.bytes, tried.length, tried.bytes, tried.length, &midway); }
 static void look(void) { fir_look(&state, 0, 3); }
 
-/* Runs that are refused by 11, 12 and 13. */
+/* Runs that are refused by 11, 12 and 13, and changes that are refused by 1 and by 15. */
 static void refusals(void)
 {
     fir_begin(tried.bytes, tried.length, 31, 3, words, 2, buffer, FIR_ITEMS, &state);
     fir_begin(tried.bytes, tried.length, 0, 0, words, 1, buffer, FIR_ITEMS, &state);
     fir_run(tried.bytes, tried.length, 0, 0, words, 2, 1000, buffer, FIR_ITEMS - 1, &state);
     fir_budget(tried.bytes, tried.length, &state, 1000, buffer, FIR_ITEMS - 1);
+    fir_change(tried.bytes, tried.length, tried.bytes, 0, &midway);
+    fir_change(tried.bytes, 0, tried.bytes, tried.length, &midway);
 }
 
 static void *call(void *function)
@@ -65,7 +70,8 @@ int main(void)
         const char *name;
         void (*function)(void);
     } calls[] = {{"fir_check", check}, {"fir_report", report}, {"fir_begin", begin}, {"fir_step", step},
-                 {"fir_budget", budget}, {"fir_run", run}, {"fir_look", look}, {"refusals", refusals}};
+                 {"fir_budget", budget}, {"fir_run", run}, {"fir_change", change}, {"fir_look", look},
+                 {"refusals", refusals}};
     size_t least = depth(nothing);
     size_t deepest[sizeof calls / sizeof *calls] = {0};
     size_t i, kind;
@@ -79,6 +85,11 @@ int main(void)
             nested(&tried);
         if (fir_check(tried.bytes, tried.length).question != FIR_ACCEPTED) {
             printf("stack: image %lu is refused\n", (unsigned long)kind);
+            return 1;
+        }
+        fir_run(tried.bytes, tried.length, 0, 0, words, 2, MIDWAY, buffer, FIR_ITEMS, &midway);
+        if (midway.status != FIR_STEPS) {
+            printf("stack: a run of image %lu has ended\n", (unsigned long)kind);
             return 1;
         }
         for (i = 0; i < sizeof calls / sizeof *calls; i++) {

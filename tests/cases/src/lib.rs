@@ -180,3 +180,20 @@ pub fn filling(instructions: &str) -> String {
              r1 = len r0"
     )
 }
+
+/// For changes of the image: 0.0, at 0 to 36, calls 1.0 twice, which adds a number
+/// to its argument. After 0 steps, 4 and 8 no call of 1.0 is live.
+pub fn adding(number: i32) -> String {
+    format!(
+        "version 0.0(r0: int) -> int
+  block 0 quiet -> r0
+    r0 = call 1.0(r0)
+    r0 = call 1.0(r0)
+version 1.0(r0: int) -> int
+  registers r1: int
+  block 0 quiet -> r0
+    r1 = lit {number}
+    r0 = add r0, r1
+"
+    )
+}

@@ -1,8 +1,7 @@
 //! The proved library's answers in the words of the reference.
 
 use crate::snapshot::untouched;
-use library::State as Snapshot;
-use library::{Entry, Ran};
+use library::{Entry, Ran, Run};
 use reference::bounds::Steps;
 use reference::{Answer, End, Integer, Refusal, Said, Verdict};
 
@@ -14,54 +13,56 @@ pub fn verdict(image: &[u8]) -> Verdict {
     }
 }
 
-/// Begins a run; its state before the first step, or an untouched one and the refusal.
-pub fn begin(
-    image: &[u8],
+/// A state that nothing was written to, under an image of no bytes.
+fn nothing_begun() -> Run<'static> {
+    Run::load_with_its_own_image(untouched(), &[])
+}
+
+/// Begins a run; it stands before its first step, or is untouched and refused.
+pub fn begin<'i>(
+    image: &'i [u8],
     (function, version): (usize, usize),
     words: &[Integer],
     buffer: &[Integer],
-) -> (Snapshot, Result<(), Refusal>) {
-    let mut state = untouched();
-    let begun = state.begin(image, Entry { function, version }, words, buffer);
-    (state, begun.map_err(refusal))
+) -> (Run<'i>, Result<(), Refusal>) {
+    let mut run = nothing_begun();
+    let begun = run.restart(image, Entry { function, version }, words, buffer);
+    (run, begun.map_err(refusal))
 }
 
-/// The state after a single step, and what the step says.
-pub fn step(image: &[u8], state: &Snapshot) -> (Snapshot, Said) {
-    let mut state = state.clone();
-    let said = match state.step(image) {
+/// Takes a single step; what it says.
+pub fn step(run: &mut Run) -> Said {
+    match run.step() {
         library::Said::GoesOn => Said::GoesOn,
         library::Said::Ended(how) => Said::Ended(end(how)),
         library::Said::Stuck => Said::Stuck,
-    };
-    (state, said)
+    }
 }
 
-/// The state after a budget, its answer, and the steps taken under it.
-pub fn budget(
-    image: &[u8],
-    state: &Snapshot,
-    budget: Steps,
-    buffer: &mut [Integer],
-) -> (Snapshot, Answer, Steps) {
-    let mut state = state.clone();
-    let Ran { answer, steps } = state.budget(image, budget, buffer);
-    (state, answer_of(answer), steps)
+/// Takes at most so many steps; the answer, and the steps taken.
+pub fn budget(run: &mut Run, budget: Steps, buffer: &mut [Integer]) -> (Answer, Steps) {
+    let Ran { answer, steps } = run.budget(budget, buffer);
+    (answer_of(answer), steps)
 }
 
-/// The state after a run from its start, its answer, and the steps taken; an
-/// untouched state where it is refused.
-pub fn run(
-    image: &[u8],
+/// Goes on under another image, or under the old one where that is refused.
+pub fn change(run: &mut Run, image: Vec<u8>) -> Result<(), Refusal> {
+    run.change(image).map_err(refusal)
+}
+
+/// A run from its start, its answer, and the steps taken; it is untouched where
+/// it is refused.
+pub fn run<'i>(
+    image: &'i [u8],
     (function, version): (usize, usize),
     words: &[Integer],
     budget: Steps,
     buffer: &mut [Integer],
-) -> (Snapshot, Answer, Steps) {
-    let mut state = untouched();
+) -> (Run<'i>, Answer, Steps) {
+    let mut run = nothing_begun();
     let entry = Entry { function, version };
-    let Ran { answer, steps } = state.run(image, entry, words, budget, buffer);
-    (state, answer_of(answer), steps)
+    let Ran { answer, steps } = run.rerun(image, entry, words, budget, buffer);
+    (run, answer_of(answer), steps)
 }
 
 /// The answer to a budget.

@@ -15,7 +15,9 @@ use library::{
 };
 use reference::bounds::{ITEMS, REGISTERS};
 use reference::state::Opener;
-use reference::{verdict, Answer, End, Program, Refusal, Said, State, Status, Value, Verdict};
+use reference::{
+    change, verdict, Answer, End, Program, Refusal, Said, State, Status, Value, Verdict,
+};
 use std::cell::RefCell;
 use std::rc::Rc;
 use std::slice;
@@ -154,6 +156,20 @@ fn refused(question: u8, offset: u16) -> FirAnswer {
     }
 }
 
+/// Whether a run has begun, or goes on under a new image.
+fn entry(answer: Result<(), Refusal>) -> FirEntry {
+    match answer {
+        Ok(()) => FirEntry {
+            question: FIR_ACCEPTED,
+            offset: u16::MAX,
+        },
+        Err(refusal) => FirEntry {
+            question: refusal.number,
+            offset: refusal.offset as u16,
+        },
+    }
+}
+
 #[no_mangle]
 extern "C" fn fir_state_size() -> usize {
     size_of::<Snapshot>()
@@ -207,19 +223,7 @@ unsafe extern "C" fn fir_begin(
     let program = program(lent(image, image_length));
     let begun =
         program.and_then(|program| State::begin(&program, function, version, words, buffer));
-    match begun {
-        Ok(state) => {
-            *after = snapshot(&state);
-            FirEntry {
-                question: FIR_ACCEPTED,
-                offset: u16::MAX,
-            }
-        }
-        Err(refusal) => FirEntry {
-            question: refusal.number,
-            offset: refusal.offset as u16,
-        },
-    }
+    entry(begun.map(|state| *after = snapshot(&state)))
 }
 
 #[no_mangle]
@@ -294,6 +298,19 @@ unsafe extern "C" fn fir_run(
         return refused(begun.question, begun.offset);
     }
     fir_budget(image, image_length, state, budget, buffer, buffer_length)
+}
+
+#[no_mangle]
+unsafe extern "C" fn fir_change(
+    old_image: *const u8,
+    old_length: usize,
+    new_image: *const u8,
+    new_length: usize,
+    state: *const Snapshot,
+) -> FirEntry {
+    let state = state_of(&*state).expect("a state");
+    let (old, new) = (lent(old_image, old_length), lent(new_image, new_length));
+    entry(change(old, new, &state))
 }
 
 #[no_mangle]

@@ -2,8 +2,8 @@
 //! engine, the reference and the tuned interpreter.
 
 use cases::{
-    filling, image, CALLS_ITSELF, CALL_INTO_ITSELF, DIVISION, DUP_AND_SET, IDENTITY, SKIPS_NESTED,
-    SKIPS_NONE, SKIPS_ONE, USE_INTO_ITSELF,
+    adding, filling, image, CALLS_ITSELF, CALL_INTO_ITSELF, DIVISION, DUP_AND_SET, IDENTITY,
+    SKIPS_NESTED, SKIPS_NONE, SKIPS_ONE, USE_INTO_ITSELF,
 };
 use differential::engine;
 use differential::tuned::{Code, Machine};
@@ -29,9 +29,9 @@ fn gives(
     buffer[..items.len()].copy_from_slice(items);
 
     let mut found = vec![UNTOUCHED; BUFFER + 4];
-    let (state, begun) = engine::begin(image, (0, 0), words, &found);
+    let (mut run, begun) = engine::begin(image, (0, 0), words, &found);
     assert_eq!(begun, Ok(()), "the proved engine begins");
-    let (_, answer, steps) = engine::budget(image, &state, budget, &mut found);
+    let (answer, steps) = engine::budget(&mut run, budget, &mut found);
     assert_eq!((answer, steps), expected, "by the proved engine");
     assert_eq!(found, buffer, "by the proved engine");
 
@@ -147,17 +147,16 @@ fn vectors_is_said_at_the_65th_and_not_counted() {
 fn the_end_is_given_again_to_steps_and_budgets() {
     let image = image(DUP_AND_SET);
     let mut buffer = [UNTOUCHED; BUFFER];
-    let (state, _) = engine::begin(&image, (0, 0), &[1, 1], &buffer);
-    let (ended, ..) = engine::budget(&image, &state, 5, &mut buffer);
-    let (stepped, said) = engine::step(&image, &ended);
-    assert_eq!(said, Said::Ended(End::Vector(1)));
+    let (mut run, _) = engine::begin(&image, (0, 0), &[1, 1], &buffer);
+    engine::budget(&mut run, 5, &mut buffer);
+    assert_eq!(engine::step(&mut run), Said::Ended(End::Vector(1)));
     let mut buffer = [UNTOUCHED; BUFFER];
-    let (_, answer, steps) = engine::budget(&image, &stepped, 0, &mut buffer);
+    let (answer, steps) = engine::budget(&mut run, 0, &mut buffer);
     assert_eq!((answer, steps), (Answer::Ended(End::Vector(1)), 0));
     assert_eq!(buffer[..2], [42, UNTOUCHED]);
     let (number, offset) = (13, 0);
     let refused = Answer::Refused(Refusal { number, offset });
-    let (_, answer, steps) = engine::budget(&image, &stepped, 1, &mut [0; BUFFER - 1]);
+    let (answer, steps) = engine::budget(&mut run, 1, &mut [0; BUFFER - 1]);
     assert_eq!((answer, steps), (refused, 0));
 }
 
@@ -206,4 +205,73 @@ fn a_register_that_is_filled_again_holds_the_new_vector() {
     // USE, USE, PROM, FORCE, LEN and two block ends.
     let text = filling("r2 = use r0\nr0 = use r2\nr3 = prom 1\nr1 = force r3");
     gives(&image(&text), &[1, 9, -1, 0], 9, done(1), 7, &[]);
+}
+
+/// Asserts what a change comes to after so many steps of a run of 0.0 with 5, and
+/// what the run is then DONE with after 9 in all, by the proved engine and the reference.
+#[track_caller]
+fn changes(old: &str, steps: Steps, new: &str, expected: Result<(), Refusal>, gives: Integer) {
+    let (old, new, buffer) = (image(old), image(new), &mut [UNTOUCHED; BUFFER]);
+    let end = (done(gives), 9 - steps);
+
+    let (mut run, _) = engine::begin(&old, (0, 0), &[-1, 5], buffer);
+    assert_eq!(engine::budget(&mut run, steps, buffer).1, steps);
+    let found = engine::change(&mut run, new.clone());
+    assert_eq!(found, expected, "by the proved engine");
+    let found = engine::budget(&mut run, 100, buffer);
+    assert_eq!(found, end, "by the proved engine");
+
+    let program = Program::accept(&old).expect("an accepted image");
+    let state = State::begin(&program, 0, 0, &[-1, 5], buffer).expect("a run begins");
+    let (state, ..) = state.budget(&program, steps, buffer);
+    let found = reference::change(&old, &new, &state);
+    assert_eq!(found, expected, "by the reference");
+    let in_force = if found.is_ok() { new } else { old };
+    let program = Program::accept(&in_force).expect("an accepted image");
+    let (_, answer, more) = state.budget(&program, 100, buffer);
+    assert_eq!((answer, more), end, "by the reference");
+}
+
+#[test]
+fn a_change_is_taken_where_what_differs_has_no_live_call() {
+    changes(&adding(1), 0, &adding(100), Ok(()), 5 + 100 + 100);
+    changes(&adding(1), 4, &adding(100), Ok(()), 5 + 1 + 100);
+    changes(&adding(1), 8, &adding(100), Ok(()), 5 + 1 + 1);
+    changes(&adding(1), 2, &adding(1), Ok(()), 5 + 1 + 1);
+}
+
+#[test]
+fn a_change_is_refused_by_15_where_a_version_with_a_live_call_differs() {
+    let no = |offset| Err(Refusal { number: 15, offset });
+    for steps in [1, 2, 3, 5, 6, 7] {
+        changes(&adding(1), steps, &adding(100), no(36), 5 + 1 + 1);
+    }
+    // The mark of 0.0's body.
+    let marked = adding(1).replacen("quiet", "reflective", 1);
+    for steps in 0..9 {
+        changes(&adding(1), steps, &marked, no(0), 5 + 1 + 1);
+    }
+}
+
+#[test]
+fn a_change_is_refused_by_the_new_images_own_questions_first() {
+    let wrong = adding(100).replace("r0 = add r0, r1", "r0 = add r0, r2");
+    let refused = Err(Refusal {
+        number: 7,
+        offset: 64,
+    });
+    for steps in 0..9 {
+        changes(&adding(1), steps, &wrong, refused, 5 + 1 + 1);
+    }
+}
+
+#[test]
+fn a_done_run_may_go_on_under_any_accepted_image() {
+    for new in [
+        adding(100),
+        CALLS_ITSELF.to_string(),
+        DUP_AND_SET.to_string(),
+    ] {
+        changes(&adding(1), 9, &new, Ok(()), 5 + 1 + 1);
+    }
 }

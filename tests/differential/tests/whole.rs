@@ -4,7 +4,7 @@ use differential::difference::difference;
 use differential::engine;
 use differential::snapshot::{state_of, untouched};
 use generator::{accepted, entry, words, Random};
-use library::{Held, CELLS};
+use library::{Held, Run, CELLS};
 use reference::bounds::{Steps, BUFFER};
 use reference::{Answer, Program, State, Value};
 
@@ -13,7 +13,7 @@ const PROGRAMS: u64 = 4_000;
 const FEWEST_RUNS: usize = 2_500;
 
 /// Does each place of each call show what the reference holds there, and no other place anything?
-fn assert_seen(proved: &library::State, expected: &State, origin: &str) -> usize {
+fn assert_seen(proved: &Run, expected: &State, origin: &str) -> usize {
     let mut seen = 0;
     for (call, frame) in expected.frames.iter().enumerate() {
         for (place, held) in frame.registers.iter().chain(&frame.names).enumerate() {
@@ -44,11 +44,15 @@ fn run(seed: u64) -> Option<usize> {
     let budget = random.pick(&[0, 1, 5, 20, 60, 20_000]) as Steps;
     let places = random.pick(&[BUFFER, BUFFER, BUFFER + 3, BUFFER - 1]);
     let (mut expected, mut found) = (vec![-7; places], vec![-7; places]);
-    let (state, answer, steps) = engine::run(&image, entry, &words, budget, &mut found);
+    let (run, answer, steps) = engine::run(&image, entry, &words, budget, &mut found);
     match State::begin(&program, entry.0, entry.1, &words, &expected) {
         Err(refusal) => {
             assert_eq!((answer, steps), (Answer::Refused(refusal), 0), "{origin}");
-            assert!(state == untouched(), "{origin}: the state is as it was");
+            assert!(
+                *run.state() == untouched(),
+                "{origin}: the state is as it was"
+            );
+            assert!(run.image().is_empty(), "{origin}: the image is as it was");
             assert_eq!(found, expected, "{origin}: the buffer is as it was");
             None
         }
@@ -56,10 +60,10 @@ fn run(seed: u64) -> Option<usize> {
             let (after, right, count) = begun.budget(&program, budget, &mut expected);
             assert_eq!((answer, steps), (right, count), "{origin}");
             assert_eq!(found, expected, "{origin}");
-            let stands_for = state_of(&state).expect("numbers that stand for a state");
+            let stands_for = state_of(run.state()).expect("numbers that stand for a state");
             let after = after.tidied();
             assert_eq!(difference(&after, &stands_for), None, "{origin}");
-            Some(assert_seen(&state, &after, &origin))
+            Some(assert_seen(&run, &after, &origin))
         }
     }
 }

@@ -1,8 +1,9 @@
 //! An image before its bytes: versions, blocks and instructions, with no counts to keep right.
 
 use reference::bounds::VERSIONS_EACH;
+use reference::program::{Block, Version};
 use reference::record::{BlockRecord, VersionRecord};
-use reference::{Instruction, Mark, Record, Register, Type};
+use reference::{Instruction, Mark, Program, Record, Register, Type};
 
 /// The versions of an image.
 #[derive(Clone, Debug, Default)]
@@ -51,6 +52,12 @@ pub struct Site {
 }
 
 impl Draft {
+    /// The draft of an image that is accepted.
+    pub fn of(program: &Program) -> Draft {
+        let versions = program.versions.iter().map(DraftVersion::of).collect();
+        Draft { versions }
+    }
+
     /// The records, with all counts as what follows makes them.
     pub fn records(&self) -> Vec<Record> {
         self.versions
@@ -103,6 +110,23 @@ impl Draft {
 }
 
 impl DraftVersion {
+    /// The draft of a version.
+    fn of(version: &Version) -> DraftVersion {
+        let block = |block: &Block| DraftBlock {
+            mark: block.head.mark,
+            result: block.head.result,
+            instructions: block.instructions.iter().map(|i| i.item.clone()).collect(),
+        };
+        DraftVersion {
+            function: version.head.function,
+            version: version.head.version,
+            parameters: version.head.parameters.into(),
+            returns: version.head.returns,
+            types: version.head.types.clone(),
+            blocks: version.blocks.iter().map(block).collect(),
+        }
+    }
+
     /// The records of the version.
     fn records(&self) -> Vec<Record> {
         let mut records = vec![Record::Version(VersionRecord {

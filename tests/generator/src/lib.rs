@@ -1,4 +1,5 @@
-//! Deterministic images, argument words and event lists: a seed decides all of it.
+//! Deterministic images, argument words, event lists and new images for runs that go
+//! on: a seed decides all of it.
 //!
 //! Accepted images are accepted by construction: types, marks and flow are
 //! kept while a version grows. Damaged images are accepted ones with one rule
@@ -17,6 +18,7 @@ mod run;
 mod special;
 mod tally;
 mod theme;
+mod update;
 mod world;
 
 pub use grow::Trap;
@@ -25,6 +27,7 @@ pub use run::Event;
 pub use special::Special;
 pub use tally::Tally;
 pub use theme::Theme;
+pub use update::{Live, Update};
 
 use draft::Draft;
 use reference::bounds::BUFFER;
@@ -154,7 +157,14 @@ pub fn begun(seed: u64, program: &Program) -> Option<State> {
     State::begin(program, function, version, &words, &[0; BUFFER]).ok()
 }
 
-/// A list of single steps and budgets, some lent too short a buffer.
+/// A new image of this aim for a run whose image is in force and whose live calls
+/// are of these versions. The aim may be missed.
+pub fn update(aim: Update, seed: u64, image: &[u8], live: &Live) -> Vec<u8> {
+    update::update(&mut Random::new(seed), aim, image, live)
+}
+
+/// A list of single steps and budgets, some lent too short a buffer, and in two
+/// lists of five changes of the image.
 pub fn events(seed: u64) -> Vec<Event> {
     run::event_list(&mut Random::new(seed))
 }

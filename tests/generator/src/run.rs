@@ -1,6 +1,7 @@
 //! Where runs begin, with which words, and what is done with them.
 
 use crate::random::Random;
+use crate::update::Update;
 use reference::bounds::{Steps, BUFFER, ITEMS};
 use reference::program::Version;
 use reference::{Integer, Kind, Program, Type};
@@ -88,10 +89,46 @@ pub enum Event {
         /// The places lent.
         places: usize,
     },
+    /// A change to a new image.
+    Change {
+        /// How it is to differ from the one in force.
+        aim: Update,
+        /// What decides all else of it.
+        seed: u64,
+    },
 }
 
 /// A list of things done with a run; it goes past the end of most runs.
 pub fn event_list(random: &mut Random) -> Vec<Event> {
+    let events = without_changes(random);
+    if random.percent(40) {
+        let mut list = changing(random);
+        list.extend(events);
+        list.push(change(random));
+        return list;
+    }
+    events
+}
+
+/// Changes with a few steps before each.
+fn changing(random: &mut Random) -> Vec<Event> {
+    let mut events = Vec::new();
+    for _ in 0..1 + random.below(5) {
+        let (budget, places) = (random.below(25) as Steps, BUFFER);
+        events.push(Event::Budget { budget, places });
+        events.extend((0..1 + random.below(2)).map(|_| change(random)));
+    }
+    events
+}
+
+/// A change of any aim.
+fn change(random: &mut Random) -> Event {
+    let (aim, seed) = (Update::any(random), random.number());
+    Event::Change { aim, seed }
+}
+
+/// A list of steps and budgets.
+fn without_changes(random: &mut Random) -> Vec<Event> {
     let length = random.pick(&[0, 1, 2, 3, 5, 8, 20]);
     let mut events: Vec<Event> = (0..length).map(|_| event(random)).collect();
     if random.percent(15) {

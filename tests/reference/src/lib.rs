@@ -8,7 +8,7 @@
 //! |---|---|
 //! | Values and types | [`types`] |
 //! | Image | [`bounds`], [`kinds`], [`instruction`], [`record`], [`program`] |
-//! | Questions put to an image | [`questions`], [`begin`] |
+//! | Questions put to an image | [`questions`], [`begin`], [`change`] |
 //! | Types fit when | [`questions`] |
 //! | Flow | [`flow`] |
 //! | Steps | [`state`], [`counts`], [`outside`], [`steps`] |
@@ -17,6 +17,7 @@
 
 pub mod begin;
 pub mod bounds;
+pub mod change;
 pub mod counts;
 pub mod flow;
 pub mod instruction;
@@ -34,6 +35,7 @@ pub mod watched;
 
 pub use begin::begin;
 pub use bounds::Integer;
+pub use change::change;
 pub use instruction::{Instruction, Name, Register};
 pub use program::Program;
 pub use questions::{questions_1_to_7, verdict, Refusal, Verdict};

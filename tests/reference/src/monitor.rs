@@ -11,6 +11,8 @@ use crate::types::Mark;
 #[derive(Clone, Copy, PartialEq, Eq, Debug)]
 #[allow(missing_docs)] // The fields are a call and one of its registers.
 pub enum Breach {
+    /// A live call is of a version that the image in force does not have.
+    Unknown { call: usize },
     /// A register of a live call holds a value that is not of its declared type.
     Untyped { call: usize, register: Register },
     /// A register place that no version declares is not empty.
@@ -26,8 +28,12 @@ pub enum Breach {
     Reflective { quiet: usize },
 }
 
-/// Checks the registers and names of a state.
+/// Checks the calls, registers and names of a state.
 pub fn check_state(program: &Program, state: &State) -> Result<(), Breach> {
+    let unknown = |&call: &usize| state.version(program, call).is_none();
+    if let Some(call) = (0..state.frames.len()).find(unknown) {
+        return Err(Breach::Unknown { call });
+    }
     for call in 0..state.frames.len() {
         for register in 0..REGISTERS {
             if let Some(value) = state.frames[call].registers[register] {
@@ -55,12 +61,13 @@ pub fn check_step(program: &Program, before: &State, said: Said) -> Result<(), B
     }
 }
 
-/// The oldest live call of a version with mark 0.
+/// The oldest live call of a version with mark 0, or of one that the image does
+/// not have: nothing says that such a call may read or write by reflection.
 fn first_quiet_call(program: &Program, state: &State) -> Option<usize> {
     (0..state.frames.len()).find(|&call| {
         state
             .version(program, call)
-            .is_some_and(|version| version.mark() == Mark::QUIET)
+            .is_none_or(|version| version.mark() == Mark::QUIET)
     })
 }
 

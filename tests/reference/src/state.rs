@@ -4,6 +4,7 @@ use crate::bounds::{Integer, NAMES, PROMISES, REGISTERS, VECTORS};
 use crate::instruction::{Instruction, Register};
 use crate::program::{Block, Program, Version};
 use crate::types::Kind;
+use std::collections::BTreeSet;
 
 /// What a register or a name holds.
 #[derive(Clone, Copy, PartialEq, Eq, Hash, Debug)]
@@ -145,6 +146,12 @@ impl State {
             *place = Some(vector);
         }
         state
+    }
+
+    /// The numbers of the versions that have a live call: function and version.
+    pub fn live_versions(&self) -> BTreeSet<(u8, u8)> {
+        let numbers = |frame: &Frame| (frame.function, frame.version);
+        self.frames.iter().map(numbers).collect()
     }
 
     /// The version that a frame entered, if the image has it.

@@ -1,16 +1,20 @@
 //! A run under the monitor of demand 3, for tests.
 
 use crate::bounds::{Integer, Steps, ITEMS};
+use crate::change::change;
 use crate::instruction::Instruction;
 use crate::kinds;
 use crate::monitor::{check_state, check_step};
 use crate::program::Program;
+use crate::questions::Refusal;
 use crate::state::{End, State, Status, Value};
 use crate::steps::{Answer, Said};
 
-/// A run; demand 3 is asserted at its start and at each step.
-pub struct Watched<'p> {
-    program: &'p Program,
+/// A run; demand 3 is asserted at its start, at each step and at each change of
+/// its image, under the image then in force.
+pub struct Watched {
+    /// The program of the image in force.
+    program: Program,
     state: State,
     /// What a failed assertion names.
     origin: String,
@@ -21,14 +25,14 @@ pub struct Watched<'p> {
     not_skipped: usize,
 }
 
-impl<'p> Watched<'p> {
+impl Watched {
     /// A run that has begun.
     #[track_caller]
-    pub fn new(program: &'p Program, state: State, origin: &str) -> Watched<'p> {
+    pub fn new(program: &Program, state: State, origin: &str) -> Watched {
         let checked = check_state(program, &state);
         assert_eq!(checked, Ok(()), "{origin}, at the start");
         Watched {
-            program,
+            program: program.clone(),
             state,
             origin: origin.to_string(),
             tried: 0,
@@ -65,10 +69,10 @@ impl<'p> Watched<'p> {
     /// A single step; what it says.
     #[track_caller]
     pub fn step(&mut self) -> Said {
-        let (after, said) = self.state.clone().step(self.program);
+        let (after, said) = self.state.clone().step(&self.program);
         self.tried += usize::from(!self.ended());
-        let checked = check_step(self.program, &self.state, said);
-        let checked = checked.and_then(|()| check_state(self.program, &after));
+        let checked = check_step(&self.program, &self.state, said);
+        let checked = checked.and_then(|()| check_state(&self.program, &after));
         assert_eq!(checked, Ok(()), "{}, step {}", self.origin, self.tried);
         if let Said::Ended(end) = said {
             self.assert_kept(&after, end);
@@ -82,7 +86,7 @@ impl<'p> Watched<'p> {
 
     /// Counts the instruction that the run stands at if it is a SKIP.
     fn count_skip(&mut self) {
-        if let Some(&Instruction::Skip { a, .. }) = self.state.instruction(self.program) {
+        if let Some(&Instruction::Skip { a, .. }) = self.state.instruction(&self.program) {
             let top = self.state.activations.last().expect("a call lives");
             let held = self.state.frames[top.frame].registers[usize::from(a)];
             let skips = held == Some(Value::Integer(0));
@@ -96,7 +100,7 @@ impl<'p> Watched<'p> {
     #[track_caller]
     pub fn budget(&mut self, budget: Steps, buffer: &mut [Integer]) -> (Answer, Steps) {
         let before = self.state.clone();
-        let (after, answer, steps) = before.budget(self.program, budget, buffer);
+        let (after, answer, steps) = before.budget(&self.program, budget, buffer);
         for _ in 0..steps {
             self.step();
         }
@@ -109,6 +113,17 @@ impl<'p> Watched<'p> {
             "{origin}: a budget does what its steps do"
         );
         (answer, steps)
+    }
+
+    /// A change from the image in force to another; where it is refused, the run
+    /// goes on under the old one. The state is the same either way.
+    #[track_caller]
+    pub fn change(&mut self, old: &[u8], new: &[u8]) -> Result<(), Refusal> {
+        change(old, new, &self.state)?;
+        self.program = Program::accept(new)?;
+        let checked = check_state(&self.program, &self.state);
+        assert_eq!(checked, Ok(()), "{}, at a change", self.origin);
+        Ok(())
     }
 
     /// Asserts that an end other than DONE leaves all but the status.
@@ -144,7 +159,7 @@ impl<'p> Watched<'p> {
 
     /// Why the instruction that the run stopped at made UNDEF.
     fn cause(&self) -> &'static str {
-        let instruction = self.state.instruction(self.program);
+        let instruction = self.state.instruction(&self.program);
         let top = self.state.activations.last().expect("a call lives");
         let registers = &self.state.frames[top.frame].registers;
         match *instruction.expect("UNDEF at an instruction") {

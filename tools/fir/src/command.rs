@@ -39,6 +39,17 @@ pub struct Call {
     pub arguments: Vec<Argument>,
     /// The most steps.
     pub budget: u32,
+    /// The images to go on under, in the order of their steps.
+    pub then: Vec<Then>,
+}
+
+/// An image to go on under.
+#[derive(Clone, PartialEq, Eq, Debug)]
+pub struct Then {
+    /// The image.
+    pub file: OsString,
+    /// After how many steps, counted from the start.
+    pub step: u32,
 }
 
 /// From one file to another.
@@ -93,6 +104,7 @@ fn parse_call(mut words: Words, mut budget: u32) -> Result<Call, String> {
     if let Some(text) = words.option("--budget")? {
         budget = parse_budget(&text)?;
     }
+    let then = parse_changes(&words.options("--then")?)?;
     let file = words.file()?;
     let entry = words.next().ok_or("no version is named, such as 0.0")?;
     let entry = parse_entry(&plain(&entry)?)?;
@@ -100,12 +112,38 @@ fn parse_call(mut words: Words, mut budget: u32) -> Result<Call, String> {
     while let Some(word) = words.next() {
         arguments.push(Argument::parse(&plain(&word)?)?);
     }
+    let files = then.iter().map(|then| &then.file).chain([&file]);
+    if files.filter(|&file| file == "-").count() > 1 {
+        return Err("standard input is named twice".to_string());
+    }
     Ok(Call {
         file,
         entry,
         arguments,
         budget,
+        then,
     })
+}
+
+/// The images to go on under, in the order of their steps.
+fn parse_changes(texts: &[OsString]) -> Result<Vec<Then>, String> {
+    let changes: Result<Vec<Then>, String> = texts.iter().map(|text| parse_then(text)).collect();
+    let mut changes = changes?;
+    changes.sort_by_key(|then| then.step);
+    Ok(changes)
+}
+
+/// An image and a number of steps such as new.fir@100.
+fn parse_then(text: &OsStr) -> Result<Then, String> {
+    let text = plain(text)?;
+    let wrong = || format!("`{text}` is no image and step such as new.fir@100");
+    let (file, step) = text.rsplit_once('@').ok_or_else(wrong)?;
+    let step = step.parse().map_err(|_| wrong())?;
+    if file.is_empty() {
+        return Err(wrong());
+    }
+    let file = file.into();
+    Ok(Then { file, step })
 }
 
 /// A conversion.
@@ -157,18 +195,24 @@ impl Words {
 
     /// Takes out an option and its value, wherever it stands; none if it does not.
     fn option(&mut self, name: &str) -> Result<Option<OsString>, String> {
-        let Some(place) = self.rest.iter().position(|word| word == name) else {
-            return Ok(None);
-        };
-        self.rest.remove(place);
-        if place == self.rest.len() {
-            return Err(format!("nothing follows {name}"));
-        }
-        let value = self.rest.remove(place);
-        if self.rest.iter().any(|word| word == name) {
+        let mut values = self.options(name)?;
+        if values.len() > 1 {
             return Err(format!("{name} stands twice"));
         }
-        Ok(Some(value))
+        Ok(values.pop())
+    }
+
+    /// Takes out the values of an option that may stand several times.
+    fn options(&mut self, name: &str) -> Result<Vec<OsString>, String> {
+        let mut values = Vec::new();
+        while let Some(place) = self.rest.iter().position(|word| word == name) {
+            self.rest.remove(place);
+            if place == self.rest.len() {
+                return Err(format!("nothing follows {name}"));
+            }
+            values.push(self.rest.remove(place));
+        }
+        Ok(values)
     }
 
     /// The next word as the name of a file.

@@ -40,6 +40,7 @@ usage:
   fir check FILE                               is the image accepted, and if not, why?
   fir run FILE F.V [ARGUMENT..] [--budget N]   runs version V of function F
   fir trace FILE F.V [ARGUMENT..] [--budget N] the same, step by step
+      [--then IMAGE@STEP]..                    both: goes on under another image
   fir asm FILE [-o OUT]                        from text to image
   fir dis FILE [-o OUT]                        from image to text
 
@@ -76,7 +77,7 @@ exit status: 0 accepted, 1 refused or a text that does not assemble, 2 bad usage
 ";
 
 const RUN: &str = "\
-usage: fir run FILE F.V [ARGUMENT..] [--budget N]
+usage: fir run FILE F.V [ARGUMENT..] [--budget N] [--then IMAGE@STEP]..
 
 Runs version V of function F under a budget of N steps, 10,000,000 if none is
 given, 4,294,967,295 at most. An argument is an integer such as 7 or -7, or a
@@ -93,14 +94,22 @@ It prints how the run ended and after how many steps:
 and, but for DONE, where the run stands. A run that is refused gets a line that
 says why.
 
-FILE holds the text form where its name ends in .fir, and an image's bytes
-otherwise; `-` is standard input, an image's bytes.
+With --then the run goes on under the image of another file once STEP steps are
+taken, counted from the start; several are tried in the order of their steps.
+The new image is put to its own questions and then to 15: every version with a
+live call has the same bytes in both. Where it is refused, a line says why, with
+the version and the first byte that differs, or the version that is missing, and
+the command ends with status 1; a controller would go on under the old image. An
+image whose step the run does not come to is named as not reached.
+
+A file, FILE or IMAGE, holds the text form where its name ends in .fir, and an
+image's bytes otherwise; `-` is standard input, an image's bytes.
 
 exit status: 0 DONE, 1 refused, UNDEF or a stop, 2 bad usage
 ";
 
 const TRACE: &str = "\
-usage: fir trace FILE F.V [ARGUMENT..] [--budget N]
+usage: fir trace FILE F.V [ARGUMENT..] [--budget N] [--then IMAGE@STEP]..
 
 Runs version V of function F as `fir run` does, but step by step, under a budget
 of N steps, 100,000 if none is given. It prints a line for each step: its number,
@@ -118,10 +127,11 @@ end of the block, and what changed:
   opens call 1 of 2.0, ends call 1 with 5
   forces p0 in block 1 of call 0, ends the force of p0 with 5
   skips 3, does not skip
-Then it prints the result as `fir run` does.
+Then it prints the result as `fir run` does. --then goes as there, with a line
+where the run goes on under another image.
 
-FILE holds the text form where its name ends in .fir, and an image's bytes
-otherwise; `-` is standard input, an image's bytes.
+A file, FILE or IMAGE, holds the text form where its name ends in .fir, and an
+image's bytes otherwise; `-` is standard input, an image's bytes.
 
 exit status: 0 DONE, 1 refused, UNDEF or a stop, 2 bad usage
 ";

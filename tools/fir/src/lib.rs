@@ -12,6 +12,7 @@ mod help;
 mod number;
 mod place;
 mod refusal;
+mod running;
 mod source;
 mod streams;
 mod trace;

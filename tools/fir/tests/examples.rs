@@ -11,7 +11,13 @@ use support::fir;
 const EXAMPLES: &str = concat!(env!("CARGO_MANIFEST_DIR"), "/../../examples/");
 
 /// The scripts.
-const SCRIPTS: [&str; 3] = ["defrost.fir", "riser.fir", "setback.fir"];
+const SCRIPTS: [&str; 5] = [
+    "defrost.fir",
+    "pump.fir",
+    "pump_later.fir",
+    "riser.fir",
+    "setback.fir",
+];
 
 /// A command of a comment or a document, and what it is to print.
 struct Shown {
@@ -34,7 +40,7 @@ fn shown(text: &str, indent: &str) -> Vec<Shown> {
             });
             inside = true;
         } else if let (Some(line), true, Some(last)) = (indented, inside, all.last_mut()) {
-            last.output += &format!("{line}\n");
+            last.output += &format!("{}\n", line.replace("examples/", EXAMPLES));
         } else {
             inside = false;
         }
@@ -110,6 +116,41 @@ fn defrost_follows_its_thresholds() {
 }
 
 #[test]
+fn pump_follows_each_of_the_three_rooms() {
+    for (script, warm) in [("pump.fir", -30), ("pump_later.fir", 0)] {
+        gives(script, &["210", "[210,210,210]"], 0);
+        gives(script, &["210", "[200,210,210]"], 10);
+        gives(script, &["210", "[210,190,210]"], 20);
+        gives(script, &["210", "[210,210,209]"], 1);
+        for rooms in ["[240,210,210]", "[210,240,210]", "[210,210,240]"] {
+            gives(script, &["210", rooms], warm);
+        }
+    }
+}
+
+/// The bytes of an array of an example in C.
+fn array(source: &str, name: &str) -> Vec<u8> {
+    let begin = format!("static const uint8_t {name}[] = {{");
+    let (_, behind) = source.split_once(&begin).expect("the array is there");
+    let (array, _) = behind.split_once("};").expect("the array ends");
+    let lines = array
+        .lines()
+        .map(|line| line.split("/*").next().unwrap_or(""));
+    let numbers = lines.flat_map(|line| line.split(',')).map(str::trim);
+    let numbers = numbers.filter(|number| !number.is_empty());
+    numbers.map(|n| n.parse().expect("a byte")).collect()
+}
+
+#[test]
+fn the_images_of_update_are_those_of_its_scripts() {
+    let source = fs::read_to_string(format!("{EXAMPLES}update.c")).expect("it is there");
+    for (name, script) in [("pump", "pump.fir"), ("later", "pump_later.fir")] {
+        let image = fir(&["asm", &format!("{EXAMPLES}{script}")], b"").output;
+        assert_eq!(array(&source, name), image, "{name}");
+    }
+}
+
+#[test]
 fn riser_finds_the_greatest_demand_at_each_place() {
     for place in 0..16 {
         let demands: Vec<i32> = (0..16).map(|riser| i32::from(riser == place)).collect();
@@ -143,7 +184,7 @@ fn the_commands_of_the_readme_print_what_it_shows() {
     let commands = shown(include_str!("../../README.md"), "    ");
     let (with_output, without): (Vec<_>, Vec<_>) =
         commands.iter().partition(|shown| !shown.output.is_empty());
-    assert_eq!((with_output.len(), without.len()), (2, 3));
+    assert_eq!((with_output.len(), without.len()), (3, 3));
     for command in with_output {
         assert_printed(command, "README");
     }

@@ -39,6 +39,8 @@ fn word(random: &mut Random, files: &[String]) -> OsString {
         "",
         "--",
         "--budget=",
+        "--then",
+        "-@3",
         "0.",
         ".",
         "..",
@@ -79,6 +81,10 @@ fn line(random: &mut Random, files: &[String], out: &str) -> Vec<OsString> {
         line.push(format!("{}.{}", random.below(2), random.below(2)).into());
         line.extend((0..random.below(3)).map(|_| "5".into()));
         line.extend(["--budget".into(), random.below(300).to_string().into()]);
+        if random.one_in(3) {
+            let then = format!("{}@{}", random.pick(files), random.below(40));
+            line.splice(1..1, ["--then".into(), then.into()]);
+        }
     }
     if command == "asm" || command == "dis" {
         line.extend(["-o".into(), out.into()]);

@@ -2,13 +2,16 @@
 
 mod support;
 
-use generator::{accepted, accepted_of, entry, words, Random, Special, Theme, Trap};
-use reference::{Answer, End, Integer, Program, State};
+use generator::{
+    accepted, accepted_of, entry, update, words, Random, Special, Theme, Trap, Update,
+};
+use reference::{change, Answer, End, Integer, Program, Refusal, State};
 use std::collections::BTreeMap;
-use support::{fir, Done};
+use support::{file, fir, Done};
 
-/// How many programs are generated.
+/// How many programs are generated, and how many to be changed while they run.
 const PROGRAMS: u64 = 1_500;
+const CHANGED: u64 = 500;
 
 /// The arguments of words, as the command line has them; none where the words
 /// are those of no arguments.
@@ -133,5 +136,103 @@ fn runs_and_traces_end_as_the_reference_says() {
     ];
     for name in all {
         assert!(met.contains_key(name), "never met: {name}");
+    }
+}
+
+/// A run that has come to the step of a change, or to its end before it.
+struct Halfway {
+    image: Vec<u8>,
+    new: Vec<u8>,
+    /// The file of the new image, and its step.
+    file: String,
+    step: u32,
+    state: State,
+    answer: Answer,
+    steps: u32,
+    buffer: [Integer; 16],
+}
+
+/// The steps that a run which changes is given.
+const BUDGET: u32 = 3000;
+
+impl Halfway {
+    /// What comes of the change, and how the output begins.
+    fn expected(mut self) -> (&'static str, String) {
+        let (steps, file) = (self.steps, self.file.clone());
+        let plural = if steps == 1 { "" } else { "s" };
+        let after = format!("after {steps} step{plural}");
+        if self.steps < self.step {
+            let (_, begin) = expected(self.answer, &self.buffer);
+            return ("not reached", format!("{begin} {after}\n"));
+        }
+        match change(&self.image, &self.new, &self.state) {
+            Ok(()) => {
+                let program = Program::accept(&self.new).expect("an accepted image");
+                let left = BUDGET - steps;
+                let (_, answer, more) = self.state.budget(&program, left, &mut self.buffer);
+                let (_, begin) = expected(answer, &self.buffer);
+                let all = steps + more;
+                let begin = format!("{after}: goes on under {file}\n{begin} after {all} ");
+                ("taken", begin)
+            }
+            Err(Refusal { number, offset }) => {
+                let kind = if number == 15 { "15" } else { "refused" };
+                let begin = format!("{after}, {file}: refused by {number} at {offset}: ");
+                (kind, begin)
+            }
+        }
+    }
+}
+
+/// Runs a program that goes on under another image after some steps, and compares
+/// with the reference; what the change came to.
+fn compared_changing(seed: u64) -> Option<&'static str> {
+    let image = accepted(seed);
+    let program = Program::accept(&image).expect("an accepted image");
+    let entry = entry(seed, &program)?;
+    let words = words(seed, &program, entry);
+    let given = arguments(&words)?;
+    let mut random = Random::new(seed);
+    let (step, mut buffer) = (random.below(30) as u32, [0; 16]);
+    let state = State::begin(&program, entry.0, entry.1, &words, &buffer).ok()?;
+    let (state, answer, steps) = state.budget(&program, step, &mut buffer);
+    let aim = Update::any(&mut random);
+    let new = update(aim, seed, &image, &state.live_versions());
+    let file = file("changing", "new.bin", &new);
+    let (name, then) = (format!("{}.{}", entry.0, entry.1), format!("{file}@{step}"));
+    let limit = BUDGET.to_string();
+    let mut call = vec!["run", "-", &name, "--budget", &limit, "--then", &then];
+    call.extend(given.iter().map(String::as_str));
+    let text = fir(&call, &image).text();
+    let halfway = Halfway {
+        image,
+        new,
+        file,
+        step,
+        state,
+        answer,
+        steps,
+        buffer,
+    };
+    let (kind, begin) = halfway.expected();
+    assert!(text.starts_with(&begin), "seed {seed}: {begin}\n{text}");
+    let left = text.ends_with(&format!("  not reached: {then}\n"));
+    assert_eq!(left, kind == "not reached", "seed {seed}\n{text}");
+    let by_rule = text.contains("has the same bytes and number in both");
+    assert!(!by_rule, "seed {seed}: 15 without a version\n{text}");
+    Some(kind)
+}
+
+#[test]
+fn runs_that_go_on_under_another_image_end_as_the_reference_says() {
+    let mut met = BTreeMap::new();
+    for seed in 0..CHANGED {
+        if let Some(kind) = compared_changing(seed) {
+            *met.entry(kind).or_insert(0) += 1;
+        }
+    }
+    println!("{met:?}");
+    for kind in ["taken", "15", "refused", "not reached"] {
+        assert!(met.get(kind).is_some_and(|&count| count >= 10), "{kind}");
     }
 }

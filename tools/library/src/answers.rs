@@ -10,9 +10,10 @@ use crate::raw::{FirAnswer, FirEntry, FirSaid, FirValue, FirVerdict};
 /// A no: the question, and the offset of the first record that fails.
 #[derive(Clone, Copy, PartialEq, Eq, Debug)]
 pub struct Refusal {
-    /// The question, 1 to 14.
+    /// The question, 1 to 15.
     pub question: u8,
-    /// The offset of the record; the image's length where records are missing.
+    /// The offset of the record; the image's length where records or, by 15, a
+    /// version are missing.
     pub offset: usize,
 }
 
@@ -52,7 +53,8 @@ pub enum Said {
     GoesOn,
     /// The run ended so, with this step or before it.
     Ended(End),
-    /// The state is none of a begun run of this image; it is as it was.
+    /// The state is none of a begun run that this image is in force for; it is as
+    /// it was.
     Stuck,
 }
 
@@ -63,7 +65,7 @@ pub enum Answer {
     Steps,
     /// The run ended so, under this budget or before it.
     Ended(End),
-    /// The state is none of a begun run of this image.
+    /// The state is none of a begun run that this image is in force for.
     Stuck,
     /// Nothing was done: state and buffer are as they were.
     Refused(Refusal),
@@ -89,6 +91,13 @@ pub enum Held {
     Vector(usize),
     /// The promise at a place.
     Promise(usize),
+}
+
+impl Ran {
+    /// Was it refused, so that nothing was done?
+    pub fn is_refused(&self) -> bool {
+        matches!(self.answer, Answer::Refused(_))
+    }
 }
 
 impl From<FirVerdict> for Verdict {

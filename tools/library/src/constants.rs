@@ -47,6 +47,8 @@ pub const FIR_REFUSED_ENTRY: u8 = 11;
 pub const FIR_REFUSED_ARGUMENTS: u8 = 12;
 /// The result buffer has at least 16 places.
 pub const FIR_REFUSED_BUFFER: u8 = 13;
+/// Every version with a live call has the same bytes and number in both images.
+pub const FIR_REFUSED_CHANGE: u8 = 15;
 
 /// The run goes on: the step was taken, or the budget is used up.
 pub const FIR_STEPS: u8 = 0;
@@ -62,7 +64,7 @@ pub const FIR_DEEP: u8 = 4;
 pub const FIR_VECTORS: u8 = 5;
 /// PROMISES: a 65th promise is needed.
 pub const FIR_PROMISES: u8 = 6;
-/// The state is none of a begun run of this image.
+/// The state is none of a begun run that this image is in force for.
 pub const FIR_STUCK: u8 = 7;
 /// Refused by a question at an offset.
 pub const FIR_REFUSED: u8 = 8;

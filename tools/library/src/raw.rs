@@ -11,7 +11,8 @@ pub struct FirVerdict {
     pub question: u8,
 }
 
-/// Whether a run has begun: `FIR_ACCEPTED`, or a question and its offset.
+/// Whether a run has begun, or goes on under a new image: `FIR_ACCEPTED`, or a
+/// question and its offset.
 #[repr(C)]
 pub struct FirEntry {
     /// The offset of a refusal.
@@ -101,5 +102,12 @@ extern "C" {
         buffer_length: usize,
         state: *mut State,
     ) -> FirAnswer;
+    pub fn fir_change(
+        old_image: *const u8,
+        old_length: usize,
+        new_image: *const u8,
+        new_length: usize,
+        state: *const State,
+    ) -> FirEntry;
     pub fn fir_look(state: *const State, call: usize, place: usize) -> FirValue;
 }

@@ -1,8 +1,8 @@
-//! The state of a run, and what can be done with it.
+//! The state of a run, and a look at it.
 
 #![allow(unsafe_code)] // The library is called across a C boundary.
 
-use crate::answers::{Held, Ran, Refusal, Said};
+use crate::answers::Held;
 use crate::constants::{FIR_ACTIVATIONS, FIR_ITEMS, FIR_NAMES, FIR_PLACES, FIR_REGISTERS};
 use crate::raw;
 use std::sync::Once;
@@ -17,7 +17,8 @@ pub const ACTIVATION: usize = 6;
 pub const PROMISE: usize = 3;
 
 /// The state of a run: numbers alone, field for field the `fir_state` of
-/// `fir.h`, which says what they mean. Every content is allowed.
+/// `fir.h`, which says what they mean. Every content is allowed. A state does
+/// not say which image it goes on under: a [`Run`](crate::Run) holds both.
 #[repr(C)]
 #[derive(Clone, PartialEq, Eq)]
 pub struct State {
@@ -51,15 +52,6 @@ pub struct State {
     pub value: i32,
 }
 
-/// The version that a run enters.
-#[derive(Clone, Copy, PartialEq, Eq, Debug)]
-pub struct Entry {
-    /// Its function.
-    pub function: usize,
-    /// Its number within the function.
-    pub version: usize,
-}
-
 impl State {
     /// A state without calls: that of no run.
     pub fn blank() -> State {
@@ -81,90 +73,6 @@ impl State {
         }
     }
 
-    /// Begins a run in this state, which stays as it was where the run is
-    /// refused. The buffer is asked for its length only.
-    pub fn begin(
-        &mut self,
-        image: &[u8],
-        entry: Entry,
-        words: &[i32],
-        buffer: &[i32],
-    ) -> Result<(), Refusal> {
-        assert_layout();
-        // SAFETY: the slices lend what their lengths say and the state is one
-        // of the library's layout; it alone is written, and `&mut` shares it
-        // with none of them.
-        let begun = unsafe {
-            raw::fir_begin(
-                image.as_ptr(),
-                image.len(),
-                entry.function,
-                entry.version,
-                words.as_ptr(),
-                words.len(),
-                buffer.as_ptr(),
-                buffer.len(),
-                self,
-            )
-        };
-        begun.into()
-    }
-
-    /// Takes a single step.
-    pub fn step(&mut self, image: &[u8]) -> Said {
-        assert_layout();
-        // SAFETY: as in `begin`.
-        unsafe { raw::fir_step(image.as_ptr(), image.len(), self) }.into()
-    }
-
-    /// Takes at most so many steps. A vector that the run is DONE with is
-    /// written to the buffer from place 0 on; all else in the buffer stays.
-    pub fn budget(&mut self, image: &[u8], budget: u32, buffer: &mut [i32]) -> Ran {
-        assert_layout();
-        // SAFETY: as in `begin`; the buffer, which is written too, is lent by a
-        // `&mut` of its own.
-        let ran = unsafe {
-            raw::fir_budget(
-                image.as_ptr(),
-                image.len(),
-                self,
-                budget,
-                buffer.as_mut_ptr(),
-                buffer.len(),
-            )
-        };
-        ran.into()
-    }
-
-    /// Begins a run in this state and takes at most so many steps; the state
-    /// stays as it was where the run is refused.
-    pub fn run(
-        &mut self,
-        image: &[u8],
-        entry: Entry,
-        words: &[i32],
-        budget: u32,
-        buffer: &mut [i32],
-    ) -> Ran {
-        assert_layout();
-        // SAFETY: as in `budget`.
-        let ran = unsafe {
-            raw::fir_run(
-                image.as_ptr(),
-                image.len(),
-                entry.function,
-                entry.version,
-                words.as_ptr(),
-                words.len(),
-                budget,
-                buffer.as_mut_ptr(),
-                buffer.len(),
-                self,
-            )
-        };
-        ran.into()
-    }
-
     /// What a place of a live call holds: registers are the places 0 to 15,
     /// names the places 16 to 23. None where there is no such place.
     pub fn look(&self, call: usize, place: usize) -> Option<Held> {
@@ -175,7 +83,7 @@ impl State {
 }
 
 /// Asserts, once, that the library was built with this layout of a state.
-fn assert_layout() {
+pub(crate) fn assert_layout() {
     static ONCE: Once = Once::new();
     ONCE.call_once(|| {
         // SAFETY: these functions take nothing.

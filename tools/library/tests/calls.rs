@@ -1,8 +1,8 @@
 //! Each call of the proved library, on images whose answers are worked out by hand.
 
 use library::{
-    report, verdict, Activation, Answer, End, Entry, Held, Opener, Promise, Ran, Refusal, Said,
-    State, Verdict, CELLS, FIR_ITEMS, FIR_REGISTERS,
+    report, verdict, Activation, Answer, End, Entry, Held, Opener, Promise, Ran, Refusal, Run,
+    Said, State, Verdict, CELLS, FIR_ITEMS, FIR_REGISTERS,
 };
 
 /// The version that the runs enter.
@@ -31,11 +31,14 @@ fn image() -> Vec<u8> {
 }
 
 /// A run of the image that has begun with the integer 1.
-fn begun(image: &[u8]) -> State {
-    let mut state = State::blank();
-    let begun = state.begin(image, ENTRY, &[-1, 1], &[0; FIR_ITEMS]);
-    assert_eq!(begun, Ok(()));
-    state
+fn begun(image: &[u8]) -> Run<'_> {
+    let begun = Run::begin(image, ENTRY, &[-1, 1], &[0; FIR_ITEMS]);
+    begun.unwrap_or_else(|no| panic!("{no:?}"))
+}
+
+/// A no by a question at an offset.
+fn no(question: u8, offset: usize) -> Refusal {
+    Refusal { question, offset }
 }
 
 #[test]
@@ -61,34 +64,53 @@ fn a_report_needs_room_for_all_of_it() {
 }
 
 #[test]
-fn a_refused_run_leaves_its_state() {
-    let image = image();
-    let before = begun(&image);
-    let mut state = before.clone();
+fn a_refused_run_leaves_the_one_in_its_place() {
+    let (image, other) = (image(), other());
+    let mut run = begun(&image);
+    run.step();
+    let before = run.state().clone();
     let buffer = [0; FIR_ITEMS];
     let missing = Entry {
-        function: 0,
+        function: 9,
         version: 1,
     };
-    let refused = |question| {
-        Err(Refusal {
-            question,
-            offset: 0,
-        })
-    };
-    assert_eq!(state.begin(&image, missing, &[-1, 1], &buffer), refused(11));
-    assert_eq!(state.begin(&image, ENTRY, &[0], &buffer), refused(12));
     assert_eq!(
-        state.begin(&image, ENTRY, &[-1, 1], &buffer[1..]),
-        refused(13)
+        run.restart(&other, missing, &[-1, 1], &buffer),
+        Err(no(11, 0))
     );
-    let ran = state.run(&image, ENTRY, &[-1], 5, &mut [0; FIR_ITEMS]);
-    let answer = Answer::Refused(Refusal {
-        question: 12,
-        offset: 0,
-    });
+    assert_eq!(run.restart(&other, ENTRY, &[0], &buffer), Err(no(12, 0)));
+    let short = &buffer[1..];
+    assert_eq!(run.restart(&other, ENTRY, &[-1, 1], short), Err(no(13, 0)));
+    let ran = run.rerun(&other, ENTRY, &[-1], 5, &mut [0; FIR_ITEMS]);
+    let answer = Answer::Refused(no(12, 0));
     assert_eq!(ran, Ran { answer, steps: 0 });
-    assert!(state == before, "the state is as it was");
+    assert!(ran.is_refused());
+    assert!(*run.state() == before, "the state is as it was");
+    assert_eq!(run.image(), image);
+    let refused = Run::begin(&other, missing, &[-1, 1], &buffer);
+    assert_eq!(refused.err(), Some(no(11, 0)));
+}
+
+#[test]
+fn a_run_that_begins_anew_goes_by_its_own_image() {
+    let (image, other) = (image(), other());
+    let mut run = begun(&image);
+    assert_eq!(
+        run.restart(&other, ENTRY, &[-1, 1], &[0; FIR_ITEMS]),
+        Ok(())
+    );
+    assert_eq!(run.image(), other);
+    assert_eq!(run.step(), Said::GoesOn);
+    assert_eq!(run.look(0, 0), Some(Held::Integer(7)));
+    let ran = run.rerun(&image, ENTRY, &[-1, 1], 3, &mut [0; FIR_ITEMS]);
+    assert!(!ran.is_refused());
+    assert_eq!(run.image(), image);
+}
+
+/// The image of a body that gives 7.
+fn other() -> Vec<u8> {
+    let text = "version 0.0(r0: int) -> int\nblock 0 quiet -> r0\nr0 = lit 7";
+    text::assemble(text).expect("a text that is well formed")
 }
 
 #[test]
@@ -96,56 +118,156 @@ fn steps_and_budgets_come_to_the_same_end() {
     let image = image();
     let mut stepped = begun(&image);
     for _ in 0..7 {
-        assert_eq!(stepped.step(&image), Said::GoesOn);
+        assert_eq!(stepped.step(), Said::GoesOn);
     }
-    assert_eq!(stepped.step(&image), Said::Ended(End::Vector(2)));
+    assert_eq!(stepped.step(), Said::Ended(End::Vector(2)));
     let answer = Answer::Ended(End::Vector(2));
     let mut buffer = [9; FIR_ITEMS + 1];
-    let ran = stepped.budget(&image, 0, &mut buffer);
+    let ran = stepped.budget(0, &mut buffer);
     assert_eq!(ran, Ran { answer, steps: 0 });
     assert_eq!(buffer[..3], [1, 2, 9]);
-    let mut run = State::blank();
-    let ran = run.run(&image, ENTRY, &[-1, 1], 8, &mut buffer);
+    let ran = stepped.rerun(&image, ENTRY, &[-1, 1], 8, &mut buffer);
     assert_eq!(ran, Ran { answer, steps: 8 });
-    let ran = run.run(&image, ENTRY, &[-1, 1], 7, &mut buffer);
+    let ran = stepped.rerun(&image, ENTRY, &[-1, 1], 7, &mut buffer);
     let answer = Answer::Steps;
     assert_eq!(ran, Ran { answer, steps: 7 });
 }
 
 #[test]
 fn a_state_of_no_run_is_stuck() {
-    let mut state = State::blank();
-    assert_eq!(state.step(&image()), Said::Stuck);
+    let mut run = Run::load_with_its_own_image(State::blank(), image());
+    assert_eq!(run.step(), Said::Stuck);
     let answer = Answer::Stuck;
-    let ran = state.budget(&image(), 5, &mut [0; FIR_ITEMS]);
+    let ran = run.budget(5, &mut [0; FIR_ITEMS]);
     assert_eq!(ran, Ran { answer, steps: 0 });
-    assert!(state == State::blank(), "it is as it was");
+    assert!(*run.state() == State::blank(), "it is as it was");
+}
+
+/// 0.0, at 0 to 36, calls 1.0 twice, which adds a number to its argument.
+fn adding(number: i32) -> Vec<u8> {
+    let text = format!(
+        "version 0.0(r0: int) -> int
+           block 0 quiet -> r0
+             r0 = call 1.0(r0)
+             r0 = call 1.0(r0)
+         version 1.0(r0: int) -> int
+           registers r1: int
+           block 0 quiet -> r0
+             r1 = lit {number}
+             r0 = add r0, r1"
+    );
+    text::assemble(&text).expect("a text that is well formed")
+}
+
+#[test]
+fn a_change_that_is_accepted_puts_the_new_image_in_force() {
+    let (old, new) = (adding(1), adding(100));
+    let mut run = begun(&old);
+    // CALL, LIT, ADD and the end of 1.0.
+    let ran = run.budget(4, &mut [0; FIR_ITEMS]);
+    assert_eq!((ran.answer, ran.steps), (Answer::Steps, 4));
+    let before = run.state().clone();
+    assert_eq!(run.change(&new), Ok(()));
+    assert!(*run.state() == before, "the state is carried over whole");
+    assert_eq!(run.image(), new);
+    let ran = run.budget(9, &mut [0; FIR_ITEMS]);
+    let answer = Answer::Ended(End::Integer(1 + 1 + 100));
+    assert_eq!(ran, Ran { answer, steps: 5 });
+    // DONE leaves no live call: any accepted image goes, also an owned one.
+    assert_eq!(run.change(other()), Ok(()));
+    assert_eq!(run.step(), Said::Ended(End::Integer(102)));
+}
+
+#[test]
+fn a_change_that_is_refused_leaves_the_old_image_in_force() {
+    let (old, new) = (adding(1), adding(100));
+    let mut run = begun(&old);
+    run.step();
+    let before = run.state().clone();
+    assert_eq!(run.change(&new), Err(no(15, 36)));
+    assert_eq!(run.change(other()), Err(no(15, 0)));
+    assert_eq!(run.change(&new[..36]), Err(no(7, 18)));
+    assert_eq!(run.change(&[]), Err(no(1, 0)));
+    assert!(*run.state() == before, "the state is as it was");
+    assert_eq!(run.image(), old);
+    let ran = run.budget(9, &mut [0; FIR_ITEMS]);
+    let answer = Answer::Ended(End::Integer(1 + 1 + 1));
+    assert_eq!(ran, Ran { answer, steps: 8 });
+}
+
+#[test]
+fn a_live_version_that_is_missing_is_at_the_new_images_length() {
+    // Function 1 enters function 0, which alone the new image has.
+    let text = "version 0.0(r0: int) -> int\nblock 0 quiet -> r0\n";
+    let caller = "version 1.0(r0: int) -> int\nblock 0 quiet -> r0\nr0 = call 0.0(r0)";
+    let image = |text: &str| text::assemble(text).expect("a text that is well formed");
+    let (old, new) = (image(&format!("{text}{caller}")), image(text));
+    let entry = Entry {
+        function: 1,
+        version: 0,
+    };
+    let run = Run::begin(&old, entry, &[-1, 5], &[0; FIR_ITEMS]);
+    let mut run = run.unwrap_or_else(|no| panic!("{no:?}"));
+    assert_eq!(run.change(&new), Err(no(15, 18)));
+    run.step();
+    assert_eq!(run.change(&new), Err(no(15, 18)));
+    run.step();
+    run.step();
+    assert_eq!(run.change(&new), Ok(()));
+}
+
+#[test]
+fn a_stored_state_goes_on_with_its_own_image() {
+    let image = adding(1);
+    let stored = {
+        let mut run = begun(&image);
+        run.budget(6, &mut [0; FIR_ITEMS]);
+        (run.state().clone(), run.image().to_vec())
+    };
+    let (state, image) = stored;
+    let mut run = Run::load_with_its_own_image(state, image);
+    let ran = run.budget(9, &mut [0; FIR_ITEMS]);
+    let answer = Answer::Ended(End::Integer(3));
+    assert_eq!(ran, Ran { answer, steps: 3 });
+}
+
+#[test]
+fn a_state_under_an_image_that_is_not_its_own_gets_an_answer() {
+    let image = adding(1);
+    let mut run = begun(&image);
+    run.step();
+    // The other image has no version 1.0, which the run stands in.
+    let mut run = Run::load_with_its_own_image(run.state().clone(), other());
+    assert_eq!(run.step(), Said::Stuck);
+    let ran = run.budget(5, &mut [0; FIR_ITEMS]);
+    let answer = Answer::Stuck;
+    assert_eq!(ran, Ran { answer, steps: 0 });
 }
 
 #[test]
 fn places_of_a_live_call_can_be_seen() {
     let image = image();
-    let mut state = begun(&image);
+    let mut run = begun(&image);
     for _ in 0..4 {
-        state.step(&image);
+        run.step();
     }
-    assert_eq!(state.look(0, 0), Some(Held::Integer(1)));
-    assert_eq!(state.look(0, 1), Some(Held::Vector(0)));
-    assert_eq!(state.look(0, 2), Some(Held::Promise(0)));
-    assert_eq!(state.look(0, 3), Some(Held::Nothing));
-    assert_eq!(state.look(0, FIR_REGISTERS + 2), Some(Held::Integer(1)));
-    assert_eq!(state.look(0, FIR_REGISTERS + 3), Some(Held::Nothing));
-    assert_eq!(state.look(0, CELLS), None);
-    assert_eq!(state.look(1, 0), None);
-    assert_eq!(state.look(usize::MAX, usize::MAX), None);
+    assert_eq!(run.look(0, 0), Some(Held::Integer(1)));
+    assert_eq!(run.look(0, 1), Some(Held::Vector(0)));
+    assert_eq!(run.look(0, 2), Some(Held::Promise(0)));
+    assert_eq!(run.look(0, 3), Some(Held::Nothing));
+    assert_eq!(run.look(0, FIR_REGISTERS + 2), Some(Held::Integer(1)));
+    assert_eq!(run.look(0, FIR_REGISTERS + 3), Some(Held::Nothing));
+    assert_eq!(run.look(0, CELLS), None);
+    assert_eq!(run.look(1, 0), None);
+    assert_eq!(run.look(usize::MAX, usize::MAX), None);
 }
 
 #[test]
 fn parts_are_read_out_of_the_numbers() {
     let image = image();
-    let mut state = begun(&image);
+    let mut run = begun(&image);
     for _ in 0..4 {
-        state.step(&image);
+        run.step();
     }
     let promise = |cache| Promise {
         call: 0,
@@ -159,6 +281,7 @@ fn parts_are_read_out_of_the_numbers() {
         block: 1,
         next: 0,
     };
+    let state = run.state();
     assert_eq!(state.top(), Some(forcing));
     assert_eq!(state.activation(1), Some(forcing));
     assert_eq!(state.activation(2), None);
@@ -166,8 +289,9 @@ fn parts_are_read_out_of_the_numbers() {
     assert_eq!(state.owner(1), None);
     assert_eq!(state.vector(0), Some(&[1, 1][..]));
     assert_eq!(state.promise(0), Some(promise(None)));
-    state.step(&image);
-    state.step(&image);
+    run.step();
+    run.step();
+    let state = run.state();
     assert_eq!(state.promise(0), Some(promise(Some(2))));
     assert_eq!(state.promise(64), None);
     assert_eq!(state.vector(64), None);

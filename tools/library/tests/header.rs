@@ -53,6 +53,7 @@ fn bounds_and_questions() -> Vec<(&'static str, usize)> {
         FIR_REFUSED_ENTRY,
         FIR_REFUSED_ARGUMENTS,
         FIR_REFUSED_BUFFER,
+        FIR_REFUSED_CHANGE,
     ];
     [&bounds[..], &questions].concat()
 }

@@ -8,7 +8,7 @@ use differential::engine;
 use differential::snapshot::state_of;
 use differential::tuned::{Code, Machine};
 use differential::workloads::{workloads, Workload};
-use library::State as Snapshot;
+use library::Run;
 use reference::bounds::{Steps, BUFFER};
 use reference::{Answer, Integer, Program, State};
 use std::env;
@@ -29,17 +29,16 @@ const BUDGET: Steps = 100_000_000;
 type Outcome = (Answer, Steps, [Integer; BUFFER]);
 
 /// A workload that has begun on each side.
-struct Prepared {
-    image: Vec<u8>,
+struct Prepared<'i> {
     program: Program,
     code: Code,
     begun: State,
-    proved: Snapshot,
+    proved: Run<'i>,
 }
 
-impl Prepared {
+impl<'i> Prepared<'i> {
     /// Begins the run of a workload.
-    fn new(workload: &Workload) -> Prepared {
+    fn new(workload: &'i Workload) -> Prepared<'i> {
         let program = Program::accept(&workload.image);
         let program = program.unwrap_or_else(|refusal| {
             panic!("{}: {refusal:?}", workload.name);
@@ -50,7 +49,6 @@ impl Prepared {
         let (proved, answer) = engine::begin(&workload.image, entry, words, buffer);
         assert_eq!(answer, Ok(()), "{}", workload.name);
         Prepared {
-            image: workload.image.clone(),
             code: Code::new(&program),
             program,
             begun: begun.expect("the workload begins"),
@@ -61,7 +59,7 @@ impl Prepared {
     /// The run by the proved engine, in one budget.
     fn proved(&self) -> Outcome {
         let mut buffer = [-1; BUFFER];
-        let (_, answer, steps) = engine::budget(&self.image, &self.proved, BUDGET, &mut buffer);
+        let (answer, steps) = engine::budget(&mut self.proved.clone(), BUDGET, &mut buffer);
         (answer, steps, buffer)
     }
 
@@ -70,8 +68,9 @@ impl Prepared {
     fn assert_halfway(&self, steps: Steps) {
         let (state, buffer) = (self.begun.clone(), &mut [0; BUFFER]);
         let (expected, ..) = state.budget(&self.program, steps, buffer);
-        let (found, ..) = engine::budget(&self.image, &self.proved, steps, buffer);
-        let found = state_of(&found).expect("numbers that stand for a state");
+        let mut run = self.proved.clone();
+        engine::budget(&mut run, steps, buffer);
+        let found = state_of(run.state()).expect("numbers that stand for a state");
         assert_eq!(difference(&expected.tidied(), &found), None);
     }
 

@@ -4,26 +4,26 @@ use crate::pair::Lent;
 use differential::engine;
 use differential::snapshot::untouched;
 use generator::{Random, Tally};
-use library::State as Snapshot;
+use library::Run;
 use reference::bounds::{BUFFER, FUNCTIONS, ITEMS, VERSIONS_EACH};
 use reference::{Integer, Program, Refusal, State};
 
-/// Begins a run on both sides; the states of the reference and of the proved
-/// engine, or the refusal.
+/// Begins a run on both sides; the state of the reference and the run of the
+/// proved engine, or the refusal.
 #[track_caller]
-pub fn begin(
-    image: &[u8],
+pub fn begin<'i>(
+    image: &'i [u8],
     program: &Result<Program, Refusal>,
     entry: (usize, usize),
     words: &[Integer],
     places: usize,
     origin: &str,
-) -> Result<(State, Snapshot), Refusal> {
+) -> Result<(State, Run<'i>), Refusal> {
     let mut buffer = Lent::new(places, 0);
     let expected = program.as_ref().map_err(|&refusal| refusal);
     let expected = expected
         .and_then(|program| State::begin(program, entry.0, entry.1, words, buffer.places()));
-    let (state, found) = engine::begin(image, entry, words, buffer.places());
+    let (run, found) = engine::begin(image, entry, words, buffer.places());
     assert!(
         expected.as_ref().map(|_| ()).map_err(|&refusal| refusal) == found,
         "{origin}: beginning {entry:?} with {words:?} and {places} places, expected {:?}, \
@@ -33,11 +33,11 @@ pub fn begin(
     );
     if found.is_err() {
         assert!(
-            state == untouched(),
+            *run.state() == untouched(),
             "{origin}: a refused run leaves the state as it was"
         );
     }
-    expected.map(|expected| (expected, state))
+    expected.map(|expected| (expected, run))
 }
 
 /// Begins a run with another entry, other words or too few places, or with

@@ -1,6 +1,6 @@
-//! What is done with a run: single steps and budgets.
+//! What is done with a run: single steps, budgets and changes of its image.
 
-use generator::{events, Event, Random};
+use generator::{events, Event, Random, Update};
 use reference::bounds::{Steps, BUFFER};
 
 /// The steps of a budget that reaches the end of nearly every run.
@@ -32,10 +32,12 @@ pub fn event_list(seed: u64) -> Vec<Event> {
     list
 }
 
-/// A step and budgets for a run that has ended: budgets of nothing and of the
-/// most steps, those refused by 13 too.
-pub fn events_after_the_end(seed: u64) -> [Event; 5] {
+/// A step, budgets and a change for a run that has ended: budgets of nothing and
+/// of the most steps, those refused by 13 too.
+pub fn events_after_the_end(seed: u64) -> [Event; 6] {
     let mut random = Random::new(seed);
+    let aim = Update::any(&mut random);
+    let change = Event::Change { aim, seed };
     let mut short = |budget| Event::Budget {
         budget,
         places: random.below(BUFFER),
@@ -49,6 +51,7 @@ pub fn events_after_the_end(seed: u64) -> [Event; 5] {
         short(0),
         long(0),
         short(Steps::MAX),
+        change,
         long(Steps::MAX),
     ]
 }

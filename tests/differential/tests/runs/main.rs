@@ -1,11 +1,14 @@
-//! Runs of the proved engine and of the reference, under the same lists of
-//! events: every answer, step count, place of the buffer and state agrees.
+//! Runs of the proved engine and of the reference, under the same lists of steps,
+//! budgets and changes of the image: every answer, step count, place of the buffer
+//! and state agrees.
 
 mod begin;
+mod changes;
 mod events;
 mod pair;
 
 use begin::{begin, begin_wrongly};
+use changes::assert_changes;
 use generator::{accepted, damaged, entry, words, Random, Tally};
 use pair::Pair;
 use reference::bounds::BUFFER;
@@ -58,6 +61,7 @@ fn run(seed: u64, met: &mut Tally<String>) -> usize {
     let ending = pair.reference().ending();
     met.meet(ending.unwrap_or("goes on").to_string());
     meet_skips(pair.reference(), met);
+    pair.changes().meet(met);
     pair.reference().tried()
 }
 
@@ -160,6 +164,7 @@ fn runs_agree_under_every_list_of_events() {
         (0..=BUFFER + 1).map(|n| format!("buffer of {n} places")),
     );
     assert_eq!(met.count("UNDEF, without a cause"), 0);
+    assert_changes(&met);
 }
 
 /// Begins a run of a damaged image; which question refuses it.

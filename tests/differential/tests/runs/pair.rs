@@ -1,14 +1,15 @@
 //! A run on both sides: each event is done on both, and what it gives compared.
 
+use crate::changes::{self, History};
 use crate::events::{event_list, events_after_the_end, size};
 use differential::difference::difference;
 use differential::engine;
 use differential::snapshot::state_of;
-use generator::{Event, Tally};
-use library::State as Snapshot;
+use generator::{update, Event, Tally, Update};
+use library::Run;
 use reference::bounds::Steps;
 use reference::watched::Watched;
-use reference::{Answer, Integer, Said};
+use reference::{Answer, Integer, Said, Status};
 
 /// The most events that a run gets after its end.
 const MOST_AFTER_END: usize = 8;
@@ -40,33 +41,49 @@ impl Lent {
 
 /// A run on both sides.
 pub struct Pair<'p> {
-    image: &'p [u8],
-    reference: Watched<'p>,
-    proved: Snapshot,
+    /// The image in force.
+    image: Vec<u8>,
+    reference: Watched,
+    proved: Run<'p>,
     events: usize,
+    changes: History,
 }
 
 impl<'p> Pair<'p> {
-    /// A run that has begun on both sides.
-    pub fn new(image: &'p [u8], reference: Watched<'p>, proved: Snapshot) -> Pair<'p> {
+    /// A run of an image that has begun on both sides.
+    pub fn new(image: &[u8], reference: Watched, proved: Run<'p>) -> Pair<'p> {
         Pair {
-            image,
+            image: image.to_vec(),
             reference,
             proved,
             events: 0,
+            changes: History::default(),
         }
     }
 
     /// The run of the reference.
-    pub fn reference(&self) -> &Watched<'p> {
+    pub fn reference(&self) -> &Watched {
         &self.reference
+    }
+
+    /// The changes that were tried.
+    pub fn changes(&self) -> &History {
+        &self.changes
+    }
+
+    /// The name of the end of the run; none while it goes on.
+    fn end(&self) -> Option<String> {
+        match self.reference.state().status {
+            Status::Running => None,
+            Status::Ended(end) => Some(name(&format!("{end:?}"))),
+        }
     }
 
     /// Asserts that both are in the same state.
     #[track_caller]
     pub fn assert_same_state(&self, origin: &str) {
         let expected = self.reference.state().clone().tidied();
-        let different = match state_of(&self.proved) {
+        let different = match state_of(self.proved.state()) {
             Ok(found) => difference(&expected, &found),
             Err(error) => Some(error),
         };
@@ -74,7 +91,7 @@ impl<'p> Pair<'p> {
             panic!(
                 "{origin}, event {}: the proved engine's state, {different}\n{}",
                 self.events,
-                text::listing(self.image)
+                text::listing(&self.image)
             );
         }
     }
@@ -86,7 +103,7 @@ impl<'p> Pair<'p> {
             expected == found,
             "{origin}, event {}: expected {expected:?}, the proved engine gives {found:?}\n{}",
             self.events,
-            text::listing(self.image)
+            text::listing(&self.image)
         );
     }
 
@@ -123,6 +140,11 @@ impl<'p> Pair<'p> {
                 met.meet(format!("{size} budget {when}: {}", name_answer(answer)));
                 met.meet(format!("buffer of {places} places"));
             }
+            Event::Change { aim, seed } => {
+                let end = self.end();
+                let outcome = self.change(aim, seed, origin);
+                met.meet(changes::name(end.as_deref(), &outcome));
+            }
         }
         self.assert_same_state(origin);
     }
@@ -130,10 +152,9 @@ impl<'p> Pair<'p> {
     /// A single step on both sides; what it says.
     #[track_caller]
     fn step(&mut self, origin: &str) -> Said {
-        let (after, found) = engine::step(self.image, &self.proved);
+        let found = engine::step(&mut self.proved);
         let expected = self.reference.step();
         self.assert_same(expected, found, origin);
-        self.proved = after;
         expected
     }
 
@@ -144,16 +165,37 @@ impl<'p> Pair<'p> {
             Lent::new(places, self.events),
             Lent::new(places, self.events),
         );
-        let (after, answer, steps) =
-            engine::budget(self.image, &self.proved, budget, found.places());
+        let before = self.proved.state().clone();
+        let given = engine::budget(&mut self.proved, budget, found.places());
         let right = self.reference.budget(budget, expected.places());
-        self.assert_same(right, (answer, steps), origin);
+        self.assert_same(right, given, origin);
         self.assert_same(expected.memory, found.memory, origin);
         if matches!(right.0, Answer::Refused(_)) {
-            assert!(after == self.proved, "{origin}: a refusal leaves the state");
+            let kept = before == *self.proved.state();
+            assert!(kept, "{origin}: a refusal leaves the state");
         }
-        self.proved = after;
         right.0
+    }
+
+    /// A change on both sides, taken or refused; what it comes to.
+    #[track_caller]
+    fn change(&mut self, aim: Update, seed: u64, origin: &str) -> String {
+        let live = self.reference.state().live_versions();
+        let new = update(aim, seed, &self.image, &live);
+        let before = self.proved.state().clone();
+        let found = engine::change(&mut self.proved, new.clone());
+        let expected = self.reference.change(&self.image, &new);
+        self.assert_same(expected, found, origin);
+        let kept = before == *self.proved.state();
+        assert!(kept, "{origin}: a change leaves the state's bytes");
+        let outcome = changes::outcome(expected, &self.image, &new, !live.is_empty());
+        self.changes.add(expected.is_ok(), self.reference.ended());
+        if expected.is_ok() {
+            self.image = new;
+        }
+        let in_force = self.proved.image() == self.image;
+        assert!(in_force, "{origin}: the image in force");
+        outcome
     }
 }
 

@@ -1,6 +1,6 @@
 //! Accepted images broken in one place, aimed at one question.
 
-mod edit;
+pub mod edit;
 mod effect;
 mod existence;
 mod fit;

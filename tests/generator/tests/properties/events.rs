@@ -1,8 +1,9 @@
-//! Event lists: budgets do what as many single steps do, and buffers are kept to.
+//! Event lists: budgets do what as many single steps do, buffers are kept to, and
+//! changes are taken and refused.
 
-use generator::{accepted, begun, entry, events, Event, Tally};
+use generator::{accepted, begun, entry, events, update, Event, Tally, Update};
 use reference::bounds::BUFFER;
-use reference::{Answer, End, Integer, Program, Refusal, Said, State, Status};
+use reference::{change, Answer, End, Integer, Program, Refusal, Said, State, Status};
 
 /// A budget done by single steps: the state, the answer and the steps that counted.
 fn by_steps(program: &Program, mut state: State, budget: u32) -> (State, Answer, u32) {
@@ -33,25 +34,61 @@ fn expected_buffer(state: &State, answer: Answer, places: usize) -> Vec<Integer>
     buffer
 }
 
-/// Does one event, and checks it against single steps; what is met.
-fn act(program: &Program, state: State, event: Event) -> (State, String) {
-    let Event::Budget { budget, places } = event else {
-        let (after, said) = state.step(program);
-        return (after, format!("step: {}", kind(&format!("{said:?}"))));
-    };
-    let mut buffer = vec![77; places];
-    let (after, answer, steps) = state.clone().budget(program, budget, &mut buffer);
-    if places < BUFFER {
-        let (number, offset) = (13, 0);
-        assert_eq!(answer, Answer::Refused(Refusal { number, offset }));
-        assert_eq!((&after, steps), (&state, 0));
-        assert_eq!(buffer, vec![77; places]);
-    } else {
-        let expected = by_steps(program, state, budget);
-        assert_eq!(buffer, expected_buffer(&after, answer, places));
-        assert_eq!((after.clone(), answer, steps), expected);
+/// A run, with the image that it goes on under.
+struct Going {
+    image: Vec<u8>,
+    program: Program,
+    state: State,
+}
+
+impl Going {
+    /// Does one event, and checks it; what is met.
+    fn act(&mut self, event: Event) -> String {
+        match event {
+            Event::Step => {
+                let (after, said) = self.state.clone().step(&self.program);
+                self.state = after;
+                format!("step: {}", kind(&format!("{said:?}")))
+            }
+            Event::Budget { budget, places } => {
+                let answer = self.budget(budget, places);
+                format!("budget: {}", kind(&format!("{answer:?}")))
+            }
+            Event::Change { aim, seed } => self.change(aim, seed),
+        }
     }
-    (after, format!("budget: {}", kind(&format!("{answer:?}"))))
+
+    /// A budget, checked against single steps; its answer.
+    fn budget(&mut self, budget: u32, places: usize) -> Answer {
+        let (program, state) = (&self.program, self.state.clone());
+        let mut buffer = vec![77; places];
+        let (after, answer, steps) = state.clone().budget(program, budget, &mut buffer);
+        if places < BUFFER {
+            let (number, offset) = (13, 0);
+            assert_eq!(answer, Answer::Refused(Refusal { number, offset }));
+            assert_eq!((&after, steps), (&state, 0));
+            assert_eq!(buffer, vec![77; places]);
+        } else {
+            let expected = by_steps(program, state, budget);
+            assert_eq!(buffer, expected_buffer(&after, answer, places));
+            assert_eq!((after.clone(), answer, steps), expected);
+        }
+        self.state = after;
+        answer
+    }
+
+    /// A change, whose new image takes the old one's place where it is accepted.
+    fn change(&mut self, aim: Update, seed: u64) -> String {
+        let new = update(aim, seed, &self.image, &self.state.live_versions());
+        match change(&self.image, &new, &self.state) {
+            Ok(()) => {
+                self.program = Program::accept(&new).expect("an accepted image");
+                self.image = new;
+                "change: taken".to_string()
+            }
+            Err(refusal) => format!("change: refused by {}", refusal.number),
+        }
+    }
 }
 
 /// An answer without its numbers.
@@ -63,14 +100,19 @@ fn kind(answer: &str) -> String {
 fn budgets_do_what_single_steps_do_and_write_only_items() {
     let mut met = Tally::default();
     for seed in 0..2500 {
-        let program = Program::accept(&accepted(seed)).expect("an accepted image");
-        let Some(mut state) = begun(seed, &program) else {
+        let image = accepted(seed);
+        let program = Program::accept(&image).expect("an accepted image");
+        let Some(state) = begun(seed, &program) else {
             continue;
         };
+        let mut run = Going {
+            image,
+            program,
+            state,
+        };
         for event in events(seed) {
-            let ended = matches!(state.status, Status::Ended(_));
-            let (after, answer) = act(&program, state, event);
-            state = after;
+            let ended = matches!(run.state.status, Status::Ended(_));
+            let answer = run.act(event);
             met.meet((if ended { "ended" } else { "running" }, answer));
         }
     }
@@ -82,6 +124,11 @@ fn budgets_do_what_single_steps_do_and_write_only_items() {
         }
     }
     assert!(met.count(&("running", "budget: Steps".to_string())) >= 50);
+    for answer in ["taken", "refused by 15", "refused by 7"] {
+        for before in ["running", "ended"] {
+            assert!(met.count(&(before, format!("change: {answer}"))) >= 5);
+        }
+    }
 }
 
 #[test]

@@ -9,3 +9,4 @@ mod refill;
 mod round_trip;
 mod runs;
 mod skips;
+mod updates;

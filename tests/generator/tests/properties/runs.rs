@@ -10,7 +10,7 @@ const STEPS: usize = 4000;
 
 /// Steps a run to its end under the monitor of demand 3.
 #[track_caller]
-fn run_watched(program: &Program, state: State, seed: u64) -> Watched<'_> {
+fn run_watched(program: &Program, state: State, seed: u64) -> Watched {
     let mut run = Watched::new(program, state, &format!("seed {seed}"));
     while run.tried() < STEPS && !run.ended() {
         run.step();

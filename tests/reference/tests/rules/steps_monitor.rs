@@ -1,9 +1,11 @@
 //! "What demand 3 speaks of": the monitor sees each breach.
 
 use crate::support::Run;
+use cases::image;
+use reference::bounds::REGISTERS;
 use reference::monitor::{check_state, check_step, Breach};
 use reference::state::{Activation, Frame, Opener};
-use reference::{End, Said, State, Value};
+use reference::{End, Program, Said, State, Value};
 
 /// A call of 1.0 that borrows r0 of 0.0; r1 is an integer and r2 a shared vector.
 fn borrowing() -> Run {
@@ -33,6 +35,31 @@ fn breach(change: impl FnOnce(&mut State)) -> Option<Breach> {
 #[test]
 fn monitor_allows_owned_vectors_in_borrowed_registers_of_calls_above() {
     assert_eq!(breach(|_| ()), None);
+}
+
+/// The program of an image that has 0.0 of `borrowing` without its call, and no 1.0.
+fn lacking() -> Program {
+    let text = "version 0.0(r0: own vector, r1: int, r2: vector) -> int
+                  registers r3: own vector, r4: quiet promise
+                  block 0 quiet -> r1
+                    r4 = prom 1
+                  block 1 quiet -> r1";
+    Program::accept(&image(text)).expect("an accepted image")
+}
+
+#[test]
+fn monitor_sees_a_call_of_a_version_that_the_image_does_not_have() {
+    let (mut run, other) = (borrowing(), lacking());
+    let unknown = Err(Breach::Unknown { call: 1 });
+    assert_eq!(check_state(&run.program, &run.state), Ok(()));
+    assert_eq!(check_state(&other, &run.state), unknown);
+    // Where its registers are empty, too,
+    run.state.frames[1].registers = [None; REGISTERS];
+    assert_eq!(check_state(&run.program, &run.state), Ok(()));
+    assert_eq!(check_state(&other, &run.state), unknown);
+    // and before any breach of a register.
+    run.state.frames[0].registers[1] = Some(Value::Vector(1));
+    assert_eq!(check_state(&other, &run.state), unknown);
 }
 
 #[test]
@@ -158,6 +185,14 @@ fn monitor_sees_a_counted_reflective_step_while_a_quiet_call_is_live() {
     }
     let stopped = check_step(&run.program, &run.state, Said::Ended(End::Deep));
     assert_eq!(stopped, Ok(()));
+}
+
+#[test]
+fn monitor_sees_a_counted_reflective_step_while_an_unknown_call_is_live() {
+    let mut run = peeking(true);
+    run.state.frames[1] = Frame::new(3, 0, &[]);
+    let found = check_step(&run.program, &run.state, Said::GoesOn);
+    assert_eq!(found, Err(Breach::Reflective { quiet: 1 }));
 }
 
 #[test]

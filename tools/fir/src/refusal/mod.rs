@@ -1,10 +1,11 @@
-//! Why an image or a run is refused, in words.
+//! Why an image, a run or a change of image is refused, in words.
 //!
 //! The question and the offset are the proved library's. The words come from
 //! looking at the record there for what the question asks; where that finds
 //! nothing, they are the question's own.
 
 mod arguments;
+mod change;
 mod effect;
 mod existence;
 mod fit;
@@ -18,7 +19,7 @@ mod vocabulary;
 use crate::arguments::Argument;
 use crate::place::{place, version_name};
 use crate::source::Source;
-use library::{Entry, Refusal};
+use library::{Entry, Refusal, State};
 use reference::program::{Block, Program, Version};
 use reference::record::Placed;
 use reference::Instruction;
@@ -38,10 +39,19 @@ pub fn of_run(source: &Source, no: Refusal, entry: Entry, given: &[Argument]) ->
     with_words(source, no, words)
 }
 
+/// The line for a change of image that is refused, in the state of the run.
+pub fn of_change(old: &Source, new: &Source, no: Refusal, state: &State) -> String {
+    let words = match no.question {
+        15 => change::change(old, new, no.offset, state),
+        _ => diagnosis(new, no),
+    };
+    with_words(new, no, words)
+}
+
 /// The line with the words that were found, or with the question's own.
 fn with_words(source: &Source, no: Refusal, words: Option<String>) -> String {
     let place = match no.question {
-        2..=10 | 14 => place(source, no.offset),
+        2..=10 | 14 | 15 => place(source, no.offset),
         _ => no.offset.to_string(),
     };
     let words = words.unwrap_or_else(|| rule(no.question).to_string());
@@ -138,6 +148,7 @@ fn rule(question: u8) -> &'static str {
         11 => "the version that a run enters exists",
         12 => "each argument matches its parameter, and there are as many",
         13 => "the result buffer has at least 16 places",
+        15 => "every version with a live call has the same bytes and number in both images",
         _ => "no question has this number",
     }
 }
@@ -156,7 +167,7 @@ mod tests {
     fn a_refusal_that_no_diagnosis_explains_gets_the_rule() {
         let text = "version 0.0(r0: int) -> int\nblock 0 quiet -> r0";
         let image = text::assemble(text).expect("a text that is well formed");
-        for question in 1..=14 {
+        for question in 1..=15 {
             for offset in [0, 11, 18, 400_000] {
                 let expected = format!("refused by {question} at {offset}: {}", rule(question));
                 assert_eq!(said(&image, question, offset), expected);

@@ -8,23 +8,23 @@ use crate::failure::Failure;
 use crate::place::place;
 use crate::source::Source;
 use crate::streams::Streams;
-use library::{End, Said, State, FIR_UNDEF};
+use library::{End, Run, Said, State, FIR_UNDEF};
 use reference::program::Program;
 use spot::Spot;
 
-/// Takes at most so many single steps and prints a line for each that counts;
-/// how many count.
+/// Takes single steps until so many are taken in all, and prints a line for each
+/// that counts; how many are taken then.
 pub fn steps(
-    image: &[u8],
-    state: &mut State,
-    budget: u32,
+    run: &mut Run,
+    taken: u32,
+    wished: u32,
     streams: &mut Streams,
 ) -> Result<u32, Failure> {
-    let program = Program::ordered(image).ok();
-    let mut steps = 0;
-    while steps < budget {
-        let before = state.clone();
-        let said = state.step(image);
+    let program = Program::ordered(run.image()).ok();
+    let mut steps = taken;
+    while steps < wished {
+        let before = run.state().clone();
+        let said = run.step();
         let counts = match said {
             Said::GoesOn => true,
             Said::Ended(end) => {
@@ -35,7 +35,7 @@ pub fn steps(
         if counts {
             steps += 1;
             let spot = program.as_ref().and_then(|p| Spot::of(p, &before));
-            streams.line(&line(steps, &before, state, spot.as_ref()))?;
+            streams.line(&line(steps, &before, run.state(), spot.as_ref()))?;
         }
         if said != Said::GoesOn {
             break;
