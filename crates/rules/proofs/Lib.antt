@@ -1,3 +1,4 @@
+pub mod Allowed
 pub mod Before
 pub mod Calm
 pub mod Follows
