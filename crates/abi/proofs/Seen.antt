@@ -1,6 +1,6 @@
 -- A field of a caller's state behind a `&`, at the state's own lifetime: the state's `&` stays, and there is no loan.
 --     Sees F d x   a `&κ` to the state h, with a token  ⊢ ⇛ ∃ γ′. what a `&κ` to the field x, d bytes on, owns ∗ the token
---     sees-codes, sees-numbers, sees-owners, sees-calls
+--     sees-codes, sees-numbers, sees-owners, sees-stack, sees-promises, sees-calls, sees-depth
 -- Assumes `Given`.
 use mathlib.Core.Path.{refl, subst}
 use Prim.Native.Nat.{ℕ, _+_}
@@ -23,6 +23,30 @@ use borrow.Struct.Share.{part-field}
 use Rattle.snapshots.specs.declared.Snapshot.{Snapshot}
 use Rattle.snapshots.proofs.Snapshot as T
 use Rattle.snapshots.proofs.Snapshot.Laws as T′
+use Rattle.abi.proofs.Fields.{place}
+use Rattle.abi.proofs.Lent.{members}
+
+-- where the fields that are taken begin in the struct
+abbrev pub numbers-from : ℕ
+numbers-from = place members 0 0
+
+abbrev pub codes-from : ℕ
+codes-from = place members 0 4
+
+abbrev pub owners-from : ℕ
+owners-from = place members 0 5
+
+abbrev pub stack-from : ℕ
+stack-from = place members 0 6
+
+abbrev pub promises-from : ℕ
+promises-from = place members 0 8
+
+abbrev pub calls-from : ℕ
+calls-from = place members 0 9
+
+abbrev pub depth-from : ℕ
+depth-from = place members 0 10
 
 module _ {M : Type 1} (𝓤 : URA M) (H : Heap 𝓤) (A : Atoms 𝓤) (W : Given 𝓤 H A) (ℓ : Lifetime) (κ : Lft) (q : Share) (b o : ℕ) (γ : GName) (h : Snapshot) where
   abbrev ⟦_⟧ : Fml → SProp 𝓤
@@ -40,17 +64,28 @@ module _ {M : Type 1} (𝓤 : URA M) (H : Heap 𝓤) (A : Atoms 𝓤) (W : Given
       now ! $ show ! (λ (δ : GName). sep 𝓤 ⟦ ShrRef ℓ κ F .own (record { ptr = (b, o + d); name = δ; now = x }) (vptr b (o + d) ∷ []) ⟧ (A .lft κ q)) γ′ $
       feqI ! (List Val) (vptr b (o + d) ∷ []) (vptr b (o + d) ∷ []) refl $ fjoin3 ! $ frame ! $ done !)
 
-  pub sees-codes : Sees (Array u16 768) 7488 (h .codes)
-  sees-codes = sees (Array u16 768) 7488 (h .codes) (subst (λ (xs : List ℕ). ent 𝓤 (sep 𝓤 (A .shr-bor κ (λ s. partAt T.the-row s h b o)) (A .lft κ q)) (H .⇛ (sep 𝓤 (A .shr-bor κ (λ s. partAt (Array u16 768) s xs b (o + 7488))) (A .lft κ q)))) (map-id (h .codes))
-      (part-field 𝓤 H A W T.the-type T′.the-laws T′.the-copy 4 7488 refl refl (T.struct .as-values) (λ x. refl) κ q h b o))
+  pub sees-codes : Sees (Array u16 768) codes-from (h .codes)
+  sees-codes = sees (Array u16 768) codes-from (h .codes) (subst (λ (xs : List ℕ). ent 𝓤 (sep 𝓤 (A .shr-bor κ (λ s. partAt T.the-row s h b o)) (A .lft κ q)) (H .⇛ (sep 𝓤 (A .shr-bor κ (λ s. partAt (Array u16 768) s xs b (o + codes-from))) (A .lft κ q)))) (map-id (h .codes))
+      (part-field 𝓤 H A W T.the-type T′.the-laws T′.the-copy 4 codes-from refl refl (T.struct .as-values) (λ x. refl) κ q h b o))
 
-  pub sees-numbers : Sees (Array i32 768) 0 (h .numbers)
-  sees-numbers = sees (Array i32 768) 0 (h .numbers) (subst (λ (xs : List (i32 .Denot)). ent 𝓤 (sep 𝓤 (A .shr-bor κ (λ s. partAt T.the-row s h b o)) (A .lft κ q)) (H .⇛ (sep 𝓤 (A .shr-bor κ (λ s. partAt (Array i32 768) s xs b (o + 0))) (A .lft κ q)))) (map-id (h .numbers))
-      (part-field 𝓤 H A W T.the-type T′.the-laws T′.the-copy 0 0 refl refl (T.struct .as-values) (λ x. refl) κ q h b o))
+  pub sees-numbers : Sees (Array i32 768) numbers-from (h .numbers)
+  sees-numbers = sees (Array i32 768) numbers-from (h .numbers) (subst (λ (xs : List (i32 .Denot)). ent 𝓤 (sep 𝓤 (A .shr-bor κ (λ s. partAt T.the-row s h b o)) (A .lft κ q)) (H .⇛ (sep 𝓤 (A .shr-bor κ (λ s. partAt (Array i32 768) s xs b (o + numbers-from))) (A .lft κ q)))) (map-id (h .numbers))
+      (part-field 𝓤 H A W T.the-type T′.the-laws T′.the-copy 0 numbers-from refl refl (T.struct .as-values) (λ x. refl) κ q h b o))
 
-  pub sees-owners : Sees (Array u8 64) 9024 (h .owners)
-  sees-owners = sees (Array u8 64) 9024 (h .owners) (subst (λ (xs : List ℕ). ent 𝓤 (sep 𝓤 (A .shr-bor κ (λ s. partAt T.the-row s h b o)) (A .lft κ q)) (H .⇛ (sep 𝓤 (A .shr-bor κ (λ s. partAt (Array u8 64) s xs b (o + 9024))) (A .lft κ q)))) (map-id (h .owners))
-      (part-field 𝓤 H A W T.the-type T′.the-laws T′.the-copy 5 9024 refl refl (T.struct .as-values) (λ x. refl) κ q h b o))
+  pub sees-owners : Sees (Array u8 64) owners-from (h .owners)
+  sees-owners = sees (Array u8 64) owners-from (h .owners) (subst (λ (xs : List ℕ). ent 𝓤 (sep 𝓤 (A .shr-bor κ (λ s. partAt T.the-row s h b o)) (A .lft κ q)) (H .⇛ (sep 𝓤 (A .shr-bor κ (λ s. partAt (Array u8 64) s xs b (o + owners-from))) (A .lft κ q)))) (map-id (h .owners))
+      (part-field 𝓤 H A W T.the-type T′.the-laws T′.the-copy 5 owners-from refl refl (T.struct .as-values) (λ x. refl) κ q h b o))
 
-  pub sees-calls : Sees u8 9536 (h .calls)
-  sees-calls = sees u8 9536 (h .calls) (part-field 𝓤 H A W T.the-type T′.the-laws T′.the-copy 9 9536 refl refl (T.struct .as-values) (λ x. refl) κ q h b o)
+  pub sees-stack : Sees (Array u8 192) stack-from (h .stack)
+  sees-stack = sees (Array u8 192) stack-from (h .stack) (subst (λ (xs : List ℕ). ent 𝓤 (sep 𝓤 (A .shr-bor κ (λ s. partAt T.the-row s h b o)) (A .lft κ q)) (H .⇛ (sep 𝓤 (A .shr-bor κ (λ s. partAt (Array u8 192) s xs b (o + stack-from))) (A .lft κ q)))) (map-id (h .stack))
+      (part-field 𝓤 H A W T.the-type T′.the-laws T′.the-copy 6 stack-from refl refl (T.struct .as-values) (λ x. refl) κ q h b o))
+
+  pub sees-promises : Sees (Array u8 192) promises-from (h .promises)
+  sees-promises = sees (Array u8 192) promises-from (h .promises) (subst (λ (xs : List ℕ). ent 𝓤 (sep 𝓤 (A .shr-bor κ (λ s. partAt T.the-row s h b o)) (A .lft κ q)) (H .⇛ (sep 𝓤 (A .shr-bor κ (λ s. partAt (Array u8 192) s xs b (o + promises-from))) (A .lft κ q)))) (map-id (h .promises))
+      (part-field 𝓤 H A W T.the-type T′.the-laws T′.the-copy 8 promises-from refl refl (T.struct .as-values) (λ x. refl) κ q h b o))
+
+  pub sees-calls : Sees u8 calls-from (h .calls)
+  sees-calls = sees u8 calls-from (h .calls) (part-field 𝓤 H A W T.the-type T′.the-laws T′.the-copy 9 calls-from refl refl (T.struct .as-values) (λ x. refl) κ q h b o)
+
+  pub sees-depth : Sees u8 depth-from (h .depth)
+  sees-depth = sees u8 depth-from (h .depth) (part-field 𝓤 H A W T.the-type T′.the-laws T′.the-copy 10 depth-from refl refl (T.struct .as-values) (λ x. refl) κ q h b o)

@@ -9,10 +9,12 @@ use Rattle.machine.specs.declared.Answer.{Answer}
 use Rattle.machine.specs.declared.Changed.{Changed}
 use Rattle.machine.specs.declared.Entry.{Entry}
 use Rattle.machine.specs.declared.Said.{Said}
+use Rattle.machine.specs.declared.Search.{Search}
 use Rattle.snapshots.specs.Held.{endingOf}
 use Rattle.abi.specs.declared.answers.FirAnswer.{FirAnswer}
 use Rattle.abi.specs.declared.answers.FirEntry.{FirEntry}
 use Rattle.abi.specs.declared.answers.FirSaid.{FirSaid}
+use Rattle.abi.specs.declared.answers.FirSearched.{FirSearched}
 use Rattle.abi.specs.declared.answers.FirVerdict.{FirVerdict}
 
 -- the number of versions, or the offset and the number of a refusal
@@ -38,6 +40,11 @@ entryNumbers (Entry.Refused q p) = record { offset = p; question = q }
 unfoldable pub changedNumbers : Changed → FirEntry
 changedNumbers Changed.Taken = record { offset = 0; question = 0 }
 changedNumbers (Changed.Refused q p) = record { offset = p; question = q }
+
+-- a search: 1, how many versions it looks at and how many there are; all 0 where there is none
+unfoldable pub searchNumbers : Search → FirSearched
+searchNumbers Search.Elsewhere = record { dispatch = 0; looked = 0; versions = 0 }
+searchNumbers (Search.Looked looked versions) = record { dispatch = 1; looked = looked; versions = versions }
 
 -- a single step: 0 goes on, 1 to 6 an end, 7 stuck
 unfoldable pub saidNumbers : Said → FirSaid

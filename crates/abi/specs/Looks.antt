@@ -1,16 +1,22 @@
 -- What a place of a live call holds, as numbers: 0 nothing, 1 an integer, 2 a vector, 3 a promise, 4 no such place.
 use mathlib.Core.Bool.{cond}
 use mathlib.Core.List.{List}
+use mathlib.Core.Path.{_≡_}
 use Prim.Native.Nat.{ℕ, _+_, _-_, _*_}
 use lib.IntN.{ℤ, pos}
 use lib.Dec.{ltb}
 use Rattle.layout.specs.Bounds.{REGISTERS}
+use Rattle.machine.specs.Begin.{programOf}
+use Rattle.machine.specs.Searches.{searchOf}
 use Rattle.machine.specs.States.{ACTIVATIONS, liveFrames, named, register}
 use Rattle.machine.specs.Try.{Try, got, stuck, stop, _>>=_, at}
 use Rattle.machine.specs.declared.Frame.{Frame}
 use Rattle.machine.specs.declared.State.{State}
 use Rattle.machine.specs.declared.Value.{Value}
-use Rattle.memory.specs.Memory.{cellIn}
+use Rattle.memory.specs.Memory.{Memory, cellIn, stateOf}
+use Rattle.searches.specs.Observing.{withThese}
+use Rattle.abi.specs.Answers.{searchNumbers}
+use Rattle.abi.specs.declared.answers.FirSearched.{FirSearched}
 use Rattle.abi.specs.declared.answers.FirValue.{FirValue}
 
 -- a value as numbers: vectors and promises by their places
@@ -43,3 +49,7 @@ lookOf s k i = seen (do
 -- the same in the cells of a state: 24 of each call
 unfoldable pub lookIn : List ℕ → List ℤ → ℕ → ℕ → ℕ → FirValue
 lookIn codes numbers calls k i = cond (ltb k ACTIVATIONS) (cond (ltb k calls) (cond (ltb i 24) (valueNumbers (cellIn codes numbers (24 * k + i))) noPlace) noPlace) noPlace
+
+-- what a state of these arrays looks at, as numbers, whatever else its memory holds
+unfoldable pub Searches : List ℕ → FirSearched → List ℕ → List ℕ → List ℕ → List ℕ → ℕ → ℕ → Type 0
+Searches s r owners codes stack promises calls depth = (M : Memory) → r ≡ searchNumbers (searchOf (programOf s) (stateOf (withThese M owners codes stack promises calls depth)))

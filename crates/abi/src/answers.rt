@@ -1,12 +1,13 @@
 //! Answers as numbers, in the layout of C.
 ghost use mathlib.Core.Path.{_≡_};
-ghost use Rattle.abi.specs.Answers.{answerNumbers, changedNumbers, entryNumbers, plainNumbers, saidNumbers, verdictNumbers};
+ghost use Rattle.abi.specs.Answers.{answerNumbers, changedNumbers, entryNumbers, plainNumbers, saidNumbers, searchNumbers, verdictNumbers};
 ghost use Rattle.abi.specs.Looks.{noPlace, valueNumbers};
 ghost use Rattle.engine.specs.Parts.{saidOf};
 use checker::Verdict;
 use machine::Answer;
 use machine::Changed;
 use machine::Entry;
+use machine::Search;
 use machine::Value;
 
 /// A verdict: 0 and the number of versions, or the question that refuses and the offset.
@@ -48,6 +49,14 @@ pub struct FirValue {
     pub number: i32,
     pub kind: u8,
     pub place: u8,
+}
+
+/// What a state at a DISPATCH looks at.
+#[repr(C)]
+pub struct FirSearched {
+    pub dispatch: u8,
+    pub looked: u8,
+    pub versions: u8,
 }
 
 /// The numbers of a verdict.
@@ -208,5 +217,23 @@ pub fn outside() -> FirValue
         number: 0,
         kind: 4,
         place: 0,
+    }
+}
+
+/// The numbers of a search.
+pub fn searched(search: Search) -> FirSearched
+    ensures { λ r. ⌜ r ≡ searchNumbers search ⌝ }
+{
+    match search {
+        Search::Elsewhere => FirSearched {
+            dispatch: 0,
+            looked: 0,
+            versions: 0,
+        },
+        Search::Looked(looked, versions) => FirSearched {
+            dispatch: 1,
+            looked: looked,
+            versions: versions,
+        },
     }
 }

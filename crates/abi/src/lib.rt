@@ -7,13 +7,15 @@ ghost use Rattle.writer.specs.Text.{placed};
 ghost use Rattle.machine.specs.Begin.{beginOf, programOf, runOf};
 ghost use Rattle.machine.specs.Changes.{changeOf};
 ghost use Rattle.machine.specs.Runs.{budgetOf, stepOf};
+ghost use Rattle.machine.specs.Searches.{searchOf};
 ghost use Rattle.snapshots.specs.Held.{held};
-ghost use Rattle.abi.specs.Answers.{changedNumbers, entryNumbers, saidNumbers, stateAlignment, stateSize, verdictNumbers, writtenOf};
+ghost use Rattle.abi.specs.Answers.{changedNumbers, entryNumbers, saidNumbers, searchNumbers, stateAlignment, stateSize, verdictNumbers, writtenOf};
 ghost use Rattle.abi.specs.Exits.{Answers, Began};
 ghost use Rattle.abi.specs.Looks.{lookOf};
 use answers::FirAnswer;
 use answers::FirEntry;
 use answers::FirSaid;
+use answers::FirSearched;
 use answers::FirValue;
 use answers::FirVerdict;
 use checker::Reported;
@@ -205,4 +207,21 @@ pub extern "C" fn fir_look(state: &Snapshot, call: usize, place: usize) -> FirVa
     ensures { λ r. ⌜ r ≡ lookOf (held (now (state .entry))) call place ⌝ }
 {
     parts::look(&state.codes, &state.numbers, &state.calls, call, place)
+}
+
+/// How many versions the DISPATCH looks at that the state stands at, ended or not, and how many its function has; all 0 where it
+/// stands elsewhere.
+#[no_mangle]
+pub extern "C" fn fir_search(image: &[u8], state: &Snapshot) -> FirSearched
+    ensures { λ r. ⌜ r ≡ searchNumbers (searchOf (programOf (now (image .entry))) (held (now (state .entry)))) ⌝ }
+{
+    parts::search(
+        image,
+        &state.owners,
+        &state.codes,
+        &state.stack,
+        &state.promises,
+        &state.calls,
+        &state.depth,
+    )
 }

@@ -14,11 +14,12 @@ ghost use Rattle.snapshots.specs.Held.{held, snapshotOf, statusOf};
 ghost use Rattle.stepping.specs.Going.{Placed, ranOf};
 ghost use Rattle.abi.specs.Answers.{changedNumbers, saidNumbers};
 ghost use Rattle.abi.specs.Exits.{Answers, Comes};
-ghost use Rattle.abi.specs.Looks.{lookIn};
+ghost use Rattle.abi.specs.Looks.{Searches, lookIn};
 use crate::answers;
 use crate::answers::FirAnswer;
 use crate::answers::FirEntry;
 use crate::answers::FirSaid;
+use crate::answers::FirSearched;
 use crate::answers::FirValue;
 use flat::frames;
 use flat::heap;
@@ -323,4 +324,21 @@ pub fn change<'s>(old: &[u8], new: &[u8], owners: &'s [u8; 64], calls: &'s u8) -
 {
     let live = *calls;
     answers::changed(changes::change(old, new, owners, live))
+}
+
+/// What the DISPATCH looks at that the state stands at.
+pub fn search<'s>(
+    image: &[u8],
+    owners: &'s [u8; 64],
+    codes: &'s [u16; 768],
+    stack: &'s [u8; 192],
+    promises: &'s [u8; 192],
+    calls: &'s u8,
+    depth: &'s u8,
+) -> FirSearched
+    ensures { λ r. ⌜ Searches (now (image .entry)) r (now (owners .entry)) (now (codes .entry)) (now (stack .entry)) (now (promises .entry)) (now (calls .entry)) (now (depth .entry)) ⌝ }
+{
+    let live = *calls;
+    let deep = *depth;
+    answers::searched(searches::search(image, owners, codes, stack, promises, live, deep))
 }

@@ -23,19 +23,11 @@ use Rattle.memory.specs.Memory.{Memory, cellIn, frameIn, stateOf, valueOf}
 use Rattle.memory.specs.Parts.{registerIn}
 use Rattle.memory.proofs.Frames.{register-in}
 use Rattle.kinds.specs.Kinds.{argumentKind, codeKind, heldKind}
+use Rattle.calls.specs.Searching.{allOf, both}
 use Rattle.calls.specs.Entering.{allTo, fitsKind, matchesIn, parametersOf}
 use Rattle.kinds.proofs.Kinded.{kind-in, kind-integer, kind-vector, kind-empty, held-kind}
 
 -- ---- all of a list, or none
-
-unfoldable pub both : {B : Type 0} → Option B → Option (List B) → Option (List B)
-both none l = none
-both (some y) none = none
-both (some y) (some ys) = some (y ∷ ys)
-
-unfoldable pub allOf : {A B : Type 0} → (A → Option B) → List A → Option (List B)
-allOf f [] = some []
-allOf f (x ∷ xs) = both (f x) (allOf f xs)
 
 each-both : {B : Type 0} (o : Option B) (l : Option (List B)) → (orStuck o >>= λ y. orStuck l >>= λ ys. got (y ∷ ys)) ≡ orStuck (both o l)
 unfolding orStuck _>>=_ both

@@ -21,7 +21,8 @@ use Rattle.memory.specs.Works.{Works, executed}
 use Rattle.memory.specs.declared.Did.{Did}
 use Rattle.kinds.specs.Kinds.{argumentKind}
 use Rattle.calls.specs.Entering.{Arrays, Called, Entered, enteredArrays, matchesIn, onward, withArrays}
-use Rattle.calls.proofs.Arguments.{allOf, all-length, arguments-in, below, matched, matching-length, matches-in, parameter-at, parameters-length}
+use Rattle.calls.specs.Searching.{allOf}
+use Rattle.calls.proofs.Arguments.{all-length, arguments-in, below, matched, matching-length, matches-in, parameter-at, parameters-length}
 use Rattle.calls.proofs.Opening.{enter-deep, enter-full, enter-in, after-long}
 
 -- ---- a call that opens

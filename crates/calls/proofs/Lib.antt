@@ -4,5 +4,6 @@ pub mod NewFrame
 pub mod Opening
 pub mod Calling
 pub mod Picking
+pub mod Searching
 pub mod Dispatching
 pub mod Places

@@ -8,6 +8,7 @@ use native.Mathlib.Omega.{arith}
 use lib.ListN.{getD, length, set}
 use borrow.Author.Tests.{lt-ltb, le-ltb, eq-eqb, ne-eqb}
 use Rattle.layout.proofs.Bools.{and-on, and-off}
+use Rattle.layout.proofs.Fields.{length-every}
 use Rattle.layout.specs.Records.{_!_}
 use Rattle.program.specs.Program.{Program, Version}
 use Rattle.rules.specs.Types.{isOwned, kindOf, ownershipOf, within}
@@ -49,6 +50,14 @@ module _ (p : ℕ → Bool) (i n : ℕ) where
   all-done h = rw (none-left i n h) refl
 
 -- ---- arguments
+
+pub parameters-are : (s : List ℕ) (v : ℕ) → versionAt s v .parameters ≡ bodyAt s v ! 2
+unfolding versionAt
+parameters-are s v = refl
+
+pub registers-are : (s : List ℕ) (v : ℕ) → length (versionAt s v .types) ≡ bodyAt s v ! 3
+unfolding versionAt
+registers-are s v = length-every (bodyAt s v) 6 1 (bodyAt s v ! 3)
 
 pub fewer : (X : Version) {m n : ℕ} → m ≡ X .parameters → n ≡ length (X .types) → m < n → m ≡ parametersOf X
 unfolding parametersOf

@@ -1,179 +1,243 @@
--- DISPATCH: which version is picked, by the answers that the code has in hand.
+-- DISPATCH: its arguments as the code has them in hand, and which versions take them.
 use mathlib.Core.Path.{_≡_, refl, sym, ap, _∙_}
 use mathlib.Core.List.{List, [], _∷_, map}
 use mathlib.Core.Option.{Option, none, some}
 use mathlib.Core.Bool.{Bool, true, false}
-use Prim.Native.Nat.{ℕ, suc, _+_, _-_, _/_, _%_, _≤_, _<_}
+use Prim.Native.Nat.{ℕ, zero, suc, _+_, _*_, _/_, _%_, _≤_, _<_}
+use native.Mathlib.Nat.{not-suc-le-zero, le-of-suc-le-suc}
 use native.Mathlib.Omega.{arith}
-use lib.ListN.{length}
-use lib.Dec.{eqb}
-use borrow.Author.Tests.{le-leb, lt-leb, eq-eqb, ne-eqb, eqb-true, eqb-false}
-use Rattle.layout.proofs.Bools.{and-on, and-off, found-some, found-none}
-use Rattle.layout.specs.Records.{_!_, bodyAt}
+use lib.ListN.{length, set}
+use lib.Seq.{getD-set-same, getD-set-other}
+use lib.Dec.{eqb, leb}
+use borrow.Author.Tests.{eq-eqb, ne-eqb, eqb-true, eqb-false}
+use Rattle.layout.proofs.Bools.{and-on, and-off}
+use Rattle.layout.proofs.Fields.{every-at, length-every}
+use Rattle.layout.proofs.Rows.{Rows, choose-each}
+use Rattle.layout.specs.Records.{_!_, bodyAt, kindAt}
 use Rattle.layout.specs.Tests.{_and_}
-use Rattle.layout.specs.declared.Found.{Found}
-use Rattle.layout.specs.declared.Found.the-variants.{Nothing, At}
-use Rattle.program.proofs.Lookups.{version-found}
-use Rattle.program.specs.Places.{versionAt, versionPlace}
-use Rattle.program.specs.Program.{Argument, Program, Version, findVersion, markOf, parameterTypes}
+use Rattle.program.proofs.Forms.{argument-registers, argument-types}
+use Rattle.program.specs.Places.{instrAt, versionAt}
+use Rattle.program.specs.Program.{Argument, Instr, Version, arguments, instrOf, markOf, parameterTypes}
+use Rattle.program.specs.Shapes.{listedRegisters, listedTypes}
 use Rattle.rules.specs.Types.{kindOf, ownershipOf, within}
 use Rattle.machine.proofs.Matching.{same-length}
-use Rattle.machine.specs.Begin.{programOf}
-use Rattle.machine.specs.Calls.{dispatches, lowest, sameOwnerships}
-use Rattle.kinds.specs.Kinds.{argumentKind, kindOr}
-use Rattle.calls.specs.Entering.{allTo, isThere, knownIn, lowestAt, matchesIn, orElse, parametersOf, passedAt, passesIn, sameIn}
-use Rattle.calls.proofs.Arguments.{all-next, all-same, allOf, both, matched, matches-in, parameter-at, parameters-length}
+use Rattle.machine.specs.Calls.{dispatches, matching, sameOwnerships}
+use Rattle.kinds.specs.Kinds.{kindOr}
+use Rattle.calls.specs.Entering.{allTo, parametersOf}
+use Rattle.calls.specs.Searching.{Offers, allOf, both, passesBy, taken}
+use Rattle.calls.proofs.Arguments.{all-next, all-same, parameter-at, parameters-length}
 use Rattle.kinds.proofs.Kinded.{Over}
 
--- ---- the registers are there
+-- ---- an argument in one number
 
-pub there-none : (o : Option ℕ) (m : ℕ) → Over o → m ≡ kindOr o → m ≡ 0 → isThere o ≡ false
-unfolding isThere kindOr Over
-there-none none m h e z = refl
-there-none (some n) m h e z = absurd (omega (arith, h n refl))
+within-far : (m b : ℕ) → 16 ≤ m → b < 16 → within 0 b ≡ within m b
+unfolding within
+within-far m zero h g = rw (ne-eqb m 0 (λ z. absurd (omega arith))) refl
+within-far m (suc b) h g =
+    simp (ne-eqb m (suc b) (λ z. absurd (omega arith)), ne-eqb 0 (suc b) (λ z. absurd (omega arith)), ne-eqb m 2 (λ z. absurd (omega arith)), ne-eqb m 3 (λ z. absurd (omega arith)), ne-eqb m 4 (λ z. absurd (omega arith)))
 
-pub there-some : (o : Option ℕ) (m : ℕ) → m ≡ kindOr o → (m ≡ 0 → ⊥) → isThere o ≡ true
-unfolding isThere kindOr
-there-some none m e z = absurd (z e)
-there-some (some n) m e z = refl
+pub offers-near : (m t : ℕ) → m < 16 → t < 256 → Offers (16 * m + t / 16) m t
+unfolding Offers ownershipOf
+offers-near m t h g = (omega arith, λ k l. let e : (16 * m + t / 16) / 16 ≡ m = omega arith in ap (λ x. within x k) e)
 
-unfoldable pub isAll : Option (List ℕ) → Bool
-isAll none = false
-isAll (some ks) = true
+pub offers-far : (m t : ℕ) → 16 ≤ m → t < 256 → Offers (t / 16) m t
+unfolding Offers ownershipOf
+offers-far m t h g = (omega arith, λ k l. let e : t / 16 / 16 ≡ 0 = omega arith in ap (λ x. within x k) e ∙ within-far m k h l)
 
-both-all : (o : Option ℕ) (l : Option (List ℕ)) → (isThere o and isAll l) ≡ isAll (both o l)
-unfolding isThere isAll both
-both-all none l = and-off (isAll l) refl
-both-all (some m) none = and-on false refl
-both-all (some m) (some ks) = and-on true refl
+-- ---- the arguments gathered so far
 
-there-all : (A : ℕ → Option ℕ) (rs : List ℕ) → allTo (λ j. isThere (A (rs ! j))) 0 (length rs) ≡ isAll (allOf A rs)
-unfolding allTo allOf isAll
-there-all A [] = refl
-there-all A (r ∷ rs) = rw (all-next (λ j. isThere (A ((r ∷ rs) ! j))) 0 (length rs), there-all A rs) (both-all (A r) (allOf A rs))
+pub kind-none : (o : Option ℕ) (m : ℕ) → Over o → m ≡ kindOr o → m ≡ 0 → o ≡ none
+unfolding kindOr Over
+kind-none none m h e z = refl
+kind-none (some n) m h e z = absurd (omega (arith, h n refl))
 
-pub known-in : (P : Program) (owners promises : List ℕ) (calls : ℕ) (codes : List ℕ) (k : ℕ) (rs : List ℕ) (n : ℕ) → length rs ≡ n → knownIn P owners promises calls codes k rs n ≡ isAll (allOf (argumentKind P owners promises calls codes k) rs)
-unfolding knownIn
-known-in P owners promises calls codes k rs n l = ap (allTo (λ j. isThere (argumentKind P owners promises calls codes k (rs ! j))) 0) (sym l) ∙ there-all (argumentKind P owners promises calls codes k) rs
+pub kind-some : (o : Option ℕ) (m : ℕ) → m ≡ kindOr o → (m ≡ 0 → ⊥) → o ≡ some m
+unfolding kindOr
+kind-some none m e z = absurd (z e)
+kind-some (some n) m e z = ap (λ (x : ℕ). some x) (sym e)
 
--- ---- the same ownerships
+module _ (A : ℕ → Option ℕ) (b : List ℕ) where
+  -- xs has i arguments, by the fields of the DISPATCH's body b
+  unfoldable pub Gathered : List ℕ → ℕ → Type 0
+  Gathered xs i = (j : ℕ) → j < i → (m : ℕ) × (A (b ! (6 + j * 2)) ≡ some m) × Offers (xs ! j) m (b ! (5 + j * 2))
 
-module _ (ts : List ℕ) (X : Version) (n : ℕ) where
-  pub same-off : {m : ℕ} → m ≡ parametersOf X → (n ≡ m → ⊥) → false ≡ sameIn ts X n
-  unfolding sameIn
-  same-off e h = sym (and-off _ (ne-eqb n (parametersOf X) (λ z. h (z ∙ sym e))))
+  pub gathered-first : (xs : List ℕ) → Gathered xs 0
+  unfolding Gathered
+  gathered-first xs j h = absurd (not-suc-le-zero h)
 
-  pub same-on : {m : ℕ} → m ≡ parametersOf X → n ≡ m → sameIn ts X n ≡ allTo (λ i. eqb (ownershipOf (ts ! i)) (ownershipOf (X .types ! i))) 0 n
-  unfolding sameIn
-  same-on e h = and-on _ (eq-eqb n (parametersOf X) (h ∙ e))
+  pub gathered-one : (xs : List ℕ) (i x m : ℕ) → i < length xs → Gathered xs i
+      → (r t : ℕ) → r ≡ b ! (6 + i * 2) → t ≡ b ! (5 + i * 2) → A r ≡ some m → Offers x m t → Gathered (set xs i x) (i + 1)
+  unfolding Gathered
+  gathered-one xs i x m h g r t er et e o j l = go (eqb j i) refl
+    where
+      go : (t : Bool) → eqb j i ≡ t → (m : ℕ) × (A (b ! (6 + j * 2)) ≡ some m) × Offers (set xs i x ! j) m (b ! (5 + j * 2))
+      go true f =
+          let z : j ≡ i = eqb-true _ _ f in
+          let y : set xs i x ! i ≡ x = getD-set-same xs i x 0 h in
+          rw z (m, ap A (sym er) ∙ e, rw (y, ← et) o)
+      go false f =
+          let z : j ≡ i → ⊥ = eqb-false _ _ f in
+          let y : set xs i x ! j ≡ xs ! j = getD-set-other xs i j x 0 z in
+          let w = g j (omega (arith, l, z)) in
+          (w .0, w .1, rw y (w .2))
 
-pub owners-same : {t u : ℕ} (x y : ℕ) → t ≡ x → u ≡ y → t / 16 ≡ u / 16 → eqb (ownershipOf x) (ownershipOf y) ≡ true
-unfolding ownershipOf
-owners-same x y e f h = eq-eqb (x / 16) (y / 16) (rw (← e, ← f) h)
+-- ---- all kinds, or none
 
-pub owners-differ : {t u : ℕ} (x y : ℕ) → t ≡ x → u ≡ y → (t / 16 ≡ u / 16 → ⊥) → eqb (ownershipOf x) (ownershipOf y) ≡ false
-unfolding ownershipOf
-owners-differ x y e f h = ne-eqb (x / 16) (y / 16) (λ z. h (rw (e, f) z))
+module _ (A : ℕ → Option ℕ) where
+  both-none : (o : Option ℕ) → both o none ≡ none
+  unfolding both
+  both-none none = refl
+  both-none (some m) = refl
+
+  pub all-missing : (rs : List ℕ) (i : ℕ) → i < length rs → A (rs ! i) ≡ none → allOf A rs ≡ none
+  unfolding allOf both
+  all-missing [] i h e = absurd (not-suc-le-zero h)
+  all-missing (r ∷ rs) zero h e = rw e refl
+  all-missing (r ∷ rs) (suc i) h e = rw (all-missing rs i (le-of-suc-le-suc h) e) (both-none (A r))
+
+  pub all-there : (rs : List ℕ) → ((j : ℕ) → j < length rs → (m : ℕ) × (A (rs ! j) ≡ some m)) → (ks : List ℕ) × (allOf A rs ≡ some ks)
+  unfolding allOf both
+  all-there [] h = ([], refl)
+  all-there (r ∷ rs) h =
+      let x = h 0 (omega arith) in
+      let y = all-there rs (λ j l. h (suc j) (omega arith)) in
+      (x .0 ∷ y .0, rw (x .1, y .1) refl)
+
+  pub all-at : (rs ks : List ℕ) → allOf A rs ≡ some ks → (j : ℕ) → j < length rs → A (rs ! j) ≡ some (ks ! j)
+  unfolding allOf both
+  all-at [] ks e j h = absurd (not-suc-le-zero h)
+  all-at (r ∷ rs) ks e j h = go (A r) refl (allOf A rs) refl (all-at rs) e j h
+    where
+      go : (o : Option ℕ) → A r ≡ o → (l : Option (List ℕ)) → allOf A rs ≡ l → ((ms : List ℕ) → allOf A rs ≡ some ms → (j : ℕ) → j < length rs → A (rs ! j) ≡ some (ms ! j))
+          → both o l ≡ some ks → (j : ℕ) → j < suc (length rs) → A ((r ∷ rs) ! j) ≡ some (ks ! j)
+      go none eo l el ih f j h = let z : _≡_ {A = ℕ} 0 1 = cc in absurd (omega arith)
+      go (some m) eo none el ih f j h = let z : _≡_ {A = ℕ} 0 1 = cc in absurd (omega arith)
+      go (some m) eo (some ms) el ih f zero h = let z : ks ≡ m ∷ ms = cc in rw z eo
+      go (some m) eo (some ms) el ih f (suc j) h = let z : ks ≡ m ∷ ms = cc in rw z (ih ms el j (le-of-suc-le-suc h))
+
+-- ---- the pairs of a DISPATCH are fields of its record
+
+pub pair-at : (s : List ℕ) (p j : ℕ) → j < length (listedTypes (instrAt s p)) → (listedRegisters (instrAt s p) ! j ≡ bodyAt s p ! (6 + j * 2)) × (listedTypes (instrAt s p) ! j ≡ bodyAt s p ! (5 + j * 2))
+unfolding listedRegisters listedTypes instrAt instrOf Rows
+pair-at s p j = choose-each (λ (i : Instr). j < length (listedTypes i) → (listedRegisters i ! j ≡ bodyAt s p ! (6 + j * 2)) × (listedTypes i ! j ≡ bodyAt s p ! (5 + j * 2))) (kindAt s p) _ _ no
+    (λ e. no, (λ e. no, (λ e. no, (λ e. no, (λ e. no, (λ e. no, (λ e. no, (λ e. no, (λ e. no, (λ e. no, (λ e. no, (λ e. no, (λ e. no, (λ e. no, (λ e. no, (λ e. no, (λ e. no, (λ e. pairs, (λ e. no, tt)))))))))))))))))))
+  where
+    b : List ℕ
+    b = bodyAt s p
+
+    no : {T : Type 0} → j < 0 → T
+    no h = absurd (not-suc-le-zero h)
+
+    pairs : j < length (map (λ (a : Argument). a .type) (arguments b 5 (b ! 4))) → (map (λ (a : Argument). a .register) (arguments b 5 (b ! 4)) ! j ≡ b ! (6 + j * 2)) × (map (λ (a : Argument). a .type) (arguments b 5 (b ! 4)) ! j ≡ b ! (5 + j * 2))
+    pairs h = let l : j < b ! 4 = rw (argument-types b 5 (b ! 4), length-every b 5 2 (b ! 4)) at h in (rw (argument-registers b 5 (b ! 4)) (every-at b 6 2 (b ! 4) j l), rw (argument-types b 5 (b ! 4)) (every-at b 5 2 (b ! 4) j l))
+
+-- ---- a version passes
 
 abbrev pub typesOf : List Argument → List ℕ
 typesOf pairs = map (λ (a : Argument). a .type) pairs
 
-same-all : (pairs : List Argument) (ts : List ℕ) → length pairs ≡ length ts → allTo (λ j. eqb (ownershipOf (typesOf pairs ! j)) (ownershipOf (ts ! j))) 0 (length pairs) ≡ sameOwnerships pairs ts
-unfolding allTo sameOwnerships
-same-all [] [] e = refl
-same-all [] (t ∷ ts) e = absurd (omega arith)
-same-all (a ∷ pairs) [] e = absurd (omega arith)
-same-all (a ∷ pairs) (t ∷ ts) e = rw (all-next (λ j. eqb (ownershipOf (typesOf (a ∷ pairs) ! j)) (ownershipOf ((t ∷ ts) ! j))) 0 (length pairs), same-all pairs ts (omega arith)) refl
+swap : (a b c d : Bool) → ((a and b) and (c and d)) ≡ ((a and c) and (b and d))
+unfolding _and_
+swap false b c d = refl
+swap true true true d = refl
+swap true true false d = refl
+swap true false true d = refl
+swap true false false d = refl
 
-same-in : (pairs : List Argument) (X : Version) (n : ℕ) → length pairs ≡ n → sameIn (typesOf pairs) X n ≡ sameOwnerships pairs (parameterTypes X)
-unfolding sameIn
-same-in pairs X n l = go (eqb n (parametersOf X)) refl
-  where
-    off : (b : Bool) → sameOwnerships pairs (parameterTypes X) ≡ b → (n ≡ parametersOf X → ⊥) → false ≡ b
-    off true f h = absurd (h (sym l ∙ same-length pairs (parameterTypes X) f ∙ parameters-length X))
-    off false f h = refl
+shuffle : (s m o w l : Bool) → ((s and m) and o and w and l) ≡ (s and o and w and l and m)
+unfolding _and_
+shuffle false m o w l = refl
+shuffle true true false w l = refl
+shuffle true true true false l = refl
+shuffle true true true true false = refl
+shuffle true true true true true = refl
+shuffle true false false w l = refl
+shuffle true false true false l = refl
+shuffle true false true true false = refl
+shuffle true false true true true = refl
 
-    go : (b : Bool) → eqb n (parametersOf X) ≡ b → sameIn (typesOf pairs) X n ≡ sameOwnerships pairs (parameterTypes X)
-    go true e =
-        let f : n ≡ parametersOf X = eqb-true _ _ e in
-        and-on _ e
-        ∙ all-same _ (λ j. eqb (ownershipOf (typesOf pairs ! j)) (ownershipOf (parameterTypes X ! j))) 0 n (λ j a b. ap (λ t. eqb (ownershipOf (typesOf pairs ! j)) (ownershipOf t)) (sym (parameter-at X j (omega (arith, f, b)))))
-        ∙ ap (allTo (λ j. eqb (ownershipOf (typesOf pairs ! j)) (ownershipOf (parameterTypes X ! j))) 0) (sym l)
-        ∙ same-all pairs (parameterTypes X) (omega (arith, l, f, parameters-length X))
-    go false e = and-off _ e ∙ off (sameOwnerships pairs (parameterTypes X)) refl (eqb-false _ _ e)
+taken-one : (x m t u : ℕ) → Offers x m t → taken x u ≡ (eqb (ownershipOf t) (ownershipOf u) and within m (kindOf u))
+unfolding Offers taken kindOf
+taken-one x m t u o = rw (o .0, o .1 (u % 16) (omega arith)) refl
 
--- ---- a version passes
-
-module _ (P : Program) (owners promises : List ℕ) (calls : ℕ) (codes : List ℕ) (k : ℕ) (ts rs : List ℕ) (mark ret n : ℕ) (s : List ℕ) (v : ℕ) where
-  abbrev passesAt : Bool
-  passesAt = passesIn P owners promises calls codes k ts rs mark ret n (versionAt s v)
-
-  pub passes-unlike : sameIn ts (versionAt s v) n ≡ false → false ≡ passesAt
-  unfolding passesIn
-  passes-unlike e = sym (and-off _ e)
-
-  module _ (same : sameIn ts (versionAt s v) n ≡ true) (t : ℕ) (told : t ≡ bodyAt s v ! 4) where
-    returned : versionAt s v .return ≡ t
-    unfolding versionAt
-    returned = sym told
-
-    pub passes-other : (t / 16 ≡ ret / 16 → ⊥) → false ≡ passesAt
-    unfolding passesIn
-    passes-other h = sym (and-on _ same ∙ and-off _ (owners-differ (versionAt s v .return) ret (sym returned) refl h))
-
-    module _ (owned : t / 16 ≡ ret / 16) where
-      pub passes-outside : within (t % 16) (ret % 16) ≡ false → false ≡ passesAt
-      unfolding passesIn kindOf
-      passes-outside h = sym (and-on _ same ∙ and-on _ (owners-same (versionAt s v .return) ret (sym returned) refl owned) ∙ and-off _ (rw returned h))
-
-      module _ (inside : within (t % 16) (ret % 16) ≡ true) (m : ℕ) (marked : m ≡ markOf (versionAt s v)) where
-        pub passes-marked : mark < m → false ≡ passesAt
-        unfolding passesIn kindOf
-        passes-marked h = sym (and-on _ same ∙ and-on _ (owners-same (versionAt s v .return) ret (sym returned) refl owned) ∙ and-on _ (rw returned inside) ∙ and-off _ (lt-leb (markOf (versionAt s v)) mark (rw (← marked) h)))
-
-        pub passes-on : m ≤ mark → {b : Bool} → b ≡ matchesIn P owners promises calls codes k rs (versionAt s v) n → b ≡ passesAt
-        unfolding passesIn kindOf
-        passes-on h e = e ∙ sym (and-on _ same ∙ and-on _ (owners-same (versionAt s v .return) ret (sym returned) refl owned) ∙ and-on _ (rw returned inside) ∙ and-on _ (le-leb (markOf (versionAt s v)) mark (rw (← marked) h)))
+taken-all : (pairs : List Argument) (ks ts : List ℕ) (x : ℕ → ℕ) → length pairs ≡ length ts → length ks ≡ length ts → ((j : ℕ) → j < length pairs → Offers (x j) (ks ! j) (typesOf pairs ! j))
+    → allTo (λ j. taken (x j) (ts ! j)) 0 (length pairs) ≡ (sameOwnerships pairs ts and matching ks ts)
+unfolding allTo sameOwnerships matching _and_
+taken-all [] [] [] x e f h = refl
+taken-all [] ks (t ∷ ts) x e f h = absurd (omega arith)
+taken-all [] (k ∷ ks) [] x e f h = absurd (omega arith)
+taken-all (a ∷ pairs) ks [] x e f h = absurd (omega arith)
+taken-all (a ∷ pairs) [] (t ∷ ts) x e f h = absurd (omega arith)
+taken-all (a ∷ pairs) (k ∷ ks) (t ∷ ts) x e f h =
+    rw (all-next (λ j. taken (x j) ((t ∷ ts) ! j)) 0 (length pairs), taken-all pairs ks ts (λ j. x (suc j)) (omega arith) (omega arith) (λ j l. h (suc j) (omega arith)), taken-one (x 0) k (a .type) t (h 0 (omega arith)))
+    (swap (eqb (ownershipOf (a .type)) (ownershipOf t)) (within k (kindOf t)) (sameOwnerships pairs ts) (matching ks ts))
 
 -- as the machine has it
-pub passes-in : (P : Program) (owners promises : List ℕ) (calls : ℕ) (codes : List ℕ) (k mark ret n : ℕ) (pairs : List Argument) (ks : List ℕ) → length pairs ≡ n → length (map (λ (a : Argument). a .register) pairs) ≡ n
-    → allOf (argumentKind P owners promises calls codes k) (map (λ (a : Argument). a .register) pairs) ≡ some ks
-    → (X : Version) → passesIn P owners promises calls codes k (typesOf pairs) (map (λ (a : Argument). a .register) pairs) mark ret n X ≡ dispatches mark ret pairs ks X
-unfolding passesIn dispatches matched
-passes-in P owners promises calls codes k mark ret n pairs ks l m e X =
-    let g = matches-in X P owners promises calls codes k (map (λ (a : Argument). a .register) pairs) n m ∙ ap (λ o. matched o (parameterTypes X)) e in
-    rw (same-in pairs X n l, g) refl
+pub passes-in : (xs : List ℕ) (mark ret n : ℕ) (pairs : List Argument) (ks : List ℕ) → length pairs ≡ n → length ks ≡ n
+    → ((j : ℕ) → j < n → Offers (xs ! j) (ks ! j) (typesOf pairs ! j)) → (X : Version) → passesBy xs mark ret n X ≡ dispatches mark ret pairs ks X
+unfolding passesBy dispatches
+passes-in xs mark ret n pairs ks l m o X = go (eqb n (parametersOf X)) refl
+  where
+    off : (b : Bool) → sameOwnerships pairs (parameterTypes X) ≡ b → (n ≡ parametersOf X → ⊥) → sameOwnerships pairs (parameterTypes X) ≡ false
+    off true f h = absurd (h (sym l ∙ same-length pairs (parameterTypes X) f ∙ parameters-length X))
+    off false f h = f
 
--- ---- the lowest
+    fit : n ≡ parametersOf X → allTo (λ i. taken (xs ! i) (X .types ! i)) 0 n ≡ (sameOwnerships pairs (parameterTypes X) and matching ks (parameterTypes X))
+    fit f =
+        all-same _ (λ j. taken (xs ! j) (parameterTypes X ! j)) 0 n (λ j a b. ap (taken (xs ! j)) (sym (parameter-at X j (omega (arith, f, b)))))
+        ∙ ap (allTo (λ j. taken (xs ! j) (parameterTypes X ! j)) 0) (sym l)
+        ∙ taken-all pairs ks (parameterTypes X) (λ j. xs ! j) (omega (arith, l, f, parameters-length X)) (omega (arith, m, f, parameters-length X)) (λ j h. o j (omega (arith, h, l)))
 
-module _ (s : List ℕ) (f : ℕ) (p : Version → Bool) (w : ℕ) where
-  pub passed-missing : findVersion (programOf s) f w ≡ none → Nothing ≡ passedAt s f p w
-  unfolding passedAt
-  passed-missing e = rw (found-none p e) refl
+    go : (b : Bool) → eqb n (parametersOf X) ≡ b → passesBy xs mark ret n X ≡ dispatches mark ret pairs ks X
+    go true e = and-on _ e ∙ rw (fit (eqb-true _ _ e)) (shuffle _ _ _ _ _)
+    go false e = and-off _ e ∙ sym (and-off _ (off (sameOwnerships pairs (parameterTypes X)) refl (eqb-false _ _ e)))
 
-  module _ (o : Found) (looked : o ≡ versionPlace s f w) (v : ℕ) (there : o ≡ At v) where
-    placed : versionPlace s f w ≡ At v
-    placed = sym looked ∙ there
+-- ---- by the answers that the code has in hand
 
-    pub passed-met : p (versionAt s v) ≡ true → At v ≡ passedAt s f p w
-    unfolding passedAt
-    passed-met e = rw (found-some p (version-found s f w v placed .0), e, placed) refl
+module _ (xs : List ℕ) (mark ret n : ℕ) (s : List ℕ) (v : ℕ) where
+  abbrev passesAt : Bool
+  passesAt = passesBy xs mark ret n (versionAt s v)
 
-    pub passed-unmet : p (versionAt s v) ≡ false → Nothing ≡ passedAt s f p w
-    unfolding passedAt
-    passed-unmet e = rw (found-some p (version-found s f w v placed .0), e) refl
+  pub passes-uneven : {m : ℕ} → m ≡ parametersOf (versionAt s v) → (n ≡ m → ⊥) → false ≡ passesAt
+  unfolding passesBy
+  passes-uneven e h = sym (and-off _ (ne-eqb n (parametersOf (versionAt s v)) (λ z. h (z ∙ sym e))))
 
-  pub pick-met : (v : ℕ) → w < 4 → passedAt s f p w ≡ At v → lowestAt s f p (4 - w) w ≡ At v
-  unfolding lowestAt orElse
-  pick-met v h e = let a : 4 - w ≡ suc (4 - (w + 1)) = omega arith in rw (a, e) refl
+  module _ {m : ℕ} (counted : m ≡ parametersOf (versionAt s v)) (even : n ≡ m) where
+    as-many : eqb n (parametersOf (versionAt s v)) ≡ true
+    as-many = eq-eqb n (parametersOf (versionAt s v)) (even ∙ counted)
 
-  pick-suc : (n : ℕ) → passedAt s f p w ≡ Nothing → lowestAt s f p (suc n) w ≡ lowestAt s f p n (w + 1)
-  unfolding lowestAt orElse
-  pick-suc n e = let b : suc w ≡ w + 1 = omega arith in rw (e, ← b) refl
+    pub passes-refused : allTo (λ i. taken (xs ! i) (versionAt s v .types ! i)) 0 n ≡ false → false ≡ passesAt
+    unfolding passesBy
+    passes-refused e = sym (and-on _ as-many ∙ and-off _ e)
 
-  pub pick-next : w < 4 → passedAt s f p w ≡ Nothing → lowestAt s f p (4 - w) w ≡ lowestAt s f p (4 - (w + 1)) (w + 1)
-  pick-next h e = let a : 4 - w ≡ suc (4 - (w + 1)) = omega arith in ap (λ n. lowestAt s f p n w) a ∙ pick-suc (4 - (w + 1)) e
+    module _ (all : allTo (λ i. taken (xs ! i) (versionAt s v .types ! i)) 0 n ≡ true) (t : ℕ) (told : t ≡ bodyAt s v ! 4) where
+      returned : versionAt s v .return ≡ t
+      unfolding versionAt
+      returned = sym told
 
-  pub pick-none : 4 ≤ w → lowestAt s f p (4 - w) w ≡ Nothing
-  unfolding lowestAt
-  pick-none h = let a : 4 - w ≡ 0 = omega arith in rw a refl
+      pub passes-other : (t / 16 ≡ ret / 16 → ⊥) → false ≡ passesAt
+      unfolding passesBy ownershipOf
+      passes-other h = sym (and-on _ as-many ∙ and-on _ all ∙ and-off _ (ne-eqb (versionAt s v .return / 16) (ret / 16) (rw returned h)))
+
+      module _ (owned : t / 16 ≡ ret / 16) where
+        own : eqb (ownershipOf (versionAt s v .return)) (ownershipOf ret) ≡ true
+        unfolding ownershipOf
+        own = eq-eqb (versionAt s v .return / 16) (ret / 16) (rw returned owned)
+
+        pub passes-outside : within (t % 16) (ret % 16) ≡ false → false ≡ passesAt
+        unfolding passesBy kindOf
+        passes-outside h = sym (and-on _ as-many ∙ and-on _ all ∙ and-on _ own ∙ and-off _ (rw returned h))
+
+        pub passes-marked : within (t % 16) (ret % 16) ≡ true → {m : ℕ} → m ≡ markOf (versionAt s v) → leb m mark ≡ passesAt
+        unfolding passesBy kindOf
+        passes-marked h e = sym (and-on _ as-many ∙ and-on _ all ∙ and-on _ own ∙ and-on _ (rw returned h) ∙ ap (λ x. leb x mark) (sym e))
+
+-- ---- an argument and a parameter
+
+pub taken-unlike : (x t : ℕ) {y : ℕ} → y ≡ x → (y % 16 ≡ t / 16 → ⊥) → false ≡ taken x t
+unfolding taken ownershipOf
+taken-unlike x t e h = sym (and-off _ (ne-eqb (x % 16) (t / 16) (λ z. h (rw e z))))
+
+pub taken-on : (x t : ℕ) {y : ℕ} {b : Bool} → y ≡ x → y % 16 ≡ t / 16 → b ≡ within (y / 16) (t % 16) → b ≡ taken x t
+unfolding taken ownershipOf kindOf
+taken-on x t e h g = g ∙ sym (and-on _ (eq-eqb (x % 16) (t / 16) (rw (← e) h)) ∙ ap (λ z. within (z / 16) (t % 16)) (sym e))

@@ -6,14 +6,13 @@ use mathlib.Core.Bool.{Bool, true, false, cond}
 use Prim.Native.Nat.{ℕ, zero, suc, _+_, _≤_, _<_}
 use lib.IntN.{ℤ, pos}
 use lib.ListN.{length}
-use lib.Dec.{eqb, leb, ltb}
+use lib.Dec.{eqb, ltb}
 use Rattle.layout.specs.Records.{_!_}
-use Rattle.layout.specs.Tests.{_and_, found}
-use Rattle.layout.specs.declared.Found.{Found}
-use Rattle.layout.specs.declared.Found.the-variants.{Nothing, At}
-use Rattle.program.specs.Places.{instrAt, versionPlace}
-use Rattle.program.specs.Program.{Argument, Program, Version, CALL, DISPATCH, findVersion, markOf}
-use Rattle.rules.specs.Types.{kindOf, ownershipOf, within}
+use Rattle.layout.specs.Tests.{_and_}
+use Rattle.layout.specs.declared.Found.the-variants.{At}
+use Rattle.program.specs.Places.{instrAt}
+use Rattle.program.specs.Program.{Argument, Program, Version, CALL, DISPATCH}
+use Rattle.rules.specs.Types.{kindOf, within}
 use Rattle.machine.specs.Begin.{programOf}
 use Rattle.memory.specs.Memory.{Memory}
 use Rattle.memory.specs.Parts.{withCells, withOpen, withPromises, pushed}
@@ -30,11 +29,6 @@ unfoldable pub allTo : (ℕ → Bool) → ℕ → ℕ → Bool
 allTo p i zero = true
 allTo p i (suc n) = p i and allTo p (suc i) n
 
--- a kind is there
-unfoldable pub isThere : Option ℕ → Bool
-isThere none = false
-isThere (some m) = true
-
 -- a kind is there, and within that of the type t
 unfoldable pub fitsKind : Option ℕ → ℕ → Bool
 fitsKind none t = false
@@ -48,37 +42,6 @@ parametersOf X = cond (ltb (X .parameters) (length (X .types))) (X .parameters) 
 unfoldable pub matchesIn : Program → List ℕ → List ℕ → ℕ → List ℕ → ℕ → List ℕ → Version → ℕ → Bool
 matchesIn P owners promises calls codes k rs X n =
     eqb n (parametersOf X) and allTo (λ i. fitsKind (argumentKind P owners promises calls codes k (rs ! i)) (X .types ! i)) 0 n
-
--- n registers rs of the frame k all hold a value that has a kind
-unfoldable pub knownIn : Program → List ℕ → List ℕ → ℕ → List ℕ → ℕ → List ℕ → ℕ → Bool
-knownIn P owners promises calls codes k rs n = allTo (λ i. isThere (argumentKind P owners promises calls codes k (rs ! i))) 0 n
-
--- n types ts have the ownerships of the parameters of X
-unfoldable pub sameIn : List ℕ → Version → ℕ → Bool
-sameIn ts X n = eqb n (parametersOf X) and allTo (λ i. eqb (ownershipOf (ts ! i)) (ownershipOf (X .types ! i))) 0 n
-
--- a DISPATCH with the types ts and the registers rs passes X
-unfoldable pub passesIn : Program → List ℕ → List ℕ → ℕ → List ℕ → ℕ → List ℕ → List ℕ → ℕ → ℕ → ℕ → Version → Bool
-passesIn P owners promises calls codes k ts rs mark ret n X =
-    sameIn ts X n
-    and eqb (ownershipOf (X .return)) (ownershipOf ret)
-    and within (kindOf (X .return)) (kindOf ret)
-    and leb (markOf X) mark
-    and matchesIn P owners promises calls codes k rs X n
-
--- where the version w of the function f stands, if it passes
-unfoldable pub passedAt : List ℕ → ℕ → (Version → Bool) → ℕ → Found
-passedAt s f passes w = cond (found (findVersion (programOf s) f w) passes) (versionPlace s f w) Nothing
-
--- the first of two places
-unfoldable pub orElse : Found → Found → Found
-orElse Nothing p = p
-orElse (At q) p = At q
-
--- the lowest of n versions from w on
-unfoldable pub lowestAt : List ℕ → ℕ → (Version → Bool) → ℕ → ℕ → Found
-lowestAt s f passes zero w = Nothing
-lowestAt s f passes (suc n) w = orElse (passedAt s f passes w) (lowestAt s f passes n (suc w))
 
 -- ---- a call that opens
 

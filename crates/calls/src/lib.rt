@@ -2,17 +2,22 @@
 //! Its functions serve the loop of the engine; what they require, the loop keeps.
 //! `table` is the image's index.
 ghost use mathlib.Core.Path.{_≡_};
-ghost use Prim.Native.Nat.{_*_, _<_, _≤_};
+ghost use Prim.Native.Nat.{_*_, _/_, _%_, _<_, _≤_};
 ghost use lib.IntN.{pos};
-ghost use Rattle.layout.specs.Records.{_!_};
-ghost use Rattle.program.specs.Places.{instrAt, versionAt};
+ghost use Rattle.layout.specs.Records.{_!_, bodyAt, kindAt, sizeAt};
+ghost use Rattle.layout.specs.declared.Found.{Found};
+ghost use Rattle.program.specs.Places.{instrAt, versionAt, versionPlace};
+ghost use Rattle.program.specs.Program.{markOf};
 ghost use Rattle.index.specs.Indexed.{Indexed};
-ghost use Rattle.program.specs.Shapes.{listedRegisters, listedTypes};
+ghost use Rattle.program.specs.Shapes.{listedRegisters};
 ghost use Rattle.machine.specs.Begin.{programOf};
+ghost use Rattle.machine.specs.Calls.{versionsOf};
 ghost use Rattle.kinds.specs.Kinds.{argumentKind};
 ghost use Rattle.calls.specs.Frames.{clearedTo, passedTo, emptiedTo, few};
-ghost use Rattle.calls.specs.Entering.{Within, fitsKind, parametersOf, matchesIn, knownIn, sameIn, passesIn, passedAt, lowestAt, Entered, Called, Dispatched};
+ghost use Rattle.calls.specs.Searching.{Bounded, Offers, Picks, Seeks, passesBy, taken};
+ghost use Rattle.calls.specs.Entering.{Within, allTo, fitsKind, parametersOf, matchesIn, Entered, Called, Dispatched};
 use layout::Found;
+use layout::bounds;
 use layout::ownerships;
 use memory::Did;
 use memory::Halt;
@@ -20,16 +25,67 @@ use program::decode;
 use program::lookup;
 use typing::types;
 
-/// How many parameters the version at `v` has registers for.
-fn parameters_of(image: &[u8], v: usize) -> usize
+/// The field `k` of the record at `p`, whose size is known.
+fn part(image: &[u8], p: usize, size: usize, k: usize) -> usize
+    requires { ⌜ size ≡ sizeAt (now image) p ⌝ }
+    ensures { λ r. ⌜ (r ≡ bodyAt (now (image .entry)) p ! k) × (r < 256) ⌝ }
+{
+    if size < 4 {
+        return 0;
+    }
+    if size - 4 <= k {
+        return 0;
+    }
+    layout::wide(image[p + 4 + k])
+}
+
+/// How many parameters the version at `v` has registers for; its record's size is known.
+fn parameters_of(image: &[u8], v: usize, size: usize) -> usize
+    requires { ⌜ size ≡ sizeAt (now image) v ⌝ }
     ensures { λ r. ⌜ r ≡ parametersOf (versionAt (now (image .entry)) v) ⌝ }
 {
-    let parameters = lookup::parameters(image, v);
-    let registers = lookup::registers(image, v);
+    let parameters = part(image, v, size, 2);
+    let registers = part(image, v, size, 3);
     if parameters < registers {
         parameters
     } else {
         registers
+    }
+}
+
+/// The type of the register `r` of the version at `v`, or 0 where it has no such register; its record's size is known.
+fn type_in(image: &[u8], v: usize, size: usize, r: usize) -> usize
+    requires { ⌜ size ≡ sizeAt (now image) v ⌝ }
+    ensures { λ t. ⌜ (t ≡ versionAt (now (image .entry)) v .types ! r) × (t < 256) ⌝ }
+{
+    if r < part(image, v, size, 3) {
+        part(image, v, size, 6 + r)
+    } else {
+        0
+    }
+}
+
+/// The register `i` that the CALL or DISPATCH at `p` lists, or 0 where it lists no such register; its record's size and kind are known.
+fn operand(image: &[u8], p: usize, size: usize, kind: usize, i: usize) -> usize
+    requires { ⌜ (size ≡ sizeAt (now image) p) × (kind ≡ kindAt (now image) p) ⌝ }
+    ensures { λ r. ⌜ r ≡ listedRegisters (instrAt (now (image .entry)) p) ! i ⌝ }
+{
+    match kind {
+        layout::kinds::CALL => {
+            if i < part(image, p, size, 3) {
+                part(image, p, size, 4 + i)
+            } else {
+                0
+            }
+        }
+        layout::kinds::DISPATCH => {
+            if i < part(image, p, size, 4) {
+                part(image, p, size, 6 + i * 2)
+            } else {
+                0
+            }
+        }
+        _ => decode::listed_register(image, p, i),
     }
 }
 
@@ -73,7 +129,7 @@ fn matching(
     requires { ⌜ Indexed (now image) (now table) × (k < 32) ⌝ }
     ensures { λ r. ⌜ r ≡ matchesIn (programOf (now (image .entry))) (now (owners .entry)) (now (promises .entry)) calls (now (codes .entry)) k (listedRegisters (instrAt (now (image .entry)) at)) (versionAt (now (image .entry)) v) n ⌝ }
 {
-    if n != parameters_of(image, v) {
+    if n != parameters_of(image, v, layout::size_at(image, v)) {
         return false;
     }
     let mut i: usize = 0;
@@ -120,9 +176,11 @@ fn pass(
     ensures { λ r. ⌜ (now (codes .exit) ≡ passedTo 0 (now (codes .entry)) k to (listedRegisters (instrAt (now (image .entry)) at)) (few n)) × (now (numbers .exit) ≡ passedTo (pos 0) (now (numbers .entry)) k to (listedRegisters (instrAt (now (image .entry)) at)) (few n)) ⌝ }
 {
     let m = at_most(n);
+    let size = layout::size_at(image, at);
+    let kind = layout::kind_at(image, at);
     let mut i: usize = 0;
     while i < m {
-        let r = decode::listed_register(image, at, i) % 16;
+        let r = operand(image, at, size, kind, i) % 16;
         codes[24 * to + i] = codes[24 * k + r];
         numbers[24 * to + i] = numbers[24 * k + r];
         i += 1;
@@ -134,9 +192,10 @@ fn empty(image: &[u8], at: usize, codes: &mut [u16; 768], k: usize, v: usize, n:
     requires { ⌜ k < 32 ⌝ }
     ensures { λ r. ⌜ now (codes .exit) ≡ emptiedTo (now (codes .entry)) k (versionAt (now (image .entry)) v .types) (listedRegisters (instrAt (now (image .entry)) at)) 0 n ⌝ }
 {
+    let size = layout::size_at(image, v);
     let mut i: usize = 0;
     while i < n {
-        if lookup::type_of(image, v, i) / 16 == ownerships::OWNED {
+        if type_in(image, v, size, i) / 16 == ownerships::OWNED {
             codes[24 * k + decode::listed_register(image, at, i) % 16] = 0;
             i += 1;
         } else {
@@ -234,72 +293,88 @@ pub fn call(
     }
 }
 
-/// Do all `n` registers that the instruction at `at` lists hold a value that has a kind, in the frame `k`?
-fn known(
-    image: &[u8],
-    table: &[u16; 1152],
-    owners: &[u8; 64],
-    codes: &[u16; 768],
-    promises: &[u8; 192],
-    calls: usize,
-    k: usize,
-    at: usize,
-    n: usize,
-) -> bool
-    requires { ⌜ Indexed (now image) (now table) × (k < 32) ⌝ }
-    ensures { λ r. ⌜ r ≡ knownIn (programOf (now (image .entry))) (now (owners .entry)) (now (promises .entry)) calls (now (codes .entry)) k (listedRegisters (instrAt (now (image .entry)) at)) n ⌝ }
-{
-    let mut i: usize = 0;
-    while i < n {
-        let r = decode::listed_register(image, at, i);
-        if kinds::argument_kind(image, table, owners, codes, promises, calls, k, r) == 0 {
-            return false;
-        }
-        i += 1;
-    }
-    true
+/// What the search of a DISPATCH comes to: an argument has no kind; where the version stands that passes, and how many versions were
+/// looked at; or how many, where none passes.
+pub enum Sought {
+    Unknown,
+    Passes(usize, usize),
+    Nowhere(usize),
 }
 
-/// Have the `n` types that the instruction at `at` lists the ownerships of the parameters of the version at `v`?
-fn same_ownerships(image: &[u8], at: usize, v: usize, n: usize) -> bool
-    ensures { λ r. ⌜ r ≡ sameIn (listedTypes (instrAt (now (image .entry)) at)) (versionAt (now (image .entry)) v) n ⌝ }
+/// An argument of the kind `m` that a DISPATCH lists with the type `t`, in one byte: 16 × its kind, and its ownership. No kind of a
+/// type byte is 16 or above, so such a kind fits where 0 does.
+fn offer(m: usize, t: usize) -> u8
+    requires { ⌜ t < 256 ⌝ }
+    ensures { λ r. ⌜ Offers r m t ⌝ }
 {
-    if n != parameters_of(image, v) {
+    if m < 16 {
+        (16 * m + t / 16) as u8
+    } else {
+        (t / 16) as u8
+    }
+}
+
+/// Does a parameter of the type `t` take the argument?
+fn takes(t: usize, offered: u8) -> bool
+    ensures { λ r. ⌜ r ≡ taken offered t ⌝ }
+{
+    let x = layout::wide(offered);
+    if x % 16 != t / 16 {
         return false;
     }
+    types::is_within(x / 16, t % 16)
+}
+
+/// Do the parameters of the version at `v`, `n` of them, take the arguments? Its record's size is known.
+fn take_all(image: &[u8], v: usize, size: usize, offered: &[u8; 256], n: u8) -> bool
+    requires { ⌜ size ≡ sizeAt (now image) v ⌝ }
+    ensures { λ r. ⌜ r ≡ allTo (λ i. taken (now (offered .entry) ! i) (versionAt (now (image .entry)) v .types ! i)) 0 n ⌝ }
+{
     let mut i: usize = 0;
-    while i < n {
-        let t = decode::listed_type(image, at, i);
-        if t / 16 != lookup::type_of(image, v, i) / 16 {
+    while i < n as usize {
+        if takes(type_in(image, v, size, i), offered[i]) {
+            i += 1;
+        } else {
             return false;
         }
-        i += 1;
     }
     true
 }
 
-/// Does the DISPATCH at `at` pass the version at `v`?
+/// The mark of the version `w` of the function `f`, which stands at `v`.
+fn mark_of(image: &[u8], table: &[u16; 1152], f: usize, w: usize, v: usize) -> usize
+    requires { ⌜ Indexed (now image) (now table) × (versionPlace (now image) f w ≡ Found.At v) ⌝ }
+    ensures { λ r. ⌜ r ≡ markOf (versionAt (now (image .entry)) v) ⌝ }
+{
+    let Found::At(b) = index::block_of(image, table, f, w, v, 0) else {
+        return 0;
+    };
+    layout::field(image, b, 0)
+}
+
+/// Does a DISPATCH with these arguments pass the version `w` of the function `f`, which stands at `v`?
 fn passes(
     image: &[u8],
     table: &[u16; 1152],
-    owners: &[u8; 64],
-    codes: &[u16; 768],
-    promises: &[u8; 192],
-    calls: usize,
-    k: usize,
-    at: usize,
+    offered: &[u8; 256],
+    f: usize,
+    w: usize,
     v: usize,
     mark: u8,
     returns: u8,
-    n: usize,
+    n: u8,
 ) -> bool
-    requires { ⌜ Indexed (now image) (now table) × (k < 32) ⌝ }
-    ensures { λ r. ⌜ r ≡ passesIn (programOf (now (image .entry))) (now (owners .entry)) (now (promises .entry)) calls (now (codes .entry)) k (listedTypes (instrAt (now (image .entry)) at)) (listedRegisters (instrAt (now (image .entry)) at)) mark returns n (versionAt (now (image .entry)) v) ⌝ }
+    requires { ⌜ Indexed (now image) (now table) × (versionPlace (now image) f w ≡ Found.At v) ⌝ }
+    ensures { λ r. ⌜ r ≡ passesBy (now (offered .entry)) mark returns n (versionAt (now (image .entry)) v) ⌝ }
 {
-    if !same_ownerships(image, at, v, n) {
+    let size = layout::size_at(image, v);
+    if (n as usize) != parameters_of(image, v, size) {
         return false;
     }
-    let t = layout::field(image, v, 4);
+    if !take_all(image, v, size, offered, n) {
+        return false;
+    }
+    let t = part(image, v, size, 4);
     let u = returns as usize;
     if t / 16 != u / 16 {
         return false;
@@ -307,94 +382,92 @@ fn passes(
     if !types::is_within(t % 16, u % 16) {
         return false;
     }
-    if (mark as usize) < lookup::mark(image, v) {
-        return false;
-    }
-    matching(image, table, owners, codes, promises, calls, k, at, v, n)
+    mark_of(image, table, f, w, v) <= mark as usize
 }
 
-/// Where the version `w` of the function `f` stands, if the DISPATCH at `at` passes it.
-fn passed(
-    image: &[u8],
-    table: &[u16; 1152],
-    owners: &[u8; 64],
-    codes: &[u16; 768],
-    promises: &[u8; 192],
-    calls: usize,
-    k: usize,
-    at: usize,
-    f: usize,
-    w: usize,
-    mark: u8,
-    returns: u8,
-    n: usize,
-) -> Found
-    requires { ⌜ Indexed (now image) (now table) × (k < 32) ⌝ }
-    ensures { λ r. ⌜ r ≡ passedAt (now (image .entry)) f (passesIn (programOf (now (image .entry))) (now (owners .entry)) (now (promises .entry)) calls (now (codes .entry)) k (listedTypes (instrAt (now (image .entry)) at)) (listedRegisters (instrAt (now (image .entry)) at)) mark returns n) w ⌝ }
-{
-    let Found::At(v) = index::version(image, table, f, w) else {
-        return Found::Nothing;
-    };
-    if passes(
-        image,
-        table,
-        owners,
-        codes,
-        promises,
-        calls,
-        k,
-        at,
-        v,
-        mark,
-        returns,
-        n,
-    ) {
-        Found::At(v)
-    } else {
-        Found::Nothing
-    }
-}
-
-/// Where the lowest version of the function `f` stands that the DISPATCH at `at` passes.
+/// Searches the versions of the function for the lowest that a DISPATCH with these arguments passes, and ends there.
 fn pick(
     image: &[u8],
     table: &[u16; 1152],
+    offered: &[u8; 256],
+    function: u8,
+    mark: u8,
+    returns: u8,
+    n: u8,
+) -> Sought
+    requires { ⌜ Indexed (now image) (now table) ⌝ }
+    ensures { λ r. ⌜ Picks (now (image .entry)) r function (passesBy (now (offered .entry)) mark returns n) ⌝ }
+{
+    let f = function as usize;
+    let mut w: usize = 0;
+    let mut looked: usize = 0;
+    while w < bounds::VERSIONS {
+        match index::version(image, table, f, w) {
+            Found::At(v) => {
+                if passes(image, table, offered, f, w, v, mark, returns, n) {
+                    return Sought::Passes(v, looked + 1);
+                }
+                looked += 1;
+                w += 1;
+            }
+            Found::Nothing => w += 1,
+        }
+    }
+    Sought::Nowhere(looked)
+}
+
+/// Searches the versions of the function for the lowest that the DISPATCH at `at` passes, in the frame `k`, and ends there.
+/// Part of the loop, which keeps `table` the image's index and `k` below 32: a test would cost each step.
+pub fn search(
+    image: &[u8],
+    table: &[u16; 1152],
     owners: &[u8; 64],
     codes: &[u16; 768],
     promises: &[u8; 192],
     calls: usize,
     k: usize,
     at: usize,
-    f: u8,
+    function: u8,
     mark: u8,
     returns: u8,
-    n: usize,
-) -> Found
+    n: u8,
+) -> Sought
     requires { ⌜ Indexed (now image) (now table) × (k < 32) ⌝ }
-    ensures { λ r. ⌜ r ≡ lowestAt (now (image .entry)) f (passesIn (programOf (now (image .entry))) (now (owners .entry)) (now (promises .entry)) calls (now (codes .entry)) k (listedTypes (instrAt (now (image .entry)) at)) (listedRegisters (instrAt (now (image .entry)) at)) mark returns n) 4 0 ⌝ }
+    ensures { λ r. ⌜ Seeks (now (image .entry)) r (now (owners .entry)) (now (promises .entry)) calls (now (codes .entry)) k at function mark returns n × Bounded r ⌝ }
 {
-    let mut w: usize = 0;
-    while w < 4 {
-        match passed(
-            image,
-            table,
-            owners,
-            codes,
-            promises,
-            calls,
-            k,
-            at,
-            f as usize,
-            w,
-            mark,
-            returns,
-            n,
-        ) {
-            Found::At(v) => return Found::At(v),
-            Found::Nothing => w += 1,
+    let mut offered = [0u8; 256];
+    let size = layout::size_at(image, at);
+    let mut i: usize = 0;
+    while i < n as usize {
+        let r = part(image, at, size, 6 + i * 2);
+        let m = kinds::argument_kind(image, table, owners, codes, promises, calls, k, r);
+        if m == 0 {
+            return Sought::Unknown;
+        }
+        offered[i] = offer(m, part(image, at, size, 5 + i * 2));
+        i += 1;
+    }
+    pick(image, table, &offered, function, mark, returns, n)
+}
+
+/// How many versions the function has.
+/// Part of the loop, which keeps `table` the image's index: a test would cost each step.
+pub fn versions_of(image: &[u8], table: &[u16; 1152], function: u8) -> usize
+    requires { ⌜ Indexed (now image) (now table) ⌝ }
+    ensures { λ r. ⌜ (r ≡ versionsOf (programOf (now (image .entry))) function) × (r ≤ 4) ⌝ }
+{
+    let mut number: usize = 0;
+    let mut there: usize = 0;
+    while number < bounds::VERSIONS {
+        match index::version(image, table, function as usize, number) {
+            Found::At(_) => {
+                there += 1;
+                number += 1;
+            }
+            Found::Nothing => number += 1,
         }
     }
-    Found::Nothing
+    there
 }
 
 /// DISPATCH: opens a call of the lowest version that passes.
@@ -420,20 +493,7 @@ pub fn dispatch(
     requires { ⌜ Indexed (now image) (now table) × (k < 32) ⌝ }
     ensures { λ r. ⌜ Dispatched (now (image .entry)) r (record { owners = now (owners .entry); codes = now (codes .entry); numbers = now (numbers .entry); stack = now (stack .entry) }) (record { owners = now (owners .exit); codes = now (codes .exit); numbers = now (numbers .exit); stack = now (stack .exit) }) (now (promises .entry)) calls depth k at d function mark returns n × Within r calls depth ⌝ }
 {
-    if !known(
-        image,
-        table,
-        owners,
-        codes,
-        promises,
-        calls,
-        k,
-        at,
-        n as usize,
-    ) {
-        return Did::Stuck;
-    }
-    let Found::At(v) = pick(
+    match search(
         image,
         table,
         owners,
@@ -445,22 +505,23 @@ pub fn dispatch(
         function,
         mark,
         returns,
-        n as usize,
-    ) else {
-        return Did::Stop(Halt::Undef);
-    };
-    enter(
-        image,
-        owners,
-        codes,
-        numbers,
-        stack,
-        calls,
-        depth,
-        k,
-        at,
-        d,
-        v,
-        n as usize,
-    )
+        n,
+    ) {
+        Sought::Unknown => Did::Stuck,
+        Sought::Nowhere(_) => Did::Stop(Halt::Undef),
+        Sought::Passes(v, _) => enter(
+            image,
+            owners,
+            codes,
+            numbers,
+            stack,
+            calls,
+            depth,
+            k,
+            at,
+            d,
+            v,
+            n as usize,
+        ),
+    }
 }

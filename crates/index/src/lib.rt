@@ -154,6 +154,24 @@ fn entered(image: &[u8], index: &[u16; 1152], f: usize, w: usize, v: usize, b: u
     Found::At(p)
 }
 
+/// Where the block `b` of the version `w` of the function `f` stands, which stands itself at `v`. The index is the image's.
+/// Part of the loop, which keeps `index` the image's index: a test would cost each step.
+pub fn block_of(image: &[u8], index: &[u16; 1152], f: usize, w: usize, v: usize, b: usize) -> Found
+    requires { ⌜ Indexed (now image) (now index) × (versionPlace (now image) f w ≡ Found.At v) ⌝ }
+    ensures { λ r. ⌜ r ≡ blockPlace (now (image .entry)) v b ⌝ }
+{
+    if bounds::FUNCTIONS <= f {
+        return lookup::block(image, v, b);
+    }
+    if bounds::VERSIONS <= w {
+        return lookup::block(image, v, b);
+    }
+    if bounds::BLOCKS <= b {
+        return lookup::block(image, v, b);
+    }
+    entered(image, index, f, w, v, b)
+}
+
 /// Where the block `b` of the version at `v` stands. The index is the image's.
 /// Part of the loop, which keeps `index` the image's index: a test would cost each step.
 pub fn block(image: &[u8], index: &[u16; 1152], v: usize, b: usize) -> Found

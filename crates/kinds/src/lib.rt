@@ -34,15 +34,13 @@ fn promise_kind(
     if 32 <= f {
         return 0;
     }
-    let Found::At(v) = index::version(
-        image,
-        table,
-        layout::wide(owners[2 * f]),
-        layout::wide(owners[2 * f + 1]),
-    ) else {
+    let function = layout::wide(owners[2 * f]);
+    let version = layout::wide(owners[2 * f + 1]);
+    let Found::At(v) = index::version(image, table, function, version) else {
         return 0;
     };
-    let Found::At(b) = index::block(image, table, v, layout::wide(promises[3 * p + 1])) else {
+    let block = layout::wide(promises[3 * p + 1]);
+    let Found::At(b) = index::block_of(image, table, function, version, v, block) else {
         return 0;
     };
     types::PROMISE + layout::field(image, b, 0)

@@ -1,6 +1,7 @@
 -- Steps: how activations of calls and forces open and end.
 use mathlib.Core.List.{List, [], _∷_, map}
 use mathlib.Core.Bool.{Bool, true, false, not}
+use mathlib.Core.Option.{Option, none, some}
 use Prim.Native.Nat.{ℕ, zero, suc, _+_, _-_}
 use lib.ListN.{length, set}
 use lib.Dec.{eqb, leb, ltb}
@@ -98,6 +99,24 @@ lowest P f passes (suc n) w = elim (found (findVersion P f w) passes) [ true ↦
 -- the version that a DISPATCH picks, by the kinds of its arguments
 unfoldable pub picked : Program → ℕ → ℕ → ℕ → List Argument → List ℕ → Try Version
 picked P f mark ret pairs ks = lowest P f (dispatches mark ret pairs ks) VERSIONS 0
+
+-- 1 where the version is there, else 0
+unfoldable pub present : Option Version → ℕ
+present none = 0
+present (some W) = 1
+
+-- how many of n versions of the function f, from w on, the search looks at: up to the first that passes, else all that there are
+unfoldable pub looked : Program → ℕ → (Version → Bool) → ℕ → ℕ → ℕ
+looked P f passes zero w = 0
+looked P f passes (suc n) w = elim (found (findVersion P f w) passes) [ true ↦ 1 | false ↦ present (findVersion P f w) + looked P f passes n (suc w) ]
+
+-- 02, request 4: how many versions a DISPATCH looks at, by the kinds of its arguments
+unfoldable pub searched : Program → ℕ → ℕ → ℕ → List Argument → List ℕ → ℕ
+searched P f mark ret pairs ks = looked P f (dispatches mark ret pairs ks) VERSIONS 0
+
+-- how many versions the function f has: so many are looked at where none passes
+unfoldable pub versionsOf : Program → ℕ → ℕ
+versionsOf P f = looked P f (λ W. false) VERSIONS 0
 
 -- ---- forces
 

@@ -3,6 +3,7 @@ pub mod Values
 pub mod States
 pub mod Calls
 pub mod Steps
+pub mod Searches
 pub mod Runs
 pub mod Begin
 pub mod Changes

@@ -127,6 +127,12 @@ pub enum Changed {
     Refused(u8, u16),
 }
 
+/// Where a run stands at a DISPATCH: how many versions its search looks at, and how many the function has.
+pub enum Search {
+    Elsewhere,
+    Looked(u8, u8),
+}
+
 /// A run begun: its state before the first step; one without calls where it is refused.
 pub struct Begun {
     pub state: State,

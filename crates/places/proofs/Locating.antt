@@ -16,13 +16,11 @@ use Rattle.program.specs.Places.{blockAt, blockPlace, past, versionAt, versionP
 use Rattle.program.specs.Program.{findVersion}
 use Rattle.program.proofs.Lookups.{version-found, version-missing, block-found, block-missing}
 use Rattle.machine.specs.Begin.{programOf}
-use Rattle.machine.specs.Steps.{advance}
-use Rattle.machine.specs.Try.{stuck}
 use Rattle.memory.specs.Memory.{Memory, stateOf}
 use Rattle.memory.specs.Parts.{withOpen}
-use Rattle.places.specs.Standing.{Located, Spotted, Stands, nowhere, skipped, topOf}
+use Rattle.places.specs.Standing.{Astray, Located, Spotted, Stands, nowhere, skipped, topOf}
 use Rattle.places.specs.declared.Spot.{Spot}
-use Rattle.places.proofs.Standings.{skip-ahead, skip-none, stuck-idle, stuck-deep, stuck-dead, stuck-unframed, stuck-unknown, stuck-unblocked, stuck-over, stuck-short}
+use Rattle.places.proofs.Standings.{skip-ahead, skip-none, astray-idle, astray-deep, astray-dead, astray-unframed, astray-unknown, astray-unblocked, astray-over, astray-short}
 
 -- ---- look-ups
 
@@ -63,25 +61,25 @@ block-is s stack depth v n o b en found e = record { block = rw (← en) (block-
 -- ---- nowhere
 
 module _ (s owners stack : List ℕ) (calls depth : ℕ) (r : Spot) (none-there : r ≡ nowhere calls depth) where
-  stuck-spot : ((M : Memory) → advance (programOf s) (stateOf (withOpen M owners calls stack depth)) ≡ stuck) → Located s owners calls stack depth r
+  astray-spot : ((M : Memory) → Astray (programOf s) (stateOf (withOpen M owners calls stack depth))) → Located s owners calls stack depth r
   unfolding Located Stands nowhere withOpen
-  stuck-spot h M = subst (λ (x : Spot). Spotted s (withOpen M owners calls stack depth) x) (sym none-there) (record { calls = refl; depth = refl; stands = h M })
+  astray-spot h M = subst (λ (x : Spot). Spotted s (withOpen M owners calls stack depth) x) (sym none-there) (record { calls = refl; depth = refl; stands = h M })
 
   pub idle : depth ≡ 0 → Located s owners calls stack depth r
   unfolding withOpen
-  idle h = stuck-spot (λ M. stuck-idle s (withOpen M owners calls stack depth) h)
+  idle h = astray-spot (λ M. astray-idle s (withOpen M owners calls stack depth) h)
 
   pub deep : 32 < depth → Located s owners calls stack depth r
   unfolding withOpen
-  deep h = stuck-spot (λ M. stuck-deep s (withOpen M owners calls stack depth) h)
+  deep h = astray-spot (λ M. astray-deep s (withOpen M owners calls stack depth) h)
 
   pub dead : (k : ℕ) → (depth ≡ 0 → ⊥) → depth ≤ 32 → k ≡ stack ! (6 * (depth - 1) + 3) → calls ≤ k → Located s owners calls stack depth r
   unfolding withOpen topOf
-  dead k z h e g = let d : 0 < depth = omega (arith, z) in stuck-spot (λ M. stuck-dead s (withOpen M owners calls stack depth) d h (omega arith))
+  dead k z h e g = let d : 0 < depth = omega (arith, z) in astray-spot (λ M. astray-dead s (withOpen M owners calls stack depth) d h (omega arith))
 
   pub unframed : (k : ℕ) → (depth ≡ 0 → ⊥) → depth ≤ 32 → k ≡ stack ! (6 * (depth - 1) + 3) → 32 ≤ k → Located s owners calls stack depth r
   unfolding withOpen topOf
-  unframed k z h e g = let d : 0 < depth = omega (arith, z) in stuck-spot (λ M. stuck-unframed s (withOpen M owners calls stack depth) d h (omega arith))
+  unframed k z h e g = let d : 0 < depth = omega (arith, z) in astray-spot (λ M. astray-unframed s (withOpen M owners calls stack depth) d h (omega arith))
 
   module _ (k : ℕ) (q : Top stack calls depth k) where
     depth-begun : 0 < depth
@@ -89,25 +87,25 @@ module _ (s owners stack : List ℕ) (calls depth : ℕ) (r : Spot) (none-there 
 
     pub unknown : (f w : ℕ) (o : Found) → f ≡ owners ! (2 * k) → w ≡ owners ! (2 * k + 1) → o ≡ versionPlace s f w → o ≡ Nothing → Located s owners calls stack depth r
     unfolding withOpen topOf
-    unknown f w o ef ew found g = let e = owner-missing s owners k f w o ef ew found g in stuck-spot (λ M. stuck-unknown s (withOpen M owners calls stack depth) depth-begun (q .shallow) k (q .framed) (q .live) (q .few) e)
+    unknown f w o ef ew found g = let e = owner-missing s owners k f w o ef ew found g in astray-spot (λ M. astray-unknown s (withOpen M owners calls stack depth) depth-begun (q .shallow) k (q .framed) (q .live) (q .few) e)
 
     module _ (v : ℕ) (w : Owned s owners k v) where
       pub unblocked : (n : ℕ) (o : Found) → n ≡ stack ! (6 * (depth - 1) + 4) → o ≡ blockPlace s v n → o ≡ Nothing → Located s owners calls stack depth r
       unfolding withOpen topOf
       unblocked n o en found e =
           let g : getElem? (versionAt s v .blocks) (stack ! (6 * (depth - 1) + 4)) ≡ none = rw (← en) (block-missing s v n (sym found ∙ e)) in
-          stuck-spot (λ M. stuck-unblocked s (withOpen M owners calls stack depth) depth-begun (q .shallow) k (q .framed) (q .live) (q .few) v (w .version) g)
+          astray-spot (λ M. astray-unblocked s (withOpen M owners calls stack depth) depth-begun (q .shallow) k (q .framed) (q .live) (q .few) v (w .version) g)
 
       module _ (b : ℕ) (x : Blocked s stack depth v b) (n : ℕ) (nexted : n ≡ stack ! (6 * (depth - 1) + 5)) where
         pub over : 48 < n → Located s owners calls stack depth r
         unfolding withOpen topOf
-        over h = stuck-spot (λ M. stuck-over s (withOpen M owners calls stack depth) depth-begun (q .shallow) k (q .framed) (q .live) (q .few) v (w .version) b (x .block) (omega arith))
+        over h = astray-spot (λ M. astray-over s (withOpen M owners calls stack depth) depth-begun (q .shallow) k (q .framed) (q .live) (q .few) v (w .version) b (x .block) (omega arith))
 
         pub short : (o : Found) → o ≡ skipped s (past s b) n → o ≡ Nothing → Located s owners calls stack depth r
         unfolding withOpen topOf blockAt
         short o found e =
             let g : length (viewAt s (past s b) .code) < n = skip-none s (past s b) n (sym found ∙ e) in
-            stuck-spot (λ M. stuck-short s (withOpen M owners calls stack depth) depth-begun (q .shallow) k (q .framed) (q .live) (q .few) v (w .version) b (x .block) (omega arith))
+            astray-spot (λ M. astray-short s (withOpen M owners calls stack depth) depth-begun (q .shallow) k (q .framed) (q .live) (q .few) v (w .version) b (x .block) (omega arith))
 
 -- ---- at an instruction or at a block end
 

@@ -1,15 +1,16 @@
 -- Where a run stands: the instructions ahead of an offset, what the next step is, and where it stands behind an instruction.
 use mathlib.Core.Path.{_≡_, refl, sym, ap, _∙_}
 use mathlib.Core.List.{List, [], _∷_}
+use mathlib.Core.Logic.{inl, inr}
 use mathlib.Core.Option.{none, some}
-use mathlib.Core.Bool.{Bool, true, false, cond}
+use mathlib.Core.Bool.{Bool, true, false, cond, false≢true}
 use Prim.Native.Nat.{ℕ, zero, suc, _+_, _-_, _*_, _≤_, _<_}
 use native.Mathlib.Nat.{not-suc-le-zero, le-of-suc-le-suc}
 use native.Mathlib.Omega.{arith}
 use lib.ListN.{length, getElem?, set, take, drop, length-drop}
 use lib.Seq.{getD-set-same, getD-set-other, take-all, drop-drop}
-use lib.Dec.{eqb, leb}
-use borrow.Author.Tests.{eqb-true, leb-true}
+use lib.Dec.{eqb, leb, ltb}
+use borrow.Author.Tests.{eqb-true, leb-true, ltb-false}
 use Rattle.layout.proofs.Bools.{and-both}
 use Rattle.layout.specs.Kinds as kind
 use Rattle.layout.specs.Records.{_!_, recAt}
@@ -28,7 +29,7 @@ use Rattle.machine.specs.declared.Frame.{Frame}
 use Rattle.machine.specs.declared.State.{State}
 use Rattle.machine.specs.declared.Value.{Value}
 use Rattle.memory.specs.Memory.{Memory, activationIn, frameIn, stateOf}
-use Rattle.places.specs.Standing.{Reached, Spotted, Standing, Stands, isBefore, nowhere, skipped, topOf}
+use Rattle.places.specs.Standing.{Astray, Reached, Spotted, Standing, Stands, isBefore, nowhere, skipped, topOf}
 use Rattle.places.specs.declared.Spot.{Spot}
 use Rattle.machine.proofs.Tries.{at-some, at-none}
 use Rattle.memory.proofs.Frames.{frame-live, frame-dead, frame-outside}
@@ -231,47 +232,53 @@ module _ {M : Memory} {k : ℕ} (q : Framed M k) where
   unfolding activationIn frameIn topOf
   reaches s v b ev eb = here-got (programOf s) (stateOf M) (topIn M) (framedIn M k) (versionAt s v) (blockAt s b) (top-there M (q .begun) (q .shallow)) frame-there ev eb
 
--- ---- stuck: no activation, no frame, no version, no block, no place in it
+-- ---- nowhere: no activation, no frame, no version, no block, no place in it
 
 module _ (s : List ℕ) (M : Memory) where
-  pub stuck-idle : M .depth ≡ 0 → advance (programOf s) (stateOf M) ≡ stuck
-  unfolding stateOf
-  stuck-idle h = advance-stuck (programOf s) (stateOf M) (here-idle (programOf s) (stateOf M) (activation-none M h))
+  pub astray-idle : M .depth ≡ 0 → Astray (programOf s) (stateOf M)
+  unfolding Astray stateOf
+  astray-idle h = inl (here-idle (programOf s) (stateOf M) (activation-none M h))
 
-  pub stuck-deep : 32 < M .depth → advance (programOf s) (stateOf M) ≡ stuck
-  unfolding stateOf
-  stuck-deep h = advance-stuck (programOf s) (stateOf M) (here-idle (programOf s) (stateOf M) (activation-deep M h))
+  pub astray-deep : 32 < M .depth → Astray (programOf s) (stateOf M)
+  unfolding Astray stateOf
+  astray-deep h = inl (here-idle (programOf s) (stateOf M) (activation-deep M h))
 
   module _ (begun : 0 < M .depth) (shallow : M .depth ≤ 32) where
-    pub stuck-dead : M .calls ≤ topOf M 3 → advance (programOf s) (stateOf M) ≡ stuck
-    unfolding activationIn topOf
-    stuck-dead h = advance-stuck (programOf s) (stateOf M) (here-unframed (programOf s) (stateOf M) (topIn M) (top-there M begun shallow) (frame-dead M (topIn M .frame) h))
+    pub astray-dead : M .calls ≤ topOf M 3 → Astray (programOf s) (stateOf M)
+    unfolding Astray activationIn topOf
+    astray-dead h = inl (here-unframed (programOf s) (stateOf M) (topIn M) (top-there M begun shallow) (frame-dead M (topIn M .frame) h))
 
-    pub stuck-unframed : 32 ≤ topOf M 3 → advance (programOf s) (stateOf M) ≡ stuck
-    unfolding activationIn topOf
-    stuck-unframed h = advance-stuck (programOf s) (stateOf M) (here-unframed (programOf s) (stateOf M) (topIn M) (top-there M begun shallow) (frame-outside M (topIn M .frame) h))
+    pub astray-unframed : 32 ≤ topOf M 3 → Astray (programOf s) (stateOf M)
+    unfolding Astray activationIn topOf
+    astray-unframed h = inl (here-unframed (programOf s) (stateOf M) (topIn M) (top-there M begun shallow) (frame-outside M (topIn M .frame) h))
 
     module _ (k : ℕ) (framed : k ≡ topOf M 3) (live : k < M .calls) (few : k < 32) where
       in-frame : Framed M k
       in-frame = record { begun = begun; shallow = shallow; framed = framed; live = live; few = few }
 
-      pub stuck-unknown : findVersion (programOf s) (M .owners ! (2 * k)) (M .owners ! (2 * k + 1)) ≡ none → advance (programOf s) (stateOf M) ≡ stuck
-      unfolding frameIn
-      stuck-unknown e = advance-stuck (programOf s) (stateOf M) (here-unknown (programOf s) (stateOf M) (topIn M) (framedIn M k) (top-there M begun shallow) (frame-there in-frame) e)
+      pub astray-unknown : findVersion (programOf s) (M .owners ! (2 * k)) (M .owners ! (2 * k + 1)) ≡ none → Astray (programOf s) (stateOf M)
+      unfolding Astray frameIn
+      astray-unknown e = inl (here-unknown (programOf s) (stateOf M) (topIn M) (framedIn M k) (top-there M begun shallow) (frame-there in-frame) e)
 
       module _ (v : ℕ) (versioned : VersionIs s M k v) where
-        pub stuck-unblocked : getElem? (versionAt s v .blocks) (topOf M 4) ≡ none → advance (programOf s) (stateOf M) ≡ stuck
-        unfolding activationIn frameIn topOf
-        stuck-unblocked e = advance-stuck (programOf s) (stateOf M) (here-unblocked (programOf s) (stateOf M) (topIn M) (framedIn M k) (versionAt s v) (top-there M begun shallow) (frame-there in-frame) versioned e)
+        pub astray-unblocked : getElem? (versionAt s v .blocks) (topOf M 4) ≡ none → Astray (programOf s) (stateOf M)
+        unfolding Astray activationIn frameIn topOf
+        astray-unblocked e = inl (here-unblocked (programOf s) (stateOf M) (topIn M) (framedIn M k) (versionAt s v) (top-there M begun shallow) (frame-there in-frame) versioned e)
 
         module _ (b : ℕ) (blocked : getElem? (versionAt s v .blocks) (topOf M 4) ≡ some (blockAt s b)) where
-          pub stuck-over : 48 < topOf M 5 → advance (programOf s) (stateOf M) ≡ stuck
-          unfolding positionOf activationIn topOf proceed
-          stuck-over h = advance-got (programOf s) (stateOf M) (hereAt s M k v b) outside (reaches in-frame s v b versioned blocked) (position-over 48 (blockAt s b .code) (topIn M .next) h)
+          pub astray-over : 48 < topOf M 5 → Astray (programOf s) (stateOf M)
+          unfolding Astray positionOf activationIn topOf
+          astray-over h = inr (hereAt s M k v b, reaches in-frame s v b versioned blocked, position-over 48 (blockAt s b .code) (topIn M .next) h)
 
-          pub stuck-short : length (blockAt s b .code) < topOf M 5 → advance (programOf s) (stateOf M) ≡ stuck
-          unfolding positionOf activationIn topOf proceed
-          stuck-short h = advance-got (programOf s) (stateOf M) (hereAt s M k v b) outside (reaches in-frame s v b versioned blocked) (position-short 48 (blockAt s b .code) (topIn M .next) h)
+          pub astray-short : length (blockAt s b .code) < topOf M 5 → Astray (programOf s) (stateOf M)
+          unfolding Astray positionOf activationIn topOf
+          astray-short h = inr (hereAt s M k v b, reaches in-frame s v b versioned blocked, position-short 48 (blockAt s b .code) (topIn M .next) h)
+
+-- a step from there is stuck
+pub astray-stuck : (P : Program) (S : State) → Astray P S → advance P S ≡ stuck
+unfolding Astray proceed
+astray-stuck P S (inl e) = advance-stuck P S e
+astray-stuck P S (inr (h, e, f)) = advance-got P S h outside e f
 
 -- ---- a run at an instruction or at a block end
 
@@ -279,23 +286,23 @@ module _ (s : List ℕ) (M : Memory) (p : Spot) (q : Standing s M p) where
   stands-framed : Framed M (p .frame)
   stands-framed = record { begun = q .begun; shallow = q .shallow; framed = q .framed; live = q .live; few = q .few }
 
-  pub stands-here : here (programOf s) (stateOf M) ≡ got (record { activation = activationIn (M .stack) (M .depth - 1); frame = frameIn (M .owners) (M .codes) (M .numbers) (p .frame); version = versionAt s (p .version); block = blockAt s (p .block) })
+  abbrev pub standsIn : Here
+  standsIn = hereAt s M (p .frame) (p .version) (p .block)
+
+  pub stands-here : here (programOf s) (stateOf M) ≡ got standsIn
   stands-here = reaches stands-framed s (p .version) (p .block) (q .versioned) (q .blocked)
 
   -- its place in its block
-  stands-at : (x : Position) → position (take 48 (blockAt s (p .block) .code)) (p .next) ≡ x → advance (programOf s) (stateOf M) ≡ proceed (programOf s) (stateOf M) (record { activation = activationIn (M .stack) (M .depth - 1); frame = frameIn (M .owners) (M .codes) (M .numbers) (p .frame); version = versionAt s (p .version); block = blockAt s (p .block) }) x
+  stands-at : (x : Position) → position (take 48 (blockAt s (p .block) .code)) (p .next) ≡ x → positionOf standsIn ≡ x
   unfolding positionOf activationIn topOf
-  stands-at x e = advance-got (programOf s) (stateOf M) _ x stands-here (ap (position (take 48 (blockAt s (p .block) .code))) (sym (q .nexted)) ∙ e)
+  stands-at x e = ap (position (take 48 (blockAt s (p .block) .code))) (sym (q .nexted)) ∙ e
 
-  pub at-instruction : p .next < 48 → isLine s (p .at) ≡ true → advance (programOf s) (stateOf M) ≡ execute (programOf s) (passed (stateOf M) (activationIn (M .stack) (M .depth - 1))) (p .frame) (frameIn (M .owners) (M .codes) (M .numbers) (p .frame)) (versionAt s (p .version)) (instrAt s (p .at))
-  unfolding proceed activationIn topOf instrAt
-  at-instruction h l =
-      stands-at (instruction (instrAt s (p .at))) (position-taken 48 _ (p .next) h ∙ position-at _ (p .next) (lineOf (recAt s (p .at))) (viewAt s (past s (p .at)) .code) (sym (q .ahead) ∙ line-view s (p .at) l))
-      ∙ ap (λ k. execute (programOf s) (passed (stateOf M) (activationIn (M .stack) (M .depth - 1))) k (frameIn (M .owners) (M .codes) (M .numbers) (p .frame)) (versionAt s (p .version)) (instrAt s (p .at))) (sym (q .framed))
+  pub stands-instruction : p .next < 48 → isLine s (p .at) ≡ true → positionOf standsIn ≡ instruction (instrAt s (p .at))
+  unfolding instrAt
+  stands-instruction h l = stands-at _ (position-taken 48 _ (p .next) h ∙ position-at _ (p .next) (lineOf (recAt s (p .at))) (viewAt s (past s (p .at)) .code) (sym (q .ahead) ∙ line-view s (p .at) l))
 
-  pub at-end-full : 48 ≤ p .next → advance (programOf s) (stateOf M) ≡ (value (frameIn (M .owners) (M .codes) (M .numbers) (p .frame)) (blockAt s (p .block) .result) >>= λ (v : Value). finish (programOf s) (stateOf M) (activationIn (M .stack) (M .depth - 1)) (versionAt s (p .version)) v (activationIn (M .stack) (M .depth - 1) .opener))
-  unfolding proceed
-  at-end-full h = let e : p .next ≡ 48 = omega (arith, q .short) in stands-at blockEnd (position-full 48 (blockAt s (p .block) .code) (p .next) e (omega (arith, q .inside)))
+  stands-full : 48 ≤ p .next → positionOf standsIn ≡ blockEnd
+  stands-full h = let e : p .next ≡ 48 = omega (arith, q .short) in stands-at blockEnd (position-full 48 (blockAt s (p .block) .code) (p .next) e (omega (arith, q .inside)))
 
   -- no instruction is left
   code-done : isLine s (p .at) ≡ false → length (blockAt s (p .block) .code) ≡ p .next
@@ -303,11 +310,29 @@ module _ (s : List ℕ) (M : Memory) (p : Spot) (q : Standing s M p) where
       let e = ap length (sym (line-none s (p .at) l) ∙ q .ahead) ∙ length-drop (p .next) (blockAt s (p .block) .code) in
       omega (arith, e, q .inside)
 
-  pub at-end-short : isLine s (p .at) ≡ false → advance (programOf s) (stateOf M) ≡ (value (frameIn (M .owners) (M .codes) (M .numbers) (p .frame)) (blockAt s (p .block) .result) >>= λ (v : Value). finish (programOf s) (stateOf M) (activationIn (M .stack) (M .depth - 1)) (versionAt s (p .version)) v (activationIn (M .stack) (M .depth - 1) .opener))
-  unfolding proceed
-  at-end-short l =
+  stands-short : isLine s (p .at) ≡ false → positionOf standsIn ≡ blockEnd
+  stands-short l =
       let e = code-done l in
       stands-at blockEnd (ap (λ ls. position ls (p .next)) (take-all 48 (blockAt s (p .block) .code) (omega (arith, e, q .short))) ∙ position-end _ (p .next) e)
+
+  pub stands-end : (ltb (p .next) 48 and isLine s (p .at)) ≡ false → positionOf standsIn ≡ blockEnd
+  unfolding _and_
+  stands-end e = go (ltb (p .next) 48) refl e
+    where
+      go : (b : Bool) → ltb (p .next) 48 ≡ b → (b and isLine s (p .at)) ≡ false → positionOf standsIn ≡ blockEnd
+      go true h l = stands-short l
+      go false h l = stands-full (ltb-false _ _ h)
+
+  -- what the next step is
+  pub at-instruction : p .next < 48 → isLine s (p .at) ≡ true → advance (programOf s) (stateOf M) ≡ execute (programOf s) (passed (stateOf M) (activationIn (M .stack) (M .depth - 1))) (p .frame) (frameIn (M .owners) (M .codes) (M .numbers) (p .frame)) (versionAt s (p .version)) (instrAt s (p .at))
+  unfolding proceed activationIn topOf
+  at-instruction h l =
+      advance-got (programOf s) (stateOf M) standsIn (instruction (instrAt s (p .at))) stands-here (stands-instruction h l)
+      ∙ ap (λ k. execute (programOf s) (passed (stateOf M) (activationIn (M .stack) (M .depth - 1))) k (frameIn (M .owners) (M .codes) (M .numbers) (p .frame)) (versionAt s (p .version)) (instrAt s (p .at))) (sym (q .framed))
+
+  pub at-end : (ltb (p .next) 48 and isLine s (p .at)) ≡ false → advance (programOf s) (stateOf M) ≡ (value (frameIn (M .owners) (M .codes) (M .numbers) (p .frame)) (blockAt s (p .block) .result) >>= λ (v : Value). finish (programOf s) (stateOf M) (activationIn (M .stack) (M .depth - 1)) (versionAt s (p .version)) v (activationIn (M .stack) (M .depth - 1) .opener))
+  unfolding proceed
+  at-end e = advance-got (programOf s) (stateOf M) standsIn blockEnd stands-here (stands-end e)
 
 -- ---- from one memory to another
 
@@ -358,6 +383,24 @@ module _ (s : List ℕ) (M N : Memory) (p : Spot) (q : Standing s M p) (below : 
         ahead = code-past;
         reached = skip-more s (past s (p .block)) (p .next) (p .at) (q .reached) line;
       }
+
+-- ---- a spot says whether it is one
+
+pub stands-true : {s : List ℕ} {M : Memory} {p : Spot} → Spotted s M p → p .here ≡ true → Standing s M p
+unfolding Stands
+stands-true {s} {M} {p} q e = go (p .here) e (q .stands)
+  where
+    go : (b : Bool) → b ≡ true → Stands s M p b → Standing s M p
+    go true h x = x
+    go false h x = absurd (false≢true h)
+
+pub stands-false : {s : List ℕ} {M : Memory} {p : Spot} → Spotted s M p → p .here ≡ false → Astray (programOf s) (stateOf M)
+unfolding Stands
+stands-false {s} {M} {p} q e = go (p .here) e (q .stands)
+  where
+    go : (b : Bool) → b ≡ false → Stands s M p b → Astray (programOf s) (stateOf M)
+    go false h x = x
+    go true h x = absurd (false≢true (sym h))
 
 -- ---- a spot is reached
 

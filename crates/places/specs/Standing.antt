@@ -1,6 +1,7 @@
 -- Where a run stands in its image, by offsets.
 use mathlib.Core.List.{List}
 use mathlib.Core.Path.{_≡_}
+use mathlib.Core.Logic.{_⊎_}
 use mathlib.Core.Option.{some}
 use mathlib.Core.Bool.{Bool, true, false, cond}
 use Prim.Native.Nat.{ℕ, zero, suc, _+_, _-_, _*_, _<_, _≤_}
@@ -12,10 +13,11 @@ use Rattle.layout.specs.Tests.{_and_}
 use Rattle.layout.specs.declared.Found.{Found}
 use Rattle.layout.specs.declared.Found.the-variants.{Nothing, At}
 use Rattle.program.specs.Places.{blockAt, past, versionAt, viewAt, isLine}
-use Rattle.program.specs.Program.{findVersion}
+use Rattle.program.specs.Program.{Program, findVersion}
 use Rattle.machine.specs.Begin.{programOf}
-use Rattle.machine.specs.Steps.{advance}
-use Rattle.machine.specs.Try.{stuck}
+use Rattle.machine.specs.Steps.{Here, here, outside, positionOf}
+use Rattle.machine.specs.Try.{got, stuck}
+use Rattle.machine.specs.declared.State.{State}
 use Rattle.memory.specs.Memory.{Memory, stateOf}
 use Rattle.memory.specs.Parts.{withOpen}
 use Rattle.places.specs.declared.Spot.{Spot}
@@ -44,10 +46,14 @@ pub record Standing (s : List ℕ) (M : Memory) (p : Spot) : Type 0 where
   pub ahead : viewAt s (p .at) .code ≡ drop (p .next) (blockAt s (p .block) .code)
   pub reached : skipped s (past s (p .block)) (p .next) ≡ At (p .at)
 
--- where it is at neither, the next step is stuck
+-- a state that points outside itself or its image, or past the end of its block
+unfoldable pub Astray : Program → State → Type 0
+Astray P s = (here P s ≡ stuck) ⊎ ((h : Here) × (here P s ≡ got h) × (positionOf h ≡ outside))
+
+-- a run stands where its spot says, or nowhere
 unfoldable pub Stands : List ℕ → Memory → Spot → Bool → Type 0
 Stands s M p true = Standing s M p
-Stands s M p false = advance (programOf s) (stateOf M) ≡ stuck
+Stands s M p false = Astray (programOf s) (stateOf M)
 
 -- a spot at an instruction or a block end stands where the instructions before it end
 unfoldable pub Reached : List ℕ → Spot → Type 0

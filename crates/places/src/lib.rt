@@ -108,15 +108,13 @@ pub fn locate(
     if 32 <= f {
         return nowhere(calls, depth);
     }
-    let Found::At(v) = index::version(
-        image,
-        table,
-        layout::wide(owners[2 * f]),
-        layout::wide(owners[2 * f + 1]),
-    ) else {
+    let function = layout::wide(owners[2 * f]);
+    let version = layout::wide(owners[2 * f + 1]);
+    let Found::At(v) = index::version(image, table, function, version) else {
         return nowhere(calls, depth);
     };
-    let Found::At(b) = index::block(image, table, v, layout::wide(stack[6 * top + 4])) else {
+    let block = layout::wide(stack[6 * top + 4]);
+    let Found::At(b) = index::block_of(image, table, function, version, v, block) else {
         return nowhere(calls, depth);
     };
     let next = layout::wide(stack[6 * top + 5]);

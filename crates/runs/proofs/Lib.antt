@@ -4,3 +4,5 @@ pub mod Stops
 pub mod Lives
 pub mod History
 pub mod Splits
+pub mod Numbers
+pub mod Searches

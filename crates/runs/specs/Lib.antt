@@ -1,2 +1,3 @@
 pub mod Lives
 pub mod Splits
+pub mod Searches

@@ -1,11 +1,13 @@
 -- A turn of the loop and the run that is left.
 use mathlib.Core.Path.{_≡_, refl, sym, ap, _∙_}
 use mathlib.Core.List.{List, []}
+use mathlib.Core.Bool.{Bool, true, false, cond}
 use Prim.Native.Nat.{ℕ, suc, _+_, _-_, _<_, _≤_}
 use native.Mathlib.Numerals.{add-one}
 use native.Mathlib.Omega.{arith}
 use lib.IntN.{ℤ}
 use lib.ListN.{length}
+use lib.Dec.{ltb}
 use Rattle.program.specs.Program.{Program}
 use Rattle.machine.specs.Calls.{done}
 use Rattle.machine.specs.Runs.{continued, lastStep, runFrom, saying, settled, stepIn, stepOf}
@@ -19,11 +21,11 @@ use Rattle.memory.proofs.Heap.{vector-at}
 use Rattle.machine.specs.Begin.{programOf}
 use Rattle.memory.specs.Parts.{endOf, withOpen}
 use Rattle.memory.specs.declared.Halt.{Halt}
-use Rattle.places.specs.Standing.{Located, Spotted}
+use Rattle.places.specs.Standing.{Located, Reached, Spotted}
 use Rattle.places.specs.declared.Spot.{Spot}
 use Rattle.instructions.specs.declared.Turn.{Turn}
 use Rattle.stepping.specs.declared.Counted.{Counted}
-use Rattle.stepping.specs.Going.{Advanced, Goes, Placed, Ready, Resumes, Sized, Steps, nextSpot, ranOf}
+use Rattle.stepping.specs.Going.{Advanced, Goes, Placed, Ready, Resumes, Sized, Steps, backAt, nextSpot, ranOf}
 
 -- a budget that is left has a step
 left : (budget n : ℕ) → n < budget → budget - n ≡ suc (budget - (n + 1))
@@ -133,6 +135,16 @@ module _ (s : List ℕ) (budget : ℕ) (M : List ℤ → ℕ → ℕ → Memory)
 pub next-fits : (s : List ℕ) (N N′ : List ℤ → ℕ → ℕ → Memory) (q : Spot) → Steps s Turn.On N N′ q → q .next < 48
 unfolding Steps Advanced
 next-fits s N N′ q t = t [] .3
+
+-- ---- where a run goes on from
+
+pub back-reached : (s : List ℕ) (home spot : Spot) (depth : ℕ) → Reached s home → Reached s spot → Reached s (backAt home spot depth)
+unfolding backAt
+back-reached s home spot depth h r = go (ltb depth (spot .depth))
+  where
+    go : (b : Bool) → Reached s (cond b home spot)
+    go true = h
+    go false = r
 
 -- ---- before the first turn
 

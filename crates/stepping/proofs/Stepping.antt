@@ -21,20 +21,12 @@ use Rattle.memory.proofs.Stack.{passed-in}
 use Rattle.memory.specs.declared.Halt.{Halt}
 use Rattle.places.specs.Standing.{Spotted, Standing, Stands, topOf}
 use Rattle.places.specs.declared.Spot.{Spot}
-use Rattle.places.proofs.Standings.{at-end-full, at-end-short, at-instruction, next-line}
+use Rattle.places.proofs.Standings.{astray-stuck, at-end, at-instruction, next-line, stands-false, stands-true}
 use Rattle.ends.specs.Closing.{Closes, Ends, Fewer, blockEnded}
 use Rattle.ends.specs.declared.Closed.{Closed}
 use Rattle.instructions.specs.Turns.{Instructs, Turns}
 use Rattle.instructions.specs.declared.Turn.{Turn}
 use Rattle.stepping.specs.Going.{Advanced, Ready, Steps, closedOf, nextSpot}
-
-at-true : (s : List ℕ) (M : Memory) (p : Spot) (b : Bool) → b ≡ true → Stands s M p b → Standing s M p
-unfolding Stands
-at-true s M p true e x = x
-at-true s M p false e x = let z : _≡_ {A = Bool} true false = sym e in absurd (differ z)
-  where
-    differ : _≡_ {A = Bool} true false → ⊥
-    differ z = let y : _≡_ {A = ℕ} 0 1 = cc in omega (arith, y)
 
 set-back : (l : List ℕ) (i x y : ℕ) → l ! i ≡ y → set (set l i x) i y ≡ l
 set-back [] i x y e = refl
@@ -43,12 +35,12 @@ set-back (a ∷ l) (suc i) x y e = ap (λ (m : List ℕ). a ∷ m) (set-back l i
 
 -- where a run stands
 pub stands-there : (s : List ℕ) (M : List ℤ → ℕ → ℕ → Memory) (p : Spot) → Ready s M p → p .here ≡ true → (R : List ℤ) → Standing s (M R (p .calls) (p .depth)) p
-stands-there s M p r e R = at-true s (M R (p .calls) (p .depth)) p (p .here) e (r .stands R .1 .stands)
+stands-there s M p r e R = stands-true (r .stands R .1) e
 
 -- and where it stands nowhere
 pub step-nowhere : (s : List ℕ) (M : List ℤ → ℕ → ℕ → Memory) (p : Spot) → Ready s M p → p .here ≡ false → Steps s Turn.Stuck M M p
-unfolding Steps Advanced Stands
-step-nowhere s M p r e = λ R. (rw e at (r .stands R .1 .stands), refl)
+unfolding Steps Advanced
+step-nowhere s M p r e = λ R. (astray-stuck _ _ (stands-false (r .stands R .1) e), refl)
 
 -- ---- block ends
 
@@ -62,10 +54,9 @@ module _ (s owners codes : List ℕ) (numbers : List ℤ) (stack lengths : List 
   stands R = stands-there s (memoryOf owners codes numbers stack lengths items promises caches) p ready here R
 
   module _ (unlined : (ltb (p .next) 48 and isLine s (p .at)) ≡ false) where
-    ended : (R : List ℤ) (b : Bool) → ltb (p .next) 48 ≡ b → advance (programOf s) (stateOf (the R)) ≡ blockEnded s (the R) p
+    ended : (R : List ℤ) → advance (programOf s) (stateOf (the R)) ≡ blockEnded s (the R) p
     unfolding blockEnded
-    ended R true e = at-end-short s (the R) p (stands R) (sym (and-on (isLine s (p .at)) e) ∙ unlined)
-    ended R false e = at-end-full s (the R) p (stands R) (ltb-false (p .next) 48 e)
+    ended R = at-end s (the R) p (stands R) unlined
 
     closes : (r : Closed) (N : List ℤ → ℕ → ℕ → Memory) → Closes s r (memoryOf owners codes numbers stack lengths items promises caches) N p → (R : List ℤ) → Ends r (the R) (N R) (blockEnded s (the R) p)
     unfolding Closes the topOf memoryOf
@@ -76,16 +67,16 @@ module _ (s owners codes : List ℕ) (numbers : List ℤ) (stack lengths : List 
     unfolding Steps Advanced Ends Fewer closedOf the memoryOf
     step-end (Closed.Back n) N c f = λ R.
         let w = closes (Closed.Back n) N c R in
-        (ended R (ltb (p .next) 48) refl ∙ w .0, w .1, f, omega (arith, ready .depth))
+        (ended R ∙ w .0, w .1, f, omega (arith, ready .depth))
     step-end (Closed.Integer z) N c f = λ R.
         let w = closes (Closed.Integer z) N c R in
-        (ended R (ltb (p .next) 48) refl ∙ w .0, w .1)
+        (ended R ∙ w .0, w .1)
     step-end (Closed.Vector v) N c f = λ R.
         let w = closes (Closed.Vector v) N c R in
-        (ended R (ltb (p .next) 48) refl ∙ w .0, w .1, w .2)
+        (ended R ∙ w .0, w .1, w .2)
     step-end Closed.Stuck N c f = λ R.
         let w = closes Closed.Stuck N c R in
-        (ended R (ltb (p .next) 48) refl ∙ w .0, w .1)
+        (ended R ∙ w .0, w .1)
 
   -- ---- instructions
 

@@ -1,9 +1,11 @@
 -- Steps and budgets over flat arrays.
 use mathlib.Core.List.{List}
 use mathlib.Core.Path.{_≡_}
+use mathlib.Core.Bool.{cond}
 use Prim.Native.Nat.{ℕ, _+_, _-_, _<_}
 use lib.IntN.{ℤ}
 use lib.ListN.{length}
+use lib.Dec.{ltb}
 use Rattle.program.specs.Places.{past}
 use Rattle.machine.specs.Begin.{programOf}
 use Rattle.machine.specs.Calls.{closed, done}
@@ -96,3 +98,7 @@ closedOf (Closed.Back n) depth = Turn.Stack n (depth - 1)
 closedOf (Closed.Integer z) depth = Turn.Integer z
 closedOf (Closed.Vector v) depth = Turn.Vector v
 closedOf Closed.Stuck depth = Turn.Stuck
+
+-- where a run goes on from in the activation `depth`: behind one that ended, at `home`, where the last one was opened
+unfoldable pub backAt : Spot → Spot → ℕ → Spot
+backAt home spot depth = cond (ltb depth (spot .depth)) home spot

@@ -10,7 +10,7 @@ ghost use Rattle.machine.specs.Runs.{lastStep};
 ghost use Rattle.index.specs.Indexed.{Indexed};
 ghost use Rattle.memory.specs.Memory.{memoryOf};
 ghost use Rattle.memory.specs.Parts.{endOf};
-ghost use Rattle.stepping.specs.Going.{Ready, Steps, Goes, Resumes, Sized, closedOf};
+ghost use Rattle.stepping.specs.Going.{Ready, Steps, Goes, Resumes, Sized, backAt, closedOf};
 use ends::Closed;
 use instructions::Turn;
 use memory::Halt;
@@ -177,7 +177,15 @@ fn tally(turn: Turn, spot: Spot, steps: u32) -> Counted
     }
 }
 
-/// Steps from the spot on, at most `budget`.
+/// The spot that a run goes on from in the activation `depth`: behind one that ended, where the last one was opened.
+fn back_at(home: Spot, spot: Spot, depth: usize) -> Spot
+    ensures { λ r. ⌜ r ≡ backAt home spot depth ⌝ }
+{
+    if depth < spot.depth { home } else { spot }
+}
+
+/// Steps from the spot on, at most `budget`. `home` is where the run last opened an activation or skipped, so that it need not walk
+/// through a block from its start when it comes back.
 fn go(
     image: &[u8],
     table: &[u16; 1152],
@@ -196,6 +204,7 @@ fn go(
     ensures { λ r. ⌜ Goes (now (image .entry)) r (memoryOf (now (owners .entry)) (now (codes .entry)) (now (numbers .entry)) (now (stack .entry)) (now (lengths .entry)) (now (items .entry)) (now (promises .entry)) (now (caches .entry))) (memoryOf (now (owners .exit)) (now (codes .exit)) (now (numbers .exit)) (now (stack .exit)) (now (lengths .exit)) (now (items .exit)) (now (promises .exit)) (now (caches .exit))) from budget ⌝ }
 {
     let mut spot = from;
+    let mut home = from;
     let mut n: u32 = 0;
     while n < budget {
         match step(
@@ -217,7 +226,8 @@ fn go(
                 n += 1;
             }
             Turn::Stack(calls, depth) => {
-                spot = places::locate(image, table, owners, stack, calls, depth, spot);
+                home = back_at(home, spot, depth);
+                spot = places::locate(image, table, owners, stack, calls, depth, home);
                 n += 1;
             }
             Turn::Integer(z) => return tally(Turn::Integer(z), spot, n + 1),

@@ -12,20 +12,24 @@ use Rattle.calls.proofs.empty.Tie as tie
 use Rattle.calls.proofs.empty.Reads as reads
 use Rattle.calls.proofs.empty.Lts as lts
 use Rattle.program.proofs.decode.listed_register.Reads as listed-register-reads
-use Rattle.program.proofs.lookup.type_of.Reads as type-of-reads
+use Rattle.calls.proofs.type_in.Reads as type-in-reads
+use Rattle.layout.proofs.size_at.Reads as size-at-reads
 
 abbrev Inv-loop : tie.InvT-loop
-Inv-loop image at codes₀ k v n i₀ codes i = (i ≤ n) × (emptiedTo codes₀ k (versionAt image v .types) (listedRegisters (instrAt image at)) 0 n ≡ emptiedTo codes k (versionAt image v .types) (listedRegisters (instrAt image at)) i (n - i))
+Inv-loop image at codes₀ k v n size i₀ codes i = (i ≤ n) × (emptiedTo codes₀ k (versionAt image v .types) (listedRegisters (instrAt image at)) 0 n ≡ emptiedTo codes k (versionAt image v .types) (listedRegisters (instrAt image at)) i (n - i))
 
 abbrev μ-loop : tie.MeasureT-loop
-μ-loop image at codes₀ k v n i₀ codes i = n - i
+μ-loop image at codes₀ k v n size i₀ codes i = n - i
+
+size-at-requires : tie.Need-size-at-requires Inv-loop μ-loop
+size-at-requires c κs = search needs
 
 loop-holds : tie.Need-loop-holds Inv-loop μ-loop
 loop-holds c =
     (omega arith, ap (emptiedTo _ _ _ _ 0) (sym (all-left _)))
 
-type-of-requires : tie.Need-type-of-requires Inv-loop μ-loop
-type-of-requires c κs = search needs
+type-in-requires : tie.Need-type-in-requires Inv-loop μ-loop
+type-in-requires c κs = search needs
 
 mul-codes : tie.Need-mul-codes Inv-loop μ-loop
 mul-codes c = search needs
@@ -50,7 +54,7 @@ loop-less c = search needs
 
 loop-again : tie.Need-loop-again Inv-loop μ-loop
 loop-again c =
-    (omega (arith, (c .before .before .before .loop-test) .taken), (c .before .before .before .before .loop) .inv .1 ∙ emptied-one _ _ _ _ _ _ ((c .before .before .before .loop-test) .taken) ((c .before .before .type-of) .ensures .0) ((c .before .if1) .taken) ((c .listed-register) .ensures .0))
+    (omega (arith, (c .before .before .before .loop-test) .taken), (c .before .before .before .before .loop) .inv .1 ∙ emptied-one _ _ _ _ _ _ ((c .before .before .before .loop-test) .taken) ((c .before .before .type-in) .ensures .0) ((c .before .if1) .taken) ((c .listed-register) .ensures .0))
 
 add-i-2 : tie.Need-add-i-2 Inv-loop μ-loop
 add-i-2 c = search needs
@@ -60,7 +64,7 @@ loop-less-2 c = search needs
 
 loop-again-2 : tie.Need-loop-again-2 Inv-loop μ-loop
 loop-again-2 c =
-    (omega (arith, (c .before .before .loop-test) .taken), (c .before .before .before .loop) .inv .1 ∙ emptied-kept _ _ _ _ _ _ ((c .before .before .loop-test) .taken) ((c .before .type-of) .ensures .0) ((c .if1) .left))
+    (omega (arith, (c .before .before .loop-test) .taken), (c .before .before .before .loop) .inv .1 ∙ emptied-kept _ _ _ _ _ _ ((c .before .before .loop-test) .taken) ((c .before .type-in) .ensures .0) ((c .if1) .left))
 
 returns : tie.Need-returns Inv-loop μ-loop
 returns c =
@@ -72,8 +76,9 @@ empty-spec =
     (tie.spec
     Inv-loop
     μ-loop
+    size-at-requires
     loop-holds
-    type-of-requires
+    type-in-requires
     mul-codes
     listed-register-requires
     add-codes

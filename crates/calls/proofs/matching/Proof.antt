@@ -16,12 +16,16 @@ use Rattle.calls.proofs.matching.Reads as reads
 use Rattle.calls.proofs.matching.Lts as lts
 use Rattle.calls.proofs.fits.Reads as fits-reads
 use Rattle.calls.proofs.parameters_of.Reads as parameters-of-reads
+use Rattle.layout.proofs.size_at.Reads as size-at-reads
 
 abbrev Inv-loop : tie.InvT-loop
 Inv-loop image table owners codes promises calls k at v n i₀ i = (i ≤ n) × (allTo (λ j. fitsKind (argumentKind (programOf image) owners promises calls codes k (listedRegisters (instrAt image at) ! j)) (versionAt image v .types ! j)) 0 n ≡ allTo (λ j. fitsKind (argumentKind (programOf image) owners promises calls codes k (listedRegisters (instrAt image at) ! j)) (versionAt image v .types ! j)) i (n - i))
 
 abbrev μ-loop : tie.MeasureT-loop
 μ-loop image table owners codes promises calls k at v n i₀ i = n - i
+
+size-at-requires : tie.Need-size-at-requires Inv-loop μ-loop
+size-at-requires c κs = search needs
 
 parameters-of-requires : tie.Need-parameters-of-requires Inv-loop μ-loop
 parameters-of-requires c κs = search needs
@@ -61,6 +65,7 @@ matching-spec =
     (tie.spec
     Inv-loop
     μ-loop
+    size-at-requires
     parameters-of-requires
     returns
     loop-holds

@@ -17,24 +17,32 @@ use Rattle.calls.proofs.pass.Tie as tie
 use Rattle.calls.proofs.pass.Reads as reads
 use Rattle.calls.proofs.pass.Lts as lts
 use Rattle.calls.proofs.at_most.Reads as at-most-reads
-use Rattle.program.proofs.decode.listed_register.Reads as listed-register-reads
+use Rattle.calls.proofs.operand.Reads as operand-reads
+use Rattle.layout.proofs.kind_at.Reads as kind-at-reads
+use Rattle.layout.proofs.size_at.Reads as size-at-reads
 
 abbrev Inv-loop : tie.InvT-loop
-Inv-loop image at codes₀ numbers₀ k to n m i₀ codes numbers i = (i ≤ m) × (codes ≡ passedTo 0 codes₀ k to (listedRegisters (instrAt image at)) i) × (numbers ≡ passedTo (pos 0) numbers₀ k to (listedRegisters (instrAt image at)) i)
+Inv-loop image at codes₀ numbers₀ k to n m size kind i₀ codes numbers i = (i ≤ m) × (codes ≡ passedTo 0 codes₀ k to (listedRegisters (instrAt image at)) i) × (numbers ≡ passedTo (pos 0) numbers₀ k to (listedRegisters (instrAt image at)) i)
 
 abbrev μ-loop : tie.MeasureT-loop
-μ-loop image at codes₀ numbers₀ k to n m i₀ codes numbers i = m - i
+μ-loop image at codes₀ numbers₀ k to n m size kind i₀ codes numbers i = m - i
 
 at-most-requires : tie.Need-at-most-requires Inv-loop μ-loop
 at-most-requires c κs = search needs
+
+size-at-requires : tie.Need-size-at-requires Inv-loop μ-loop
+size-at-requires c κs = search needs
+
+kind-at-requires : tie.Need-kind-at-requires Inv-loop μ-loop
+kind-at-requires c κs = search needs
 
 loop-holds : tie.Need-loop-holds Inv-loop μ-loop
 unfolding passedTo
 loop-holds c =
     (omega arith, refl, refl)
 
-listed-register-requires : tie.Need-listed-register-requires Inv-loop μ-loop
-listed-register-requires c κs = search needs
+operand-requires : tie.Need-operand-requires Inv-loop μ-loop
+operand-requires c κs = search needs
 
 mul-codes : tie.Need-mul-codes Inv-loop μ-loop
 mul-codes c = search needs
@@ -72,14 +80,14 @@ mul-numbers-2 c = search needs
 element-copy-out-numbers : tie.Need-element-copy-out-numbers Inv-loop μ-loop
 element-copy-out-numbers c = search needs
 
-mul-t18 : tie.Need-mul-t18 Inv-loop μ-loop
-mul-t18 c = search needs
+mul-t20 : tie.Need-mul-t20 Inv-loop μ-loop
+mul-t20 c = search needs
 
-add-t13 : tie.Need-add-t13 Inv-loop μ-loop
-add-t13 c = search needs
+add-t15 : tie.Need-add-t15 Inv-loop μ-loop
+add-t15 c = search needs
 
-mul-t14 : tie.Need-mul-t14 Inv-loop μ-loop
-mul-t14 c = search needs
+mul-t16 : tie.Need-mul-t16 Inv-loop μ-loop
+mul-t16 c = search needs
 
 element-set-from-numbers : tie.Need-element-set-from-numbers Inv-loop μ-loop
 element-set-from-numbers c = search needs
@@ -92,12 +100,12 @@ loop-less c = search needs
 
 loop-again : tie.Need-loop-again Inv-loop μ-loop
 loop-again c =
-    let s : SFits w32 (getD (c .before .before .before .before .loop .numbers) (24 * c .before .before .before .before .before .before .before .args .k + (c .before .before .listed-register .result) % 16) (pos 0)) = search needs in
-    (omega (arith, (c .before .before .before .loop-test) .taken), passed-one _ _ _ _ _ _ ((c .before .before .before .before .loop) .inv .1) ((c .before .before .listed-register) .ensures .0), rw (toZ-ofZ s) (passed-one _ _ _ _ _ _ ((c .before .before .before .before .loop) .inv .2) ((c .before .before .listed-register) .ensures .0)))
+    let s : SFits w32 (getD (c .before .before .before .before .loop .numbers) (24 * c .before .before .before .before .before .before .before .before .before .args .k + (c .before .before .operand .result) % 16) (pos 0)) = search needs in
+    (omega (arith, (c .before .before .before .loop-test) .taken), passed-one _ _ _ _ _ _ ((c .before .before .before .before .loop) .inv .1) ((c .before .before .operand) .ensures), rw (toZ-ofZ s) (passed-one _ _ _ _ _ _ ((c .before .before .before .before .loop) .inv .2) ((c .before .before .operand) .ensures)))
 
 returns : tie.Need-returns Inv-loop μ-loop
 returns c =
-    (passed-all _ _ _ _ _ _ _ ((c .before .before .at-most) .ensures .0) ((c .before .loop) .inv .0) ((c .loop-test) .left) ((c .before .loop) .inv .1), passed-all _ _ _ _ _ _ _ ((c .before .before .at-most) .ensures .0) ((c .before .loop) .inv .0) ((c .loop-test) .left) ((c .before .loop) .inv .2))
+    (passed-all _ _ _ _ _ _ _ ((c .before .before .before .before .at-most) .ensures .0) ((c .before .loop) .inv .0) ((c .loop-test) .left) ((c .before .loop) .inv .1), passed-all _ _ _ _ _ _ _ ((c .before .before .before .before .at-most) .ensures .0) ((c .before .loop) .inv .0) ((c .loop-test) .left) ((c .before .loop) .inv .2))
 
 pub pass-spec : {M : Type 1} → statement M
 pass-spec =
@@ -106,8 +114,10 @@ pass-spec =
     Inv-loop
     μ-loop
     at-most-requires
+    size-at-requires
+    kind-at-requires
     loop-holds
-    listed-register-requires
+    operand-requires
     mul-codes
     add-codes
     mul-codes-2
@@ -120,9 +130,9 @@ pass-spec =
     add-numbers
     mul-numbers-2
     element-copy-out-numbers
-    mul-t18
-    add-t13
-    mul-t14
+    mul-t20
+    add-t15
+    mul-t16
     element-set-from-numbers
     add-i
     loop-less

@@ -1,55 +1,90 @@
--- `calls::pick`: what is left of the search is put to the versions from w on.
-use mathlib.Core.Path.{_≡_, refl, sym, _∙_}
-use native.Mathlib.Omega.{arith}
-use Prim.Native.Nat.{_-_, _≤_}
-use Rattle.program.specs.Shapes.{listedRegisters, listedTypes}
-use Rattle.program.specs.Places.{instrAt}
+-- `calls::pick`: what is left of the search, and of its count, is put to the versions from w on.
+use Rattle.calls.proofs.Searching.{Left, left-first, left-last, left-missing, left-unmet, left-met}
+use Rattle.calls.specs.Searching.{Picks, passesBy}
+use Rattle.kinds.proofs.Looking.{listed-missing, listed-found}
 use Rattle.machine.specs.Begin.{programOf}
-use Rattle.calls.specs.Entering.{lowestAt, passesIn}
-use Rattle.calls.proofs.Picking.{pick-met, pick-next, pick-none}
 use borrow.Author.Needs.{needs}
+use native.Mathlib.Omega.{arith}
+use Prim.Native.Nat.{_-_}
+use mathlib.Core.Path.{sym, _∙_}
 use Rattle.calls.proofs.pick.Statement.{statement}
 use Rattle.calls.proofs.pick.Tie as tie
 use Rattle.calls.proofs.pick.Reads as reads
 use Rattle.calls.proofs.pick.Lts as lts
-use Rattle.calls.proofs.passed.Reads as passed-reads
+use Rattle.calls.proofs.passes.Reads as passes-reads
+use Rattle.index.proofs.version.Reads as version-reads
 
 abbrev Inv-loop : tie.InvT-loop
-Inv-loop image table owners codes promises calls k at f mark returns n w₀ w = (w ≤ 4) × (lowestAt image f (passesIn (programOf image) owners promises calls codes k (listedTypes (instrAt image at)) (listedRegisters (instrAt image at)) mark returns n) 4 0 ≡ lowestAt image f (passesIn (programOf image) owners promises calls codes k (listedTypes (instrAt image at)) (listedRegisters (instrAt image at)) mark returns n) (4 - w) w)
+Inv-loop image table offered function mark returns n f w₀ looked₀ w looked = Left (programOf image) function (passesBy offered mark returns n) w looked
 
 abbrev μ-loop : tie.MeasureT-loop
-μ-loop image table owners codes promises calls k at f mark returns n w₀ w = 4 - w
+μ-loop image table offered function mark returns n f w₀ looked₀ w looked = 4 - w
 
 loop-holds : tie.Need-loop-holds Inv-loop μ-loop
 loop-holds c =
-    (omega arith, refl)
+    left-first _ _ _
 
-passed-requires : tie.Need-passed-requires Inv-loop μ-loop
-passed-requires c κs = search needs
+version-requires : tie.Need-version-requires Inv-loop μ-loop
+version-requires c κs =
+    search needs
 
 enum-known-v : tie.Need-enum-known-v Inv-loop μ-loop
-enum-known-v c = search needs
+enum-known-v c =
+    search needs
+
+passes-requires : tie.Need-passes-requires Inv-loop μ-loop
+passes-requires c κs =
+    ((c .before .before .before .before .before .before .before) .pre, sym ((c .before .before .before .version) .ensures) ∙ (c .before .v) .given .1)
+
+add-t15 : tie.Need-add-t15 Inv-loop μ-loop
+unfolding Left
+add-t15 c =
+    omega (arith, (c .before .before .before .before .before .before .before .loop) .inv .0, (c .before .before .before .before .before .before .before .loop) .inv .1)
 
 returns : tie.Need-returns Inv-loop μ-loop
+unfolding Picks
 returns c =
-    sym ((c .before .before .before .before .before .loop) .inv .1 ∙ pick-met _ _ _ _ _ ((c .before .before .before .before .loop-test) .taken) (sym ((c .before .before .before .passed) .ensures) ∙ (c .before .v) .given .1))
+    left-met _ _ _ _ _ ((c .before .before .before .before .before .before .loop-test) .taken) ((c .before .before .before .before .before .before .before .loop) .inv) _ (listed-found _ _ _ _ ((c .before .before .before .before .before .version) .ensures) _ ((c .before .before .before .v) .given .1)) (sym ((c .before .passes) .ensures) ∙ (c .if1) .taken)
 
-enum-told : tie.Need-enum-told Inv-loop μ-loop
-enum-told c = search needs
+add-looked : tie.Need-add-looked Inv-loop μ-loop
+unfolding Left
+add-looked c =
+    omega (arith, (c .before .before .before .before .before .before .before .loop) .inv .0, (c .before .before .before .before .before .before .before .loop) .inv .1)
 
 add-w : tie.Need-add-w Inv-loop μ-loop
-add-w c = search needs
+unfolding Left
+add-w c =
+    omega (arith, (c .before .before .before .before .before .before .before .loop) .inv .0, (c .before .before .before .before .before .before .before .loop) .inv .1)
 
 loop-less : tie.Need-loop-less Inv-loop μ-loop
-loop-less c = search needs
+loop-less c =
+    omega (arith, (c .before .before .before .before .before .before .loop-test) .taken)
 
 loop-again : tie.Need-loop-again Inv-loop μ-loop
 loop-again c =
-    (omega (arith, (c .before .before .before .loop-test) .taken), (c .before .before .before .before .loop) .inv .1 ∙ pick-next _ _ _ _ ((c .before .before .before .loop-test) .taken) (sym ((c .before .before .passed) .ensures) ∙ (c .enum-told) .given .1))
+    left-unmet _ _ _ _ _ ((c .before .before .before .before .before .before .loop-test) .taken) ((c .before .before .before .before .before .before .before .loop) .inv) _ (listed-found _ _ _ _ ((c .before .before .before .before .before .version) .ensures) _ ((c .before .before .before .v) .given .1)) (sym ((c .before .passes) .ensures) ∙ (c .if1) .left)
+
+enum-told : tie.Need-enum-told Inv-loop μ-loop
+enum-told c =
+    search needs
+
+add-w-2 : tie.Need-add-w-2 Inv-loop μ-loop
+unfolding Left
+add-w-2 c =
+    omega (arith, (c .before .before .before .before .loop) .inv .0, (c .before .before .before .before .loop) .inv .1)
+
+loop-less-2 : tie.Need-loop-less-2 Inv-loop μ-loop
+loop-less-2 c =
+    omega (arith, (c .before .before .before .loop-test) .taken)
+
+loop-again-2 : tie.Need-loop-again-2 Inv-loop μ-loop
+loop-again-2 c =
+    left-missing _ _ _ _ _ ((c .before .before .before .loop-test) .taken) ((c .before .before .before .before .loop) .inv) (listed-missing _ _ _ _ ((c .before .before .version) .ensures) ((c .enum-told) .given .1))
 
 returns-2 : tie.Need-returns-2 Inv-loop μ-loop
+unfolding Picks
 returns-2 c =
-    sym ((c .before .loop) .inv .1 ∙ pick-none _ _ _ _ ((c .loop-test) .left))
+    left-last _ _ _ _ _ ((c .loop-test) .left) ((c .before .loop) .inv)
 
 pub pick-spec : {M : Type 1} → statement M
 pick-spec =
@@ -58,11 +93,17 @@ pick-spec =
     Inv-loop
     μ-loop
     loop-holds
-    passed-requires
+    version-requires
     enum-known-v
+    passes-requires
+    add-t15
     returns
-    enum-told
+    add-looked
     add-w
     loop-less
     loop-again
+    enum-told
+    add-w-2
+    loop-less-2
+    loop-again-2
     returns-2)

@@ -3,6 +3,7 @@ use Rattle.places.proofs.Locating.{owner-found, block-is, idle, deep, d
 use Rattle.places.proofs.locate.Statement.{statement}
 use Rattle.places.proofs.locate.Tie as tie
 use borrow.Author.Needs.{needs}
+use mathlib.Core.Path.{sym, _∙_}
 
 nowhere-requires : tie.Need-nowhere-requires
 nowhere-requires c κs = search needs
@@ -96,8 +97,8 @@ element-copy-out-wide-4 c = search needs
 wide-requires-4 : tie.Need-wide-requires-4
 wide-requires-4 c κs = search needs
 
-block-requires : tie.Need-block-requires
-block-requires c κs = (c .before .before .before .before .before .before .before .before .before .before .before .before .before .before .before .before .before) .pre .0
+block-of-requires : tie.Need-block-of-requires
+block-of-requires c κs = ((c .before .before .before .before .before .before .before .before .before .before .before .before .before .before .before .before .before) .pre .0, sym ((c .before .before .before .before .before .version) .ensures) ∙ (c .before .before .before .v) .given .1)
 
 enum-known-b : tie.Need-enum-known-b
 enum-known-b c = search needs
@@ -110,7 +111,7 @@ nowhere-requires-6 c κs = search needs
 
 returns-6 : tie.Need-returns-6
 returns-6 c =
-    unblocked _ _ _ _ _ _ ((c .nowhere6) .ensures) _ (record { begun = (c .before .before .before .before .before .before .before .before .before .before .before .before .before .before .before .before .before .before .before .if1) .left; shallow = (c .before .before .before .before .before .before .before .before .before .before .before .before .before .before .before .before .before .before .if2) .left; framed = (c .before .before .before .before .before .before .before .before .before .before .before .before .before .before .before .before .wide) .ensures .0; live = (c .before .before .before .before .before .before .before .before .before .before .before .before .before .before .before .if3) .left; few = (c .before .before .before .before .before .before .before .before .before .before .before .before .before .before .if4) .left }) _ (owner-found _ _ _ _ _ _ ((c .before .before .before .before .before .before .before .before .before .before .before .before .wide2) .ensures .0) ((c .before .before .before .before .before .before .before .before .before .before .wide3) .ensures .0) ((c .before .before .before .before .before .before .before .before .before .version) .ensures) _ ((c .before .before .before .before .before .before .before .v) .given .1)) _ _ ((c .before .before .before .before .wide4) .ensures .0) ((c .before .before .before .block) .ensures) ((c .before .enum-told2) .given .1)
+    unblocked _ _ _ _ _ _ ((c .nowhere6) .ensures) _ (record { begun = (c .before .before .before .before .before .before .before .before .before .before .before .before .before .before .before .before .before .before .before .if1) .left; shallow = (c .before .before .before .before .before .before .before .before .before .before .before .before .before .before .before .before .before .before .if2) .left; framed = (c .before .before .before .before .before .before .before .before .before .before .before .before .before .before .before .before .wide) .ensures .0; live = (c .before .before .before .before .before .before .before .before .before .before .before .before .before .before .before .if3) .left; few = (c .before .before .before .before .before .before .before .before .before .before .before .before .before .before .if4) .left }) _ (owner-found _ _ _ _ _ _ ((c .before .before .before .before .before .before .before .before .before .before .before .before .wide2) .ensures .0) ((c .before .before .before .before .before .before .before .before .before .before .wide3) .ensures .0) ((c .before .before .before .before .before .before .before .before .before .version) .ensures) _ ((c .before .before .before .before .before .before .before .v) .given .1)) _ _ ((c .before .before .before .before .wide4) .ensures .0) ((c .before .before .before .block-of) .ensures) ((c .before .enum-told2) .given .1)
 
 mul-wide-5 : tie.Need-mul-wide-5
 mul-wide-5 c = search needs
@@ -129,7 +130,7 @@ nowhere-requires-7 c κs = search needs
 
 returns-7 : tie.Need-returns-7
 returns-7 c =
-    over _ _ _ _ _ _ ((c .nowhere7) .ensures) _ (record { begun = (c .before .before .before .before .before .before .before .before .before .before .before .before .before .before .before .before .before .before .before .before .before .before .before .if1) .left; shallow = (c .before .before .before .before .before .before .before .before .before .before .before .before .before .before .before .before .before .before .before .before .before .before .if2) .left; framed = (c .before .before .before .before .before .before .before .before .before .before .before .before .before .before .before .before .before .before .before .before .wide) .ensures .0; live = (c .before .before .before .before .before .before .before .before .before .before .before .before .before .before .before .before .before .before .before .if3) .left; few = (c .before .before .before .before .before .before .before .before .before .before .before .before .before .before .before .before .before .before .if4) .left }) _ (owner-found _ _ _ _ _ _ ((c .before .before .before .before .before .before .before .before .before .before .before .before .before .before .before .before .wide2) .ensures .0) ((c .before .before .before .before .before .before .before .before .before .before .before .before .before .before .wide3) .ensures .0) ((c .before .before .before .before .before .before .before .before .before .before .before .before .before .version) .ensures) _ ((c .before .before .before .before .before .before .before .before .before .before .before .v) .given .1)) _ (block-is _ _ _ _ _ _ _ ((c .before .before .before .before .before .before .before .before .wide4) .ensures .0) ((c .before .before .before .before .before .before .before .block) .ensures) ((c .before .before .before .before .before .b) .given .1)) _ ((c .before .before .wide5) .ensures .0) ((c .before .if5) .taken)
+    over _ _ _ _ _ _ ((c .nowhere7) .ensures) _ (record { begun = (c .before .before .before .before .before .before .before .before .before .before .before .before .before .before .before .before .before .before .before .before .before .before .before .if1) .left; shallow = (c .before .before .before .before .before .before .before .before .before .before .before .before .before .before .before .before .before .before .before .before .before .before .if2) .left; framed = (c .before .before .before .before .before .before .before .before .before .before .before .before .before .before .before .before .before .before .before .before .wide) .ensures .0; live = (c .before .before .before .before .before .before .before .before .before .before .before .before .before .before .before .before .before .before .before .if3) .left; few = (c .before .before .before .before .before .before .before .before .before .before .before .before .before .before .before .before .before .before .if4) .left }) _ (owner-found _ _ _ _ _ _ ((c .before .before .before .before .before .before .before .before .before .before .before .before .before .before .before .before .wide2) .ensures .0) ((c .before .before .before .before .before .before .before .before .before .before .before .before .before .before .wide3) .ensures .0) ((c .before .before .before .before .before .before .before .before .before .before .before .before .before .version) .ensures) _ ((c .before .before .before .before .before .before .before .before .before .before .before .v) .given .1)) _ (block-is _ _ _ _ _ _ _ ((c .before .before .before .before .before .before .before .before .wide4) .ensures .0) ((c .before .before .before .before .before .before .before .block-of) .ensures) ((c .before .before .before .before .before .b) .given .1)) _ ((c .before .before .wide5) .ensures .0) ((c .before .if5) .taken)
 
 reach-requires : tie.Need-reach-requires
 reach-requires c κs =
@@ -147,13 +148,13 @@ nowhere-requires-8 c κs = search needs
 returns-8 : tie.Need-returns-8
 returns-8 c =
     let owned = owner-found _ _ _ _ _ _ ((c .before .before .before .before .before .before .before .before .before .before .before .before .before .before .before .before .before .before .before .wide2) .ensures .0) ((c .before .before .before .before .before .before .before .before .before .before .before .before .before .before .before .before .before .wide3) .ensures .0) ((c .before .before .before .before .before .before .before .before .before .before .before .before .before .before .before .before .version) .ensures) _ ((c .before .before .before .before .before .before .before .before .before .before .before .before .before .before .v) .given .1) in
-    let blocked = block-is _ _ _ _ _ _ _ ((c .before .before .before .before .before .before .before .before .before .before .before .wide4) .ensures .0) ((c .before .before .before .before .before .before .before .before .before .before .block) .ensures) ((c .before .before .before .before .before .before .before .before .b) .given .1) in
+    let blocked = block-is _ _ _ _ _ _ _ ((c .before .before .before .before .before .before .before .before .before .before .before .wide4) .ensures .0) ((c .before .before .before .before .before .before .before .before .before .before .block-of) .ensures) ((c .before .before .before .before .before .before .before .before .b) .given .1) in
     short _ _ _ _ _ _ ((c .nowhere8) .ensures) _ (record { begun = (c .before .before .before .before .before .before .before .before .before .before .before .before .before .before .before .before .before .before .before .before .before .before .before .before .before .before .if1) .left; shallow = (c .before .before .before .before .before .before .before .before .before .before .before .before .before .before .before .before .before .before .before .before .before .before .before .before .before .if2) .left; framed = (c .before .before .before .before .before .before .before .before .before .before .before .before .before .before .before .before .before .before .before .before .before .before .before .wide) .ensures .0; live = (c .before .before .before .before .before .before .before .before .before .before .before .before .before .before .before .before .before .before .before .before .before .before .if3) .left; few = (c .before .before .before .before .before .before .before .before .before .before .before .before .before .before .before .before .before .before .before .before .before .if4) .left }) _ owned _ blocked _ ((c .before .before .before .before .before .wide5) .ensures .0) _ ((c .before .before .before .reach) .ensures) ((c .before .enum-told3) .given .1)
 
 returns-9 : tie.Need-returns-9
 returns-9 c =
     let owned = owner-found _ _ _ _ _ _ ((c .before .before .before .before .before .before .before .before .before .before .before .before .before .before .before .before .before .before .before .wide2) .ensures .0) ((c .before .before .before .before .before .before .before .before .before .before .before .before .before .before .before .before .before .wide3) .ensures .0) ((c .before .before .before .before .before .before .before .before .before .before .before .before .before .before .before .before .version) .ensures) _ ((c .before .before .before .before .before .before .before .before .before .before .before .before .before .before .v) .given .1) in
-    let blocked = block-is _ _ _ _ _ _ _ ((c .before .before .before .before .before .before .before .before .before .before .before .wide4) .ensures .0) ((c .before .before .before .before .before .before .before .before .before .before .block) .ensures) ((c .before .before .before .before .before .before .before .before .b) .given .1) in
+    let blocked = block-is _ _ _ _ _ _ _ ((c .before .before .before .before .before .before .before .before .before .before .before .wide4) .ensures .0) ((c .before .before .before .before .before .before .before .before .before .before .block-of) .ensures) ((c .before .before .before .before .before .before .before .before .b) .given .1) in
     there _ _ _ _ _ _ (record { begun = (c .before .before .before .before .before .before .before .before .before .before .before .before .before .before .before .before .before .before .before .before .before .before .before .before .before .before .if1) .left; shallow = (c .before .before .before .before .before .before .before .before .before .before .before .before .before .before .before .before .before .before .before .before .before .before .before .before .before .if2) .left; framed = (c .before .before .before .before .before .before .before .before .before .before .before .before .before .before .before .before .before .before .before .before .before .before .before .wide) .ensures .0; live = (c .before .before .before .before .before .before .before .before .before .before .before .before .before .before .before .before .before .before .before .before .before .before .if3) .left; few = (c .before .before .before .before .before .before .before .before .before .before .before .before .before .before .before .before .before .before .before .before .before .if4) .left }) _ owned _ blocked _ ((c .before .before .before .before .before .wide5) .ensures .0) ((c .before .before .before .before .if5) .left) _ _ ((c .before .before .before .reach) .ensures) ((c .before .p) .given .1)
 
 pub locate-spec : {M : Type 1} → statement M
@@ -189,7 +190,7 @@ locate-spec =
     add-wide-3
     element-copy-out-wide-4
     wide-requires-4
-    block-requires
+    block-of-requires
     enum-known-b
     enum-told-2
     nowhere-requires-6
