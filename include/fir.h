@@ -10,9 +10,9 @@
  *   - A pointer to a fir_state points to one, aligned as fir_state_alignment says. Its content may be anything.
  *   - What a call writes (a state, a text, a result buffer) overlaps nothing else that the call is lent.
  *   - Nobody else reads or writes what is lent until the call returns.
- *   - A step, a budget and, as its old image, fir_change are lent the image in force: the one that the run was begun with,
- *     or the last one that fir_change accepted for it. The caller keeps it, byte for byte, until another is accepted or the
- *     run is given up.
+ *   - A step, a budget, fir_search and, as its old image, fir_change are lent the image in force: the one that the run was
+ *     begun with, or the last one that fir_change accepted for it. The caller keeps it, byte for byte, until another is
+ *     accepted or the run is given up.
  * Nothing of this can be tested by the library. All else is: every image, entry, argument list, budget, buffer and state
  * gets an answer that is listed here, and nothing outside the lent memory is read or written.
  */
@@ -207,6 +207,19 @@ typedef struct fir_value {
 /* What the place of a live call holds: registers are the places 0 to 15, names the places 16 to 23; calls are numbered from
  * the oldest, 0. */
 fir_value fir_look(const fir_state *state, size_t call, size_t place);
+
+/* What the search of a DISPATCH comes to: how many versions it looks at, and how many the function has. */
+typedef struct fir_searched {
+    uint8_t dispatch; /* 1 where the state stands at a DISPATCH; else 0, and the others are 0 */
+    uint8_t looked;   /* the number of the version that is called plus 1, or all of the function where none fits */
+    uint8_t versions; /* how many versions the function has */
+} fir_searched;
+
+/* What the search of the DISPATCH comes to that the state stands at, ended or not: where its next step is one, where it was
+ * UNDEF since no version fits, or stopped with DEEP. A run that is DONE stands nowhere. Nothing is written and no step is
+ * taken. Where the state is none of a run under this image, `dispatch` is 0 for a DISPATCH with an argument that is not
+ * there. */
+fir_searched fir_search(const uint8_t *image, size_t image_length, const fir_state *state);
 
 #ifdef __cplusplus
 }

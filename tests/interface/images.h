@@ -11,7 +11,7 @@ typedef struct image {
     size_t length;
 } image;
 
-static void record(image *to, unsigned kind, const uint8_t *body, size_t length)
+static inline void record(image *to, unsigned kind, const uint8_t *body, size_t length)
 {
     uint8_t *at = to->bytes + to->length;
     at[0] = (uint8_t)((length + 4) & 255);
@@ -31,7 +31,7 @@ static void record(image *to, unsigned kind, const uint8_t *body, size_t length)
 enum { VERSION = 1, BLOCK = 2, LIT = 16, VEC = 20, ARITH = 24, SELECT = 25, PROM = 29, FORCE = 30, CALL = 33, DISPATCH = 34 };
 
 /* r0 counted down to 0 by a call of itself through an arithmetic of `busy` instructions: long runs, deep calls. */
-static void countdown(image *to, unsigned busy)
+static inline void countdown(image *to, unsigned busy)
 {
     unsigned i;
     to->length = 0;
@@ -45,7 +45,7 @@ static void countdown(image *to, unsigned busy)
 }
 
 /* Straight arithmetic of 47 instructions in each of `functions` functions, each calling the next. */
-static void chain(image *to, unsigned functions)
+static inline void chain(image *to, unsigned functions)
 {
     unsigned f, i;
     to->length = 0;
@@ -63,7 +63,7 @@ static void chain(image *to, unsigned functions)
 }
 
 /* Seven promise blocks, each made and forced by the one before it, and a dispatch at the end. */
-static void nested(image *to)
+static inline void nested(image *to)
 {
     unsigned b;
     to->length = 0;
@@ -79,6 +79,26 @@ static void nested(image *to)
     }
     RECORD(to, VERSION, 1, 0, 1, 1, 2, 1, 2);
     RECORD(to, BLOCK, 0, 0, 0);
+}
+
+#define SEARCH_STEPS 2 /* the steps of 0.0 of `searching` before its DISPATCH */
+
+/* 0.0 dispatches a literal and 7 promises on function 1. Of its `versions` versions all but `fitting` take a vector in
+ * place of the last promise; none fits where `fitting` is as many. */
+static inline void searching(image *to, unsigned versions, unsigned fitting)
+{
+    unsigned v;
+    to->length = 0;
+    RECORD(to, VERSION, 0, 0, 1, 2, 2, 2, 2, 4);
+    RECORD(to, BLOCK, 0, 0, 3);
+    RECORD(to, LIT, 0, 1, 0, 0, 0);
+    RECORD(to, PROM, 1, 1);
+    RECORD(to, DISPATCH, 0, 1, 0, 2, 8, 2, 0, 0, 1, 0, 1, 0, 1, 0, 1, 0, 1, 0, 1, 0, 1);
+    RECORD(to, BLOCK, 0, 0, 0);
+    for (v = 0; v < versions; v++) {
+        RECORD(to, VERSION, 1, (uint8_t)v, 8, 8, 2, 1, 2, 4, 4, 4, 4, 4, 4, v == fitting ? 4 : 3);
+        RECORD(to, BLOCK, 0, 0, 0);
+    }
 }
 
 #endif

@@ -55,6 +55,10 @@ int main(void)
     same("sizeof fir_value", sizeof(fir_value), 8);
     AT(fir_value, kind, 4);
     AT(fir_value, place, 5);
+    same("sizeof fir_searched", sizeof(fir_searched), 3);
+    AT(fir_searched, dispatch, 0);
+    AT(fir_searched, looked, 1);
+    AT(fir_searched, versions, 2);
     printf("layout: %u passed\n", tests);
     return 0;
 }

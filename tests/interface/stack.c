@@ -15,6 +15,8 @@
 static image tried;
 static fir_state state;
 static fir_state midway; /* of a run with live calls */
+static image searched;
+static fir_state at_dispatch; /* of a run that no version of four fits */
 static int32_t buffer[FIR_ITEMS];
 static const int32_t words[] = {-1, 40};
 static uint8_t text[1u << 16];
@@ -28,6 +30,12 @@ static void budget(void) { fir_budget(tried.bytes, tried.length, &state, 100000,
 static void run(void) { fir_run(tried.bytes, tried.length, 0, 0, words, 2, 100000, buffer, FIR_ITEMS, &state); }
 static void change(void) { fir_change(tried.bytes, tried.length, tried.bytes, tried.length, &midway); }
 static void look(void) { fir_look(&state, 0, 3); }
+
+static void search(void)
+{
+    fir_search(searched.bytes, searched.length, &at_dispatch);
+    fir_search(tried.bytes, tried.length, &midway);
+}
 
 /* Runs that are refused by 11, 12 and 13, and changes that are refused by 1 and by 15. */
 static void refusals(void)
@@ -71,11 +79,17 @@ int main(void)
         void (*function)(void);
     } calls[] = {{"fir_check", check}, {"fir_report", report}, {"fir_begin", begin}, {"fir_step", step},
                  {"fir_budget", budget}, {"fir_run", run}, {"fir_change", change}, {"fir_look", look},
-                 {"refusals", refusals}};
+                 {"fir_search", search}, {"refusals", refusals}};
     size_t least = depth(nothing);
     size_t deepest[sizeof calls / sizeof *calls] = {0};
     size_t i, kind;
     int failed = 0;
+    searching(&searched, FIR_VERSIONS, FIR_VERSIONS);
+    fir_run(searched.bytes, searched.length, 0, 0, words, 2, SEARCH_STEPS, buffer, FIR_ITEMS, &at_dispatch);
+    if (fir_search(searched.bytes, searched.length, &at_dispatch).looked != FIR_VERSIONS) {
+        printf("stack: a run stands at no search\n");
+        return 1;
+    }
     for (kind = 0; kind < 3; kind++) {
         if (kind == 0)
             countdown(&tried, 40);

@@ -50,6 +50,12 @@ pub fn change(run: &mut Run, image: Vec<u8>) -> Result<(), Refusal> {
     run.change(image).map_err(refusal)
 }
 
+/// How many versions the DISPATCH looks at that the run stands at, and of how many.
+pub fn search(run: &Run) -> Option<(u8, u8)> {
+    let search = run.search()?;
+    Some((search.looked as u8, search.versions as u8))
+}
+
 /// A run from its start, its answer, and the steps taken; it is untouched where
 /// it is refused.
 pub fn run<'i>(

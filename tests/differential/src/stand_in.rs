@@ -8,10 +8,10 @@
 use crate::snapshot::{state_of, untouched, EMPTY, FILLING, INTEGER, PROMISED, VECTOR};
 use library::State as Snapshot;
 use library::{
-    FirAnswer, FirEntry, FirSaid, FirValue, FirVerdict, ACTIVATION, CELLS, FIR_ACCEPTED, FIR_DEEP,
-    FIR_INTEGER, FIR_IS_INTEGER, FIR_IS_PROMISE, FIR_IS_VECTOR, FIR_NOTHING, FIR_OUTSIDE,
-    FIR_PROMISES, FIR_REFUSED, FIR_STEPS, FIR_STUCK, FIR_UNDEF, FIR_VECTOR, FIR_VECTORS, OWNER,
-    PROMISE,
+    FirAnswer, FirEntry, FirSaid, FirSearched, FirValue, FirVerdict, ACTIVATION, CELLS,
+    FIR_ACCEPTED, FIR_DEEP, FIR_INTEGER, FIR_IS_INTEGER, FIR_IS_PROMISE, FIR_IS_VECTOR,
+    FIR_NOTHING, FIR_OUTSIDE, FIR_PROMISES, FIR_REFUSED, FIR_STEPS, FIR_STUCK, FIR_UNDEF,
+    FIR_VECTOR, FIR_VECTORS, OWNER, PROMISE,
 };
 use reference::bounds::{ITEMS, REGISTERS};
 use reference::state::Opener;
@@ -331,5 +331,21 @@ unsafe extern "C" fn fir_look(state: *const Snapshot, call: usize, place: usize)
         number,
         kind,
         place,
+    }
+}
+
+#[no_mangle]
+unsafe extern "C" fn fir_search(
+    image: *const u8,
+    image_length: usize,
+    state: *const Snapshot,
+) -> FirSearched {
+    let program = program(lent(image, image_length));
+    let state = state_of(&*state).ok();
+    let search = state.and_then(|state| state.search(program.as_ref().ok()?));
+    FirSearched {
+        dispatch: search.is_some().into(),
+        looked: search.map_or(0, |search| search.looked()),
+        versions: search.map_or(0, |search| search.versions),
     }
 }

@@ -275,3 +275,87 @@ fn a_done_run_may_go_on_under_any_accepted_image() {
         changes(&adding(1), 9, &new, Ok(()), 5 + 1 + 1);
     }
 }
+
+/// 0.0 makes a promise and dispatches: its argument, the promise, and nothing, on
+/// function 1, which has these versions of one parameter.
+fn searching(versions: &[&str]) -> String {
+    let mut text = "version 0.0(r0: value) -> int
+           registers r1: quiet promise, r2: int
+           block 0 quiet -> r2
+             r2 = lit 2
+             r1 = prom 1
+             r2 = dispatch 1(r0: value) -> int quiet
+             r2 = dispatch 1(r1: any) -> int quiet
+             r2 = dispatch 1() -> int quiet
+           block 1 quiet -> r2\n"
+        .to_string();
+    for (number, parameter) in versions.iter().enumerate() {
+        text += &format!(
+            "version 1.{number}(r0: {parameter}) -> int
+               registers r1: int
+               block 0 quiet -> r1
+                 r1 = lit {number}\n"
+        );
+    }
+    text
+}
+
+/// Asserts what the search comes to after so many steps of a run of 0.0: how many
+/// versions are looked at, and of how many, by the proved engine and the reference.
+#[track_caller]
+fn searches(text: &str, words: &[Integer], steps: Steps, expected: Option<(u8, u8)>) {
+    let (image, buffer) = (image(text), &mut [UNTOUCHED; BUFFER]);
+    let (mut run, _) = engine::begin(&image, (0, 0), words, buffer);
+    engine::budget(&mut run, steps, buffer);
+    assert_eq!(engine::search(&run), expected, "by the proved engine");
+
+    let program = Program::accept(&image).expect("an accepted image");
+    let state = State::begin(&program, 0, 0, words, buffer).expect("a run begins");
+    let (state, ..) = state.budget(&program, steps, buffer);
+    let search = state.search(&program);
+    let found = search.map(|search| (search.looked(), search.versions));
+    assert_eq!(found, expected, "by the reference");
+}
+
+#[test]
+fn a_search_looks_at_versions_up_to_the_first_that_fits() {
+    // LIT, PROM, and then three times DISPATCH, LIT and the end of the call.
+    let kinds = ["int", "vector", "reflective promise", "quiet promise"];
+    for (integer, vector, promise, count) in
+        [(1, 2, 3, 4), (1, 2, 3, 3), (1, 2, 2, 2), (1, 1, 1, 1)]
+    {
+        let text = searching(&kinds[..count as usize]);
+        searches(&text, &[-1, 7], 1, None);
+        searches(&text, &[-1, 7], 2, Some((integer, count)));
+        searches(&text, &[0], 2, Some((vector, count)));
+        searches(&text, &[-1, 7], 3, None);
+        searches(&text, &[-1, 7], 5, Some((promise, count)));
+    }
+    let any = searching(&["any", "int"]);
+    searches(&any, &[-1, 7], 2, Some((1, 2)));
+    searches(&any, &[-1, 7], 5, Some((1, 2)));
+}
+
+#[test]
+fn a_search_without_a_fit_looks_at_all_and_undef_stands_there() {
+    let kinds = ["int", "vector", "value"];
+    for count in 1..=4 {
+        // The first takes any argument, and none takes no argument.
+        let any = searching(&[&["any"], &kinds[..count - 1]].concat());
+        let all = Some((count as u8, count as u8));
+        searches(&any, &[-1, 7], 8, all);
+        searches(&any, &[-1, 7], 9, all);
+        searches(&any, &[-1, 7], 100, all);
+        // No version takes a vector: UNDEF at the first DISPATCH.
+        let integers = searching(&vec!["int"; count]);
+        searches(&integers, &[1, 7], 2, all);
+        searches(&integers, &[1, 7], 3, all);
+    }
+}
+
+#[test]
+fn a_run_that_is_done_stands_at_no_dispatch() {
+    searches(CALLS_ITSELF, &[-1, 7], 100, None);
+    let text = searching(&["any"]).replace("             r2 = dispatch 1() -> int quiet\n", "");
+    searches(&text, &[-1, 7], 9, None);
+}

@@ -63,6 +63,8 @@ fn run(seed: u64) -> Option<usize> {
             let stands_for = state_of(run.state()).expect("numbers that stand for a state");
             let after = after.tidied();
             assert_eq!(difference(&after, &stands_for), None, "{origin}");
+            let search = after.search(&program).map(|s| (s.looked(), s.versions));
+            assert_eq!(engine::search(&run), search, "{origin}");
             Some(assert_seen(&run, &after, &origin))
         }
     }

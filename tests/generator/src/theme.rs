@@ -58,6 +58,12 @@ impl Theme {
     fn families(self, random: &mut Random) -> Vec<Option<usize>> {
         match self {
             Theme::Single => vec![Some(1)],
+            Theme::Trap(Trap::NoFit) => {
+                let searched = 1 + random.below(VERSIONS_EACH);
+                let mut families = vec![None; 1 + random.below(3)];
+                families.insert(0, Some(searched));
+                families
+            }
             Theme::Small | Theme::Special(_) | Theme::Trap(_) => vec![None; 1 + random.below(4)],
             Theme::Medium | Theme::Recursive => vec![None; 2 + random.below(7)],
             Theme::Many => partition(random).into_iter().map(Some).collect(),

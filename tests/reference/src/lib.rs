@@ -11,7 +11,7 @@
 //! | Questions put to an image | [`questions`], [`begin`], [`change`] |
 //! | Types fit when | [`questions`] |
 //! | Flow | [`flow`] |
-//! | Steps | [`state`], [`counts`], [`outside`], [`steps`] |
+//! | Steps | [`state`], [`counts`], [`outside`], [`steps`], [`search`] |
 //! | What demand 3 speaks of | [`monitor`], [`watched`] |
 //! | Program | [`report`] |
 
@@ -28,6 +28,7 @@ pub mod program;
 pub mod questions;
 pub mod record;
 pub mod report;
+pub mod search;
 pub mod state;
 pub mod steps;
 pub mod types;
@@ -41,6 +42,7 @@ pub use program::Program;
 pub use questions::{questions_1_to_7, verdict, Refusal, Verdict};
 pub use record::Record;
 pub use report::{report, report_of};
+pub use search::Search;
 pub use state::{End, State, Status, Value};
 pub use steps::{Answer, Said};
 pub use types::{Kind, Mark, Ownership, Type};

@@ -7,6 +7,7 @@ use crate::kinds;
 use crate::monitor::{check_state, check_step};
 use crate::program::Program;
 use crate::questions::Refusal;
+use crate::search::Search;
 use crate::state::{End, State, Status, Value};
 use crate::steps::{Answer, Said};
 
@@ -44,6 +45,12 @@ impl Watched {
     /// The state of the run.
     pub fn state(&self) -> &State {
         &self.state
+    }
+
+    /// What the search of the DISPATCH comes to that the run stands at; none
+    /// where it stands elsewhere.
+    pub fn search(&self) -> Option<Search> {
+        self.state.search(&self.program)
     }
 
     /// Has the run ended?
@@ -99,12 +106,24 @@ impl Watched {
     /// done one by one too.
     #[track_caller]
     pub fn budget(&mut self, budget: Steps, buffer: &mut [Integer]) -> (Answer, Steps) {
+        self.budget_seen(budget, buffer, |_| ())
+    }
+
+    /// The same; each state between two of its steps is shown.
+    #[track_caller]
+    pub fn budget_seen(
+        &mut self,
+        budget: Steps,
+        buffer: &mut [Integer],
+        mut show: impl FnMut(&Watched),
+    ) -> (Answer, Steps) {
         let before = self.state.clone();
         let (after, answer, steps) = before.budget(&self.program, budget, buffer);
-        for _ in 0..steps {
-            self.step();
-        }
-        if matches!(answer, Answer::Ended(end) if !end.counts()) {
+        let stopped = matches!(answer, Answer::Ended(end) if !end.counts());
+        for step in 0..steps + Steps::from(stopped) {
+            if step > 0 {
+                show(self);
+            }
             self.step();
         }
         let origin = &self.origin;

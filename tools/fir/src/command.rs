@@ -19,7 +19,12 @@ pub enum Command {
     /// `fir check`
     Check(OsString),
     /// `fir run`
-    Run(Call),
+    Run {
+        /// The run.
+        call: Call,
+        /// Are its steps to be counted?
+        stats: bool,
+    },
     /// `fir trace`
     Trace(Call),
     /// `fir asm`
@@ -92,7 +97,11 @@ fn parse_command(name: &str, rest: &[OsString]) -> Result<Command, String> {
             words.finish()?;
             Ok(Command::Check(file))
         }
-        "run" => parse_call(words, RUN_BUDGET).map(Command::Run),
+        "run" => {
+            let stats = words.flag("--stats")?;
+            let call = parse_call(words, RUN_BUDGET)?;
+            Ok(Command::Run { call, stats })
+        }
         "trace" => parse_call(words, TRACE_BUDGET).map(Command::Trace),
         "asm" => parse_conversion(words).map(Command::Assemble),
         _ => parse_conversion(words).map(Command::Disassemble),
@@ -191,6 +200,17 @@ impl Words {
     /// The next word.
     fn next(&mut self) -> Option<OsString> {
         (!self.rest.is_empty()).then(|| self.rest.remove(0))
+    }
+
+    /// Takes out an option without a value, wherever it stands; whether it does.
+    fn flag(&mut self, name: &str) -> Result<bool, String> {
+        let all = self.rest.len();
+        self.rest.retain(|word| word != name);
+        match all - self.rest.len() {
+            0 => Ok(false),
+            1 => Ok(true),
+            _ => Err(format!("{name} stands twice")),
+        }
     }
 
     /// Takes out an option and its value, wherever it stands; none if it does not.

@@ -18,7 +18,8 @@ pub fn execute(command: &Command, streams: &mut Streams) -> Result<Status, Failu
             DONE
         }
         Command::Check(file) => check(file, streams),
-        Command::Run(call) => running::run(call, Manner::Budgets, streams),
+        Command::Run { call, stats: false } => running::run(call, Manner::Budgets, streams),
+        Command::Run { call, stats: true } => running::run(call, Manner::Counted, streams),
         Command::Trace(call) => running::run(call, Manner::Steps, streams),
         Command::Assemble(conversion) => assemble(conversion, streams),
         Command::Disassemble(conversion) => disassemble(conversion, streams),

@@ -41,6 +41,7 @@ usage:
   fir run FILE F.V [ARGUMENT..] [--budget N]   runs version V of function F
   fir trace FILE F.V [ARGUMENT..] [--budget N] the same, step by step
       [--then IMAGE@STEP]..                    both: goes on under another image
+      [--stats]                                run: steps, calls and searches
   fir asm FILE [-o OUT]                        from text to image
   fir dis FILE [-o OUT]                        from image to text
 
@@ -77,7 +78,7 @@ exit status: 0 accepted, 1 refused or a text that does not assemble, 2 bad usage
 ";
 
 const RUN: &str = "\
-usage: fir run FILE F.V [ARGUMENT..] [--budget N] [--then IMAGE@STEP]..
+usage: fir run FILE F.V [ARGUMENT..] [--budget N] [--then IMAGE@STEP].. [--stats]
 
 Runs version V of function F under a budget of N steps, 10,000,000 if none is
 given, 4,294,967,295 at most. An argument is an integer such as 7 or -7, or a
@@ -102,6 +103,14 @@ the version and the first byte that differs, or the version that is missing, and
 the command ends with status 1; a controller would go on under the old image. An
 image whose step the run does not come to is named as not reached.
 
+With --stats it prints at the end what the steps were, under all images:
+  steps: 26            those that counted
+  calls: 3             that CALL and DISPATCH opened
+  DISPATCH steps: 2, looked at 5 of 8 versions
+The search of a DISPATCH ends at the first version that fits, or has looked at all
+of the function where none fits; 8 is how many versions the functions of the two
+have together. A DISPATCH that is stopped by DEEP is no step.
+
 A file, FILE or IMAGE, holds the text form where its name ends in .fir, and an
 image's bytes otherwise; `-` is standard input, an image's bytes.
 
@@ -125,6 +134,8 @@ end of the block, and what changed:
   r1 empty          a register that was emptied
   r1 stays 5        nothing changed, and the register takes what it held
   opens call 1 of 2.0, ends call 1 with 5
+  looked at 3 of 4  the versions that the search of a DISPATCH looked at, of
+                    those that the function has
   forces p0 in block 1 of call 0, ends the force of p0 with 5
   skips 3, does not skip
 Then it prints the result as `fir run` does. --then goes as there, with a line

@@ -13,7 +13,9 @@ mod number;
 mod place;
 mod refusal;
 mod running;
+mod single;
 mod source;
+mod stats;
 mod streams;
 mod trace;
 

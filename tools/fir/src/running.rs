@@ -7,6 +7,7 @@ use crate::failure::{Failure, Status};
 use crate::number::many;
 use crate::refusal;
 use crate::source::{self, Source};
+use crate::stats::Stats;
 use crate::streams::Streams;
 use crate::trace;
 use library::{Answer, End, Ran, Refusal, Run, FIR_ITEMS};
@@ -16,6 +17,8 @@ use library::{Answer, End, Ran, Refusal, Run, FIR_ITEMS};
 pub enum Manner {
     /// By budgets: nothing is printed of them.
     Budgets,
+    /// One by one: what they were is counted, and the sums are printed.
+    Counted,
     /// One by one: each gets a line.
     Steps,
 }
@@ -60,9 +63,11 @@ pub fn run(call: &Call, manner: Manner, streams: &mut Streams) -> Result<Status,
         run,
         source: &source,
         steps: 0,
+        manner,
+        stats: Stats::default(),
     };
     for (index, next) in changes.iter().enumerate() {
-        going.go_to(next.step.min(call.budget), manner, streams)?;
+        going.go_to(next.step.min(call.budget), streams)?;
         if going.steps < next.step {
             return going.finish(&changes[index..], streams);
         }
@@ -70,11 +75,12 @@ pub fn run(call: &Call, manner: Manner, streams: &mut Streams) -> Result<Status,
         if let Err(no) = going.change(&next.source) {
             let words = refusal::of_change(going.source, &next.source, no, going.run.state());
             let told = streams.line(&format!("{after}, {}: {words}", next.name));
-            return answered(Status::No, told.and_then(|()| going.stand(streams)));
+            let told = told.and_then(|()| going.stand(streams));
+            return answered(Status::No, told.and_then(|()| going.count(streams)));
         }
         streams.line(&format!("{after}: goes on under {}", next.name))?;
     }
-    going.go_to(call.budget, manner, streams)?;
+    going.go_to(call.budget, streams)?;
     going.finish(&[], streams)
 }
 
@@ -85,16 +91,21 @@ struct Going<'s> {
     source: &'s Source,
     /// The steps taken so far.
     steps: u32,
+    /// How they are taken.
+    manner: Manner,
+    /// What is counted of them, if it is.
+    stats: Stats,
 }
 
 impl<'s> Going<'s> {
     /// Takes steps until so many are taken in all, or the run has ended.
-    fn go_to(&mut self, steps: u32, manner: Manner, streams: &mut Streams) -> Result<(), Failure> {
-        match manner {
+    fn go_to(&mut self, steps: u32, streams: &mut Streams) -> Result<(), Failure> {
+        match self.manner {
             Manner::Budgets => {
                 let budget = steps.saturating_sub(self.steps);
                 self.steps += self.run.budget(budget, &mut [0; FIR_ITEMS]).steps;
             }
+            Manner::Counted => self.steps = self.stats.steps(&mut self.run, self.steps, steps),
             Manner::Steps => self.steps = trace::steps(&mut self.run, self.steps, steps, streams)?,
         }
         Ok(())
@@ -114,7 +125,8 @@ impl<'s> Going<'s> {
         answered(status(answer), self.tell(answer, &buffer, left, streams))
     }
 
-    /// Prints the answer, where the run stands unless it is DONE, and what is left.
+    /// Prints the answer, where the run stands unless it is DONE, what is left, and
+    /// what was counted.
     fn tell(
         &self,
         answer: Answer,
@@ -130,7 +142,15 @@ impl<'s> Going<'s> {
         for Next { name, step, .. } in left {
             streams.line(&format!("  not reached: {name}@{step}"))?;
         }
-        Ok(())
+        self.count(streams)
+    }
+
+    /// Prints what was counted, if it was.
+    fn count(&self, streams: &mut Streams) -> Result<(), Failure> {
+        match self.manner {
+            Manner::Counted => self.stats.tell(self.steps, streams),
+            Manner::Budgets | Manner::Steps => Ok(()),
+        }
     }
 
     /// Prints where the run stands.

@@ -11,12 +11,13 @@ use support::fir;
 const EXAMPLES: &str = concat!(env!("CARGO_MANIFEST_DIR"), "/../../examples/");
 
 /// The scripts.
-const SCRIPTS: [&str; 5] = [
+const SCRIPTS: [&str; 6] = [
     "defrost.fir",
     "pump.fir",
     "pump_later.fir",
     "riser.fir",
     "setback.fir",
+    "spread.fir",
 ];
 
 /// A command of a comment or a document, and what it is to print.
@@ -180,11 +181,27 @@ fn setback_follows_the_hour_and_the_frost() {
 }
 
 #[test]
+fn spread_takes_either_sensor_at_either_place() {
+    let (flow, back) = (["350", "[350,29]"], ["290", "[290,31]"]);
+    for (number, (back, flow)) in back
+        .iter()
+        .flat_map(|back| flow.map(|flow| (back, flow)))
+        .enumerate()
+    {
+        gives("spread.fir", &[flow, back], 60);
+        let path = format!("{EXAMPLES}spread.fir");
+        let done = fir(&["run", &path, "0.0", flow, back, "--stats"], b"");
+        let looked = format!("looked at {} of 4 versions\n", number + 1);
+        assert!(done.text().ends_with(&looked), "{}", done.text());
+    }
+}
+
+#[test]
 fn the_commands_of_the_readme_print_what_it_shows() {
     let commands = shown(include_str!("../../README.md"), "    ");
     let (with_output, without): (Vec<_>, Vec<_>) =
         commands.iter().partition(|shown| !shown.output.is_empty());
-    assert_eq!((with_output.len(), without.len()), (3, 3));
+    assert_eq!((with_output.len(), without.len()), (5, 2));
     for command in with_output {
         assert_printed(command, "README");
     }

@@ -40,6 +40,7 @@ fn word(random: &mut Random, files: &[String]) -> OsString {
         "--",
         "--budget=",
         "--then",
+        "--stats",
         "-@3",
         "0.",
         ".",

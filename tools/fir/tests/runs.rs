@@ -5,13 +5,74 @@ mod support;
 use generator::{
     accepted, accepted_of, entry, update, words, Random, Special, Theme, Trap, Update,
 };
-use reference::{change, Answer, End, Integer, Program, Refusal, State};
+use reference::{change, Answer, End, Integer, Program, Refusal, Said, State, Status};
 use std::collections::BTreeMap;
 use support::{file, fir, Done};
 
 /// How many programs are generated, and how many to be changed while they run.
 const PROGRAMS: u64 = 1_500;
 const CHANGED: u64 = 500;
+
+/// What the reference counts of a run.
+#[derive(Default)]
+struct Counted {
+    steps: usize,
+    calls: usize,
+    /// Of each DISPATCH step, how many versions it looked at, and of how many.
+    searches: Vec<(u8, u8)>,
+}
+
+impl Counted {
+    /// Takes at most so many steps, and counts those that count; the state after them.
+    fn steps(&mut self, program: &Program, mut state: State, budget: u32) -> State {
+        for _ in 0..budget {
+            let (search, calls) = (state.search(program), state.frames.len());
+            let ended = state.status != Status::Running;
+            let (after, said) = state.step(program);
+            state = after;
+            let counts = match said {
+                Said::GoesOn => true,
+                Said::Ended(end) => end.counts(),
+                Said::Stuck => panic!("a step is stuck"),
+            };
+            if ended || !counts {
+                break;
+            }
+            self.steps += 1;
+            self.calls += usize::from(state.frames.len() > calls);
+            let search = search.map(|search| (search.looked(), search.versions));
+            self.searches.extend(search);
+        }
+        state
+    }
+
+    /// What `--stats` prints.
+    fn lines(&self) -> String {
+        let sum = |part: fn(&(u8, u8)) -> u8| {
+            let parts = self.searches.iter().map(|search| usize::from(part(search)));
+            parts.sum::<usize>()
+        };
+        format!(
+            "  steps: {}\n  calls: {}\n  DISPATCH steps: {}, looked at {} of {} versions\n",
+            self.steps,
+            self.calls,
+            self.searches.len(),
+            sum(|search| search.0),
+            sum(|search| search.1),
+        )
+    }
+}
+
+/// The searches that the lines of a trace show.
+fn traced_searches(trace: &str) -> Vec<(u8, u8)> {
+    let shown = trace.lines().filter_map(|line| {
+        let (_, behind) = line.split_once(" looked at ")?;
+        let (numbers, _) = behind.split_once(',')?;
+        let (looked, versions) = numbers.split_once(" of ")?;
+        Some((looked.parse().ok()?, versions.parse().ok()?))
+    });
+    shown.collect()
+}
 
 /// The arguments of words, as the command line has them; none where the words
 /// are those of no arguments.
@@ -62,7 +123,8 @@ fn program_of(seed: u64) -> Vec<u8> {
 }
 
 /// Runs and traces a program, and compares with the reference; how the run ended.
-fn compared(seed: u64) -> Option<&'static str> {
+/// The searches that were compared are counted.
+fn compared(seed: u64, searched: &mut usize) -> Option<&'static str> {
     let image = program_of(seed);
     let program = Program::accept(&image).expect("an accepted image");
     let entry = entry(seed, &program)?;
@@ -70,12 +132,12 @@ fn compared(seed: u64) -> Option<&'static str> {
     let given = arguments(&words)?;
     let budget = Random::new(seed).pick(&[0u32, 3, 40, 3000, 3000, 3000]);
     let (name, limit) = (format!("{}.{}", entry.0, entry.1), budget.to_string());
-    let call = |command| {
-        let mut call = vec![command, "-", &name, "--budget", &limit];
+    let call = |command: &[&str]| {
+        let mut call = [command, &["-", &name, "--budget", &limit]].concat();
         call.extend(given.iter().map(String::as_str));
         fir(&call, &image)
     };
-    let (run, trace) = (call("run"), call("trace"));
+    let (run, trace) = (call(&["run"]), call(&["trace"]));
     let mut buffer = [0; 16];
     let state = match State::begin(&program, entry.0, entry.1, &words, &buffer) {
         Ok(state) => state,
@@ -87,6 +149,15 @@ fn compared(seed: u64) -> Option<&'static str> {
             return Some("refused");
         }
     };
+    let mut counted = Counted::default();
+    counted.steps(&program, state.clone(), budget);
+    let with_stats = call(&["run", "--stats"]);
+    let expected_text = run.text() + &counted.lines();
+    assert_eq!(with_stats.text(), expected_text, "seed {seed}");
+    assert_eq!(with_stats.status, run.status, "seed {seed}");
+    let searches = traced_searches(&trace.text());
+    assert_eq!(searches, counted.searches, "seed {seed}");
+    *searched += searches.len();
     let (_, answer, steps) = state.budget(&program, budget, &mut buffer);
     let (name, begin) = expected(answer, &buffer);
     assert_ended(
@@ -117,13 +188,14 @@ fn assert_ended(run: &Done, trace: &Done, begin: &str, steps: usize, origin: &st
 
 #[test]
 fn runs_and_traces_end_as_the_reference_says() {
-    let mut met = BTreeMap::new();
+    let (mut met, mut searched) = (BTreeMap::new(), 0);
     for seed in 0..PROGRAMS {
-        if let Some(name) = compared(seed) {
+        if let Some(name) = compared(seed, &mut searched) {
             *met.entry(name).or_insert(0) += 1;
         }
     }
-    println!("{met:?}");
+    println!("{met:?}, {searched} searches");
+    assert!(searched >= 1_000, "{searched} searches");
     let all = [
         "DONE integer",
         "DONE vector",
@@ -150,35 +222,38 @@ struct Halfway {
     answer: Answer,
     steps: u32,
     buffer: [Integer; 16],
+    counted: Counted,
 }
 
 /// The steps that a run which changes is given.
 const BUDGET: u32 = 3000;
 
 impl Halfway {
-    /// What comes of the change, and how the output begins.
-    fn expected(mut self) -> (&'static str, String) {
+    /// What comes of the change, how the output begins, and what is counted.
+    fn expected(mut self) -> (&'static str, String, Counted) {
         let (steps, file) = (self.steps, self.file.clone());
         let plural = if steps == 1 { "" } else { "s" };
         let after = format!("after {steps} step{plural}");
         if self.steps < self.step {
             let (_, begin) = expected(self.answer, &self.buffer);
-            return ("not reached", format!("{begin} {after}\n"));
+            return ("not reached", format!("{begin} {after}\n"), self.counted);
         }
         match change(&self.image, &self.new, &self.state) {
             Ok(()) => {
                 let program = Program::accept(&self.new).expect("an accepted image");
                 let left = BUDGET - steps;
+                let mut counted = self.counted;
+                counted.steps(&program, self.state.clone(), left);
                 let (_, answer, more) = self.state.budget(&program, left, &mut self.buffer);
                 let (_, begin) = expected(answer, &self.buffer);
                 let all = steps + more;
                 let begin = format!("{after}: goes on under {file}\n{begin} after {all} ");
-                ("taken", begin)
+                ("taken", begin, counted)
             }
             Err(Refusal { number, offset }) => {
                 let kind = if number == 15 { "15" } else { "refused" };
                 let begin = format!("{after}, {file}: refused by {number} at {offset}: ");
-                (kind, begin)
+                (kind, begin, self.counted)
             }
         }
     }
@@ -195,6 +270,8 @@ fn compared_changing(seed: u64) -> Option<&'static str> {
     let mut random = Random::new(seed);
     let (step, mut buffer) = (random.below(30) as u32, [0; 16]);
     let state = State::begin(&program, entry.0, entry.1, &words, &buffer).ok()?;
+    let mut counted = Counted::default();
+    counted.steps(&program, state.clone(), step);
     let (state, answer, steps) = state.budget(&program, step, &mut buffer);
     let aim = Update::any(&mut random);
     let new = update(aim, seed, &image, &state.live_versions());
@@ -204,6 +281,8 @@ fn compared_changing(seed: u64) -> Option<&'static str> {
     let mut call = vec!["run", "-", &name, "--budget", &limit, "--then", &then];
     call.extend(given.iter().map(String::as_str));
     let text = fir(&call, &image).text();
+    call.push("--stats");
+    let with_stats = fir(&call, &image).text();
     let halfway = Halfway {
         image,
         new,
@@ -213,8 +292,10 @@ fn compared_changing(seed: u64) -> Option<&'static str> {
         answer,
         steps,
         buffer,
+        counted,
     };
-    let (kind, begin) = halfway.expected();
+    let (kind, begin, counted) = halfway.expected();
+    assert_eq!(with_stats, text.clone() + &counted.lines(), "seed {seed}");
     assert!(text.starts_with(&begin), "seed {seed}: {begin}\n{text}");
     let left = text.ends_with(&format!("  not reached: {then}\n"));
     assert_eq!(left, kind == "not reached", "seed {seed}\n{text}");

@@ -129,11 +129,39 @@ fn dispatch_shows_the_version_that_it_picked() {
              r1 = len r0",
         &["[5,6]"],
         &[
-            "1 1 0.0 block 0 r1 = dispatch 1(r0: value) -> int quiet opens call 1 of 1.1 with r0 = v0 [5, 6]",
+            "1 1 0.0 block 0 r1 = dispatch 1(r0: value) -> int quiet looked at 2 of 2, opens call 1 of 1.1 with r0 = v0 [5, 6]",
             "2 2 1.1 block 0 r1 = len r0 r1 = 2",
             "3 2 1.1 block 0 end -> r1 ends call 1 with 2, call 0: r1 = 2",
             "4 1 0.0 block 0 end -> r1 ends call 0 with 2",
             "DONE 2 after 4 steps",
+        ],
+    );
+}
+
+#[test]
+fn dispatch_without_a_fit_has_looked_at_all() {
+    traces(
+        "version 0.0(r0: int) -> int
+           block 0 quiet -> r0
+             r0 = dispatch 1(r0: int) -> int quiet
+             r0 = dispatch 1(r0: int, r0: int) -> int quiet
+         version 1.0(r0: int) -> int
+           block 0 quiet -> r0
+         version 1.1(r0: vector) -> int
+           registers r1: int
+           block 0 quiet -> r1
+             r1 = len r0
+         version 1.2() -> int
+           registers r0: int
+           block 0 quiet -> r0
+             r0 = lit 1",
+        &["4"],
+        &[
+            "1 1 0.0 block 0 r0 = dispatch 1(r0: int) -> int quiet looked at 1 of 3, opens call 1 of 1.0 with r0 = 4",
+            "2 2 1.0 block 0 end -> r0 ends call 1 with 4",
+            "3 1 0.0 block 0 r0 = dispatch 1(r0: int, r0: int) -> int quiet looked at 3 of 3, UNDEF: no version of function 1 fits",
+            "UNDEF after 3 steps",
+            "at 29 in 0.0, block 0: r0 = dispatch 1(r0: int, r0: int) -> int quiet: no version of function 1 fits",
         ],
     );
 }

@@ -3,9 +3,9 @@
 use crate::constants::{
     FIR_ACCEPTED, FIR_DEEP, FIR_INTEGER, FIR_IS_INTEGER, FIR_IS_PROMISE, FIR_IS_VECTOR, FIR_ITEMS,
     FIR_NOTHING, FIR_OUTSIDE, FIR_PROMISES, FIR_REFUSED, FIR_STEPS, FIR_STUCK, FIR_UNDEF,
-    FIR_VECTOR, FIR_VECTORS,
+    FIR_VECTOR, FIR_VECTORS, FIR_VERSIONS,
 };
-use crate::raw::{FirAnswer, FirEntry, FirSaid, FirValue, FirVerdict};
+use crate::raw::{FirAnswer, FirEntry, FirSaid, FirSearched, FirValue, FirVerdict};
 
 /// A no: the question, and the offset of the first record that fails.
 #[derive(Clone, Copy, PartialEq, Eq, Debug)]
@@ -93,6 +93,16 @@ pub enum Held {
     Promise(usize),
 }
 
+/// What the search of a DISPATCH comes to.
+#[derive(Clone, Copy, PartialEq, Eq, Debug)]
+pub struct Search {
+    /// How many versions it looks at: the number of the version that is called
+    /// plus 1, or all of the function where none fits.
+    pub looked: usize,
+    /// How many versions the function has.
+    pub versions: usize,
+}
+
 impl Ran {
     /// Was it refused, so that nothing was done?
     pub fn is_refused(&self) -> bool {
@@ -161,6 +171,19 @@ impl From<FirValue> for Option<Held> {
             FIR_IS_PROMISE => Some(Held::Promise(value.place.into())),
             FIR_OUTSIDE => None,
             kind => panic!("the library gives a value of kind {kind}, which fir.h does not list"),
+        }
+    }
+}
+
+impl From<FirSearched> for Option<Search> {
+    fn from(searched: FirSearched) -> Option<Search> {
+        let (looked, versions) = (searched.looked.into(), searched.versions.into());
+        match searched.dispatch {
+            0 => None,
+            1 if looked <= versions && versions <= FIR_VERSIONS => {
+                Some(Search { looked, versions })
+            }
+            _ => panic!("the library looks at {looked} of {versions}, which fir.h does not allow"),
         }
     }
 }

@@ -14,11 +14,11 @@ mod raw;
 mod run;
 mod state;
 
-pub use answers::{Answer, End, Held, Ran, Refusal, Said, Verdict};
+pub use answers::{Answer, End, Held, Ran, Refusal, Said, Search, Verdict};
 pub use checking::{report, verdict};
 pub use constants::*;
 pub use parts::{Activation, Opener, Promise};
 #[cfg(feature = "stand_in")]
-pub use raw::{FirAnswer, FirEntry, FirSaid, FirValue, FirVerdict};
+pub use raw::{FirAnswer, FirEntry, FirSaid, FirSearched, FirValue, FirVerdict};
 pub use run::{Entry, Run};
 pub use state::{State, ACTIVATION, CELLS, OWNER, PROMISE};

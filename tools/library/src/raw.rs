@@ -60,6 +60,17 @@ pub struct FirValue {
     pub place: u8,
 }
 
+/// What the search of a DISPATCH comes to.
+#[repr(C)]
+pub struct FirSearched {
+    /// 1 where the state stands at a DISPATCH; else 0, and the others are 0.
+    pub dispatch: u8,
+    /// How many versions are looked at.
+    pub looked: u8,
+    /// How many versions the function has.
+    pub versions: u8,
+}
+
 extern "C" {
     pub fn fir_state_size() -> usize;
     pub fn fir_state_alignment() -> usize;
@@ -110,4 +121,5 @@ extern "C" {
         state: *const State,
     ) -> FirEntry;
     pub fn fir_look(state: *const State, call: usize, place: usize) -> FirValue;
+    pub fn fir_search(image: *const u8, image_length: usize, state: *const State) -> FirSearched;
 }

@@ -2,7 +2,7 @@
 
 #![allow(unsafe_code)] // The library is called across a C boundary.
 
-use crate::answers::{Held, Ran, Refusal, Said};
+use crate::answers::{Held, Ran, Refusal, Said, Search};
 use crate::raw;
 use crate::state::{assert_layout, State};
 use std::borrow::Cow;
@@ -162,6 +162,18 @@ impl<'i> Run<'i> {
         Result::from(changed)?;
         self.image = new;
         Ok(())
+    }
+
+    /// What the search of the DISPATCH comes to that the run stands at, ended or
+    /// not: where its next step is one, where it was UNDEF since no version fits,
+    /// or stopped with DEEP. None where it stands elsewhere; a run that is DONE
+    /// stands nowhere.
+    pub fn search(&self) -> Option<Search> {
+        assert_layout();
+        let image = &self.image[..];
+        // SAFETY: the slice lends what its length says and the state is one of
+        // the library's layout; both are only read.
+        unsafe { raw::fir_search(image.as_ptr(), image.len(), &self.state) }.into()
     }
 
     /// What a place of a live call holds: registers are the places 0 to 15,

@@ -2,7 +2,7 @@
 
 use library::{
     report, verdict, Activation, Answer, End, Entry, Held, Opener, Promise, Ran, Refusal, Run,
-    Said, State, Verdict, CELLS, FIR_ITEMS, FIR_REGISTERS,
+    Said, Search, State, Verdict, CELLS, FIR_ITEMS, FIR_REGISTERS,
 };
 
 /// The version that the runs enter.
@@ -238,6 +238,7 @@ fn a_state_under_an_image_that_is_not_its_own_gets_an_answer() {
     run.step();
     // The other image has no version 1.0, which the run stands in.
     let mut run = Run::load_with_its_own_image(run.state().clone(), other());
+    assert_eq!(run.search(), None);
     assert_eq!(run.step(), Said::Stuck);
     let ran = run.budget(5, &mut [0; FIR_ITEMS]);
     let answer = Answer::Stuck;
@@ -260,6 +261,72 @@ fn places_of_a_live_call_can_be_seen() {
     assert_eq!(run.look(0, CELLS), None);
     assert_eq!(run.look(1, 0), None);
     assert_eq!(run.look(usize::MAX, usize::MAX), None);
+}
+
+/// 0.0 dispatches on function 1, whose three versions take an integer, none, and a
+/// vector.
+fn searching() -> Vec<u8> {
+    let text = "version 0.0(r0: value) -> int
+                  registers r1: int
+                  block 0 quiet -> r1
+                    r1 = lit 4
+                    r1 = dispatch 1(r0: value) -> int quiet
+                version 0.1(r0: int) -> int
+                  block 0 quiet -> r0
+                    r0 = dispatch 1(r0: int, r0: int) -> int quiet
+                version 1.0(r0: int) -> int
+                  block 0 quiet -> r0
+                version 1.1() -> int
+                  registers r0: int
+                  block 0 quiet -> r0
+                    r0 = lit 1
+                version 1.2(r0: vector) -> int
+                  registers r1: int
+                  block 0 quiet -> r1
+                    r1 = len r0";
+    text::assemble(text).expect("a text that is well formed")
+}
+
+#[test]
+fn a_run_at_a_dispatch_says_what_its_search_comes_to() {
+    let image = searching();
+    for (words, looked) in [(&[-1, 1][..], 1), (&[1, 8], 3)] {
+        let run = Run::begin(&image, ENTRY, words, &[0; FIR_ITEMS]);
+        let mut run = run.unwrap_or_else(|no| panic!("{no:?}"));
+        assert_eq!(run.search(), None);
+        run.step();
+        let before = run.state().clone();
+        let versions = 3;
+        assert_eq!(run.search(), Some(Search { looked, versions }));
+        assert!(*run.state() == before, "the state is as it was");
+        run.step();
+        assert_eq!(run.state().owner(1), Some((1, looked as u8 - 1)));
+        assert_eq!(run.search(), None);
+        let ran = run.budget(9, &mut [0; FIR_ITEMS]);
+        assert!(matches!(ran.answer, Answer::Ended(End::Integer(1))));
+        assert_eq!(run.search(), None, "DONE stands nowhere");
+    }
+}
+
+#[test]
+fn a_search_that_none_fits_looks_at_all_before_and_after_undef() {
+    let image = searching();
+    let entry = Entry {
+        function: 0,
+        version: 1,
+    };
+    let run = Run::begin(&image, entry, &[-1, 1], &[0; FIR_ITEMS]);
+    let mut run = run.unwrap_or_else(|no| panic!("{no:?}"));
+    let (looked, versions) = (3, 3);
+    assert_eq!(run.search(), Some(Search { looked, versions }));
+    assert_eq!(run.step(), Said::Ended(End::Undef));
+    assert_eq!(run.search(), Some(Search { looked, versions }));
+}
+
+#[test]
+fn a_state_of_no_run_stands_at_no_dispatch() {
+    let run = Run::load_with_its_own_image(State::blank(), searching());
+    assert_eq!(run.search(), None);
 }
 
 #[test]

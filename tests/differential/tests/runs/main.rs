@@ -6,6 +6,7 @@ mod begin;
 mod changes;
 mod events;
 mod pair;
+mod searches;
 
 use begin::{begin, begin_wrongly};
 use changes::assert_changes;
@@ -15,6 +16,7 @@ use reference::bounds::BUFFER;
 use reference::questions::QUESTIONS;
 use reference::watched::{Watched, ENDINGS};
 use reference::Program;
+use searches::assert_searches;
 use std::thread;
 
 /// How many programs are generated; the fewest that begin a run, and the
@@ -57,6 +59,7 @@ fn run(seed: u64, met: &mut Tally<String>) -> usize {
     let reference = Watched::new(checked, state, &origin);
     let mut pair = Pair::new(&image, reference, proved);
     pair.assert_same_state(&origin);
+    pair.compare_search(&origin, met);
     pair.act_all(seed, &origin, met);
     let ending = pair.reference().ending();
     met.meet(ending.unwrap_or("goes on").to_string());
@@ -165,6 +168,7 @@ fn runs_agree_under_every_list_of_events() {
     );
     assert_eq!(met.count("UNDEF, without a cause"), 0);
     assert_changes(&met);
+    assert_searches(&met);
 }
 
 /// Begins a run of a damaged image; which question refuses it.

@@ -2,6 +2,7 @@
 
 use crate::changes::{self, History};
 use crate::events::{event_list, events_after_the_end, size};
+use crate::searches;
 use differential::difference::difference;
 use differential::engine;
 use differential::snapshot::state_of;
@@ -96,6 +97,14 @@ impl<'p> Pair<'p> {
         }
     }
 
+    /// Asserts that both say the same of the search that they stand at.
+    #[track_caller]
+    pub fn compare_search(&self, origin: &str, met: &mut Tally<String>) {
+        let end = self.end();
+        let both = (&self.reference, &self.proved);
+        searches::compare(both, end.as_deref(), origin, met);
+    }
+
     /// Asserts that both gave the same.
     #[track_caller]
     fn assert_same<T: PartialEq + std::fmt::Debug>(&self, expected: T, found: T, origin: &str) {
@@ -134,7 +143,7 @@ impl<'p> Pair<'p> {
                 met.meet(format!("step {}: {}", when(ended), name_said(said)));
             }
             Event::Budget { budget, places } => {
-                let answer = self.budget(budget, places, origin);
+                let answer = self.budget(budget, places, origin, met);
                 let size = size(budget);
                 let when = when(ended);
                 met.meet(format!("{size} budget {when}: {}", name_answer(answer)));
@@ -147,6 +156,7 @@ impl<'p> Pair<'p> {
             }
         }
         self.assert_same_state(origin);
+        self.compare_search(origin, met);
     }
 
     /// A single step on both sides; what it says.
@@ -158,22 +168,35 @@ impl<'p> Pair<'p> {
         expected
     }
 
-    /// A budget on both sides; its answer.
+    /// A budget on both sides; its answer. A copy of the proved run takes the same
+    /// steps one by one, and the searches between them are compared.
     #[track_caller]
-    fn budget(&mut self, budget: Steps, places: usize, origin: &str) -> Answer {
+    fn budget(
+        &mut self,
+        budget: Steps,
+        places: usize,
+        origin: &str,
+        met: &mut Tally<String>,
+    ) -> Answer {
         let (mut expected, mut found) = (
             Lent::new(places, self.events),
             Lent::new(places, self.events),
         );
-        let before = self.proved.state().clone();
+        let mut before = self.proved.clone();
         let given = engine::budget(&mut self.proved, budget, found.places());
-        let right = self.reference.budget(budget, expected.places());
-        self.assert_same(right, given, origin);
-        self.assert_same(expected.memory, found.memory, origin);
-        if matches!(right.0, Answer::Refused(_)) {
-            let kept = before == *self.proved.state();
+        if matches!(given.0, Answer::Refused(_)) {
+            let kept = before.state() == self.proved.state();
             assert!(kept, "{origin}: a refusal leaves the state");
         }
+        let right = self
+            .reference
+            .budget_seen(budget, expected.places(), |reference| {
+                let said = engine::step(&mut before);
+                assert_eq!(said, Said::GoesOn, "{origin}: a step under a budget");
+                searches::compare((reference, &before), None, origin, met);
+            });
+        self.assert_same(right, given, origin);
+        self.assert_same(expected.memory, found.memory, origin);
         right.0
     }
 

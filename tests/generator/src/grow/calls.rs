@@ -73,7 +73,11 @@ impl Body<'_> {
     }
 
     /// A register for the result of a call, often one of those that it empties.
-    fn result(&mut self, signature: &Signature, emptied: &[Register]) -> Option<Register> {
+    pub(super) fn result(
+        &mut self,
+        signature: &Signature,
+        emptied: &[Register],
+    ) -> Option<Register> {
         if signature.returns.is_owned() && self.random.one_in(2) {
             if let Some(register) = self.random.choose(emptied) {
                 return Some(register);
@@ -104,7 +108,7 @@ impl Body<'_> {
     }
 
     /// Registers whose values are expected to match parameters of these types.
-    fn fitting_arguments(&mut self, parameters: &[Type]) -> Option<Vec<Register>> {
+    pub(super) fn fitting_arguments(&mut self, parameters: &[Type]) -> Option<Vec<Register>> {
         let mut arguments = self.arguments(parameters)?;
         for (argument, parameter) in arguments.iter_mut().zip(parameters) {
             if !parameter.is_shared() || self.random.percent(40) {
@@ -121,7 +125,7 @@ impl Body<'_> {
     }
 
     /// A signature that the version fits and that takes the arguments.
-    fn widened(&mut self, fitting: &Signature, arguments: &[Register]) -> Signature {
+    pub(super) fn widened(&mut self, fitting: &Signature, arguments: &[Register]) -> Signature {
         let mut signature = fitting.clone();
         for (parameter, &argument) in signature.parameters.iter_mut().zip(arguments) {
             if parameter.is_shared() {

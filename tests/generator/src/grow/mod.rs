@@ -2,6 +2,7 @@
 
 mod calls;
 mod finish;
+mod misfits;
 mod names;
 mod plain;
 mod promises;

@@ -4,7 +4,6 @@ use super::plain::RANGE;
 use super::registers::Gives;
 use super::Body;
 use crate::fact::Fact;
-use reference::program::Signature;
 use reference::{kinds, Instruction, Kind, Mark, Name, Register, Type};
 
 /// A cause of UNDEF.
@@ -65,7 +64,7 @@ impl Body<'_> {
             Trap::UnsetName => self.trap_named(),
             Trap::UnsetPeek => self.trap_peek(),
             Trap::BeingForced => self.trap_force(),
-            Trap::NoFit => self.trap_dispatch(),
+            Trap::NoFit => self.misfit(),
         }
     }
 
@@ -136,27 +135,6 @@ impl Body<'_> {
         });
         self.emit(Instruction::Prom { d: a, block }, Fact::Unknown);
         self.emit(Instruction::Force { d, a }, Fact::MODERATE);
-        Some(())
-    }
-
-    /// A DISPATCH with a count of arguments that no version of its function has.
-    fn trap_dispatch(&mut self) -> Option<()> {
-        let callable = self.random.choose(self.world)?;
-        let d = self.integer()?;
-        let count = (0..9).find(|&count| {
-            let same_count = |signature: &Signature| signature.parameters.len() == count;
-            let of_function = |c: &&crate::world::Callable| c.function == callable.function;
-            let mut versions = self.world.iter().filter(of_function);
-            !versions.any(|c| same_count(&c.signature))
-        })?;
-        let dispatch = Instruction::Dispatch {
-            d,
-            function: callable.function,
-            mark: Mark::QUIET,
-            returns: Type::INTEGER,
-            arguments: vec![(Type::INTEGER, d); count],
-        };
-        self.emit(dispatch, Fact::MODERATE);
         Some(())
     }
 

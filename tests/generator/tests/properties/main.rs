@@ -8,5 +8,6 @@ mod events;
 mod refill;
 mod round_trip;
 mod runs;
+mod searches;
 mod skips;
 mod updates;

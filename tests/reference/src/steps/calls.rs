@@ -2,7 +2,8 @@
 
 use super::{Halt, Step, UNDEF};
 use crate::instruction::Instruction;
-use crate::program::{Program, Signature, Version};
+use crate::program::{Program, Version};
+use crate::search::first_that_fits;
 use crate::state::{Activation, Frame, Opener, State, Value};
 use crate::types::Kind;
 
@@ -31,15 +32,9 @@ impl State {
         instruction: &Instruction,
         arguments: &[Value],
     ) -> Step {
-        let Instruction::Dispatch { function, .. } = *instruction else {
-            return Err(Halt::Stuck);
-        };
-        let signature = program.signature(instruction).ok_or(Halt::Stuck)?;
         let kinds = arguments.iter().map(|&value| self.kind(program, value));
         let kinds: Vec<Kind> = kinds.collect::<Option<_>>().ok_or(Halt::Stuck)?;
-        let fitting = program
-            .versions_of(function.into())
-            .find(|version| fits(version, &signature, &kinds));
+        let fitting = first_that_fits(program, instruction, &kinds);
         self.enter(program, fitting.ok_or(UNDEF)?, instruction, arguments)
     }
 
@@ -68,23 +63,4 @@ impl State {
         self.frames.push(Frame::new(function, version, arguments));
         Ok(())
     }
-}
-
-/// Has the version equal parameter count and ownerships, equal return
-/// ownership, a return within, a mark no greater, and arguments that match?
-fn fits(version: &Version, signature: &Signature, arguments: &[Kind]) -> bool {
-    let own = version.signature();
-    own.parameters.len() == signature.parameters.len()
-        && own
-            .parameters
-            .iter()
-            .zip(&signature.parameters)
-            .all(|(p, s)| p.ownership() == s.ownership())
-        && own.returns.ownership() == signature.returns.ownership()
-        && own.returns.kind().within(signature.returns.kind())
-        && own.mark <= signature.mark
-        && arguments
-            .iter()
-            .zip(&own.parameters)
-            .all(|(kind, parameter)| kind.within(parameter.kind()))
 }

@@ -29,6 +29,7 @@ mod steps_limits;
 mod steps_monitor;
 mod steps_names;
 mod steps_promises;
+mod steps_search;
 mod steps_skip;
 mod steps_stuck;
 mod steps_values;

@@ -4,7 +4,7 @@ use crate::support::{end_of, gives, undefined};
 use reference::{End, Integer};
 
 /// 0.0 dispatches so on function 1, whose version `v` gives `v`.
-fn dispatching(signature: &str, versions: &[&str]) -> String {
+pub fn dispatching(signature: &str, versions: &[&str]) -> String {
     let mut text = format!(
         "version 0.0(r0: any, r1: own vector, r2: vector) -> int
            registers r3: int, r4: value, r5: quiet promise, r6: reflective promise, r7: int
@@ -31,9 +31,9 @@ fn dispatching(signature: &str, versions: &[&str]) -> String {
 }
 
 /// Words that put an integer into `any`.
-const INTEGER: [Integer; 4] = [-1, 5, 0, 0];
+pub const INTEGER: [Integer; 4] = [-1, 5, 0, 0];
 /// Words that put a vector into `any`.
-const VECTOR: [Integer; 3] = [0, 0, 0];
+pub const VECTOR: [Integer; 3] = [0, 0, 0];
 
 #[test]
 fn dispatch_picks_the_lowest_that_fits() {

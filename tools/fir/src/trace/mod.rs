@@ -6,9 +6,10 @@ mod spot;
 
 use crate::failure::Failure;
 use crate::place::place;
+use crate::single::Single;
 use crate::source::Source;
 use crate::streams::Streams;
-use library::{End, Run, Said, State, FIR_UNDEF};
+use library::{Run, Search, State, FIR_UNDEF};
 use reference::program::Program;
 use spot::Spot;
 
@@ -23,41 +24,62 @@ pub fn steps(
     let program = Program::ordered(run.image()).ok();
     let mut steps = taken;
     while steps < wished {
-        let before = run.state().clone();
-        let said = run.step();
-        let counts = match said {
-            Said::GoesOn => true,
-            Said::Ended(end) => {
-                before.status == 0 && matches!(end, End::Integer(_) | End::Vector(_) | End::Undef)
-            }
-            Said::Stuck => false,
+        let step = Step {
+            number: steps + 1,
+            before: run.state().clone(),
+            search: run.search(),
         };
-        if counts {
-            steps += 1;
-            let spot = program.as_ref().and_then(|p| Spot::of(p, &before));
-            streams.line(&line(steps, &before, run.state(), spot.as_ref()))?;
+        let single = Single::take(run);
+        if single.counts {
+            steps = step.number;
+            streams.line(&step.line(run.state(), program.as_ref()))?;
         }
-        if said != Said::GoesOn {
+        if !single.goes_on {
             break;
         }
     }
     Ok(steps)
 }
 
-/// The line of a step.
-fn line(step: u32, before: &State, after: &State, spot: Option<&Spot>) -> String {
-    let Some(spot) = spot else {
-        return format!("{step:>6}");
-    };
-    let depth = before.depth;
-    let (version, block) = (spot.version_name(), spot.activation.block);
-    let changes = if after.status == FIR_UNDEF {
+/// A step that was taken.
+struct Step {
+    /// Its number.
+    number: u32,
+    /// The state before it.
+    before: State,
+    /// What its search came to, if it was a DISPATCH.
+    search: Option<Search>,
+}
+
+impl Step {
+    /// The line of the step.
+    fn line(&self, after: &State, program: Option<&Program>) -> String {
+        let (number, before) = (self.number, &self.before);
+        let Some(spot) = program.and_then(|program| Spot::of(program, before)) else {
+            return format!("{number:>6}");
+        };
+        let (version, block) = (spot.version_name(), spot.activation.block);
+        let (depth, text) = (before.depth, spot.text());
+        let did = looked(self.search) + &changed(before, after, &spot);
+        format!("{number:>6} {depth:>3}  {version:<5} block {block}  {text:<36} {did}")
+    }
+}
+
+/// How many versions the search of a DISPATCH looked at; nothing for other steps.
+fn looked(search: Option<Search>) -> String {
+    match search {
+        Some(Search { looked, versions }) => format!("looked at {looked} of {versions}, "),
+        None => String::new(),
+    }
+}
+
+/// What a step changed, or why it is UNDEF.
+fn changed(before: &State, after: &State, spot: &Spot) -> String {
+    if after.status == FIR_UNDEF {
         format!("UNDEF: {}", cause::cause(before, spot))
     } else {
         changes::changes(before, after, spot)
-    };
-    let text = spot.text();
-    format!("{step:>6} {depth:>3}  {version:<5} block {block}  {text:<36} {changes}")
+    }
 }
 
 /// Where a run stands that is not DONE, and why it is UNDEF if it is.

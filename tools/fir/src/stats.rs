@@ -1,0 +1,64 @@
+//! `fir run --stats`: what the steps of a run were, counted one by one.
+
+use crate::failure::Failure;
+use crate::single::Single;
+use crate::streams::Streams;
+use library::{Run, Search};
+
+/// What was counted of a run.
+#[derive(Default)]
+pub struct Stats {
+    /// The calls that CALL and DISPATCH opened.
+    calls: u64,
+    /// The steps that were a DISPATCH.
+    dispatches: u64,
+    /// How many versions they looked at.
+    looked: u64,
+    /// How many versions the functions had that they searched.
+    versions: u64,
+}
+
+impl Stats {
+    /// Takes single steps until so many are taken in all, and counts them; how many
+    /// are taken then.
+    pub fn steps(&mut self, run: &mut Run, taken: u32, wished: u32) -> u32 {
+        let mut steps = taken;
+        while steps < wished {
+            let (search, calls) = (run.search(), run.state().calls);
+            let single = Single::take(run);
+            if single.counts {
+                steps += 1;
+                self.calls += u64::from(run.state().calls > calls);
+                self.add(search);
+            }
+            if !single.goes_on {
+                break;
+            }
+        }
+        steps
+    }
+
+    /// Adds the search of a step, if it was a DISPATCH.
+    fn add(&mut self, search: Option<Search>) {
+        if let Some(Search { looked, versions }) = search {
+            self.dispatches += 1;
+            self.looked += looked as u64;
+            self.versions += versions as u64;
+        }
+    }
+
+    /// Prints what was counted of so many steps.
+    pub fn tell(&self, steps: u32, streams: &mut Streams) -> Result<(), Failure> {
+        let Stats {
+            calls,
+            dispatches,
+            looked,
+            versions,
+        } = self;
+        streams.line(&format!("  steps: {steps}"))?;
+        streams.line(&format!("  calls: {calls}"))?;
+        streams.line(&format!(
+            "  DISPATCH steps: {dispatches}, looked at {looked} of {versions} versions"
+        ))
+    }
+}
