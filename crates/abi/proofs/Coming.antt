@@ -12,7 +12,7 @@ use Rattle.checker.specs.Verdicts.{verdictOf}
 use Rattle.checker.specs.declared.Verdict.{Verdict}
 use Rattle.machine.specs.Begin.{Given, arguments, beginAfter, beginOf, enteredOf, programOf, question11, question12, question13, refused, runOf}
 use Rattle.machine.specs.Calls.{closed}
-use Rattle.machine.specs.Runs.{budgetIn, budgetOf, continued, longEnough, runFrom, stepOf, written}
+use Rattle.machine.specs.Runs.{budgetIn, budgetInTo, budgetOf, budgetOfTo, continued, longEnough, runFrom, runFromTo, stepOf, written}
 use Rattle.machine.specs.States.{itemsOf, over, withEnd, withStack}
 use Rattle.machine.specs.declared.Answer.{Answer}
 use Rattle.machine.specs.declared.Begun.{Begun}
@@ -114,7 +114,7 @@ Taken (Answer.Ended e) = Unit {0}
 Taken Answer.Stuck = Unit {0}
 
 run-taken : (P : Program) (n : ℕ) (s : State) (m : ℕ) → Taken (runFrom P n s m .answer)
-unfolding runFrom continued Taken
+unfolding runFromTo continued Taken
 run-taken P zero s m = tt
 run-taken P (suc n) s m = go (stepOf P s .state) (stepOf P s .said) (λ t. run-taken P n t (m + 1))
   where
@@ -124,7 +124,7 @@ run-taken P (suc n) s m = go (stepOf P s .state) (stepOf P s .said) (λ t. run-t
     go t Said.Stuck more = tt
 
 budget-taken : (P : Program) (s : State) (n : ℕ) (x : Status) → Taken (budgetIn P s n x .answer)
-unfolding budgetIn Taken
+unfolding budgetInTo Taken
 budget-taken P s n Status.Running = run-taken P n s 0
 budget-taken P s n (Status.Ended e) = tt
 
@@ -197,8 +197,8 @@ begun-long image f v words buffer = go (verdictOf image)
 
 -- whatever the state was before, a budget that is taken leaves the same
 taken-left : (P : Program) (s : State) (n : ℕ) (buffer : List ℤ) (E E′ X : Snapshot) → longEnough buffer ≡ true → Left (budgetOf P s n buffer .answer) (budgetOf P s n buffer .state) E X → Left (budgetOf P s n buffer .answer) (budgetOf P s n buffer .state) E′ X
-unfolding budgetOf Taken Left
-taken-left P s n buffer E E′ X e h = rw (e, budgetOf) (go (budgetIn P s n (s .status) .state) (budgetIn P s n (s .status) .answer) (budget-taken P s n (s .status)) (rw (e, budgetOf) at h))
+unfolding budgetOfTo Taken Left
+taken-left P s n buffer E E′ X e h = rw (e, budgetOfTo) (go (budgetIn P s n (s .status) .state) (budgetIn P s n (s .status) .answer) (budget-taken P s n (s .status)) (rw (e, budgetOfTo) at h))
   where
     go : (u : State) (w : Answer) → Taken w → Left w u E X → Left w u E′ X
     go u (Answer.Refused q p) t h = absurd t

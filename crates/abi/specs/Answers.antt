@@ -65,10 +65,10 @@ answerNumbers Answer.Stuck n = plainNumbers 7 n
 
 -- ---- the memory of a state
 
--- the bytes of a state, by the widths of its fields
+-- the bytes of a state, by the widths of its fields; four that hold nothing stand before the last, the value
 abbrev pub stateSize : ℕ
-stateSize = 4 * (768 + 1024 + 64 + 16) + 2 * 768 + (64 + 192 + 64 + 192) + 4 + 4
+stateSize = 8 * (768 + 1024 + 64 + 16) + 2 * 768 + (64 + 192 + 64 + 192) + 4 + 4 + 8
 
 -- that of its widest field
 abbrev pub stateAlignment : ℕ
-stateAlignment = 4
+stateAlignment = 8

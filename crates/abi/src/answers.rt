@@ -27,7 +27,7 @@ pub struct FirEntry {
 /// What a single step says.
 #[repr(C)]
 pub struct FirSaid {
-    pub value: i32,
+    pub value: i64,
     pub code: u8,
     pub length: u8,
 }
@@ -36,7 +36,7 @@ pub struct FirSaid {
 #[repr(C)]
 pub struct FirAnswer {
     pub steps: u32,
-    pub value: i32,
+    pub value: i64,
     pub offset: u16,
     pub code: u8,
     pub length: u8,
@@ -46,7 +46,7 @@ pub struct FirAnswer {
 /// What a register or a name holds.
 #[repr(C)]
 pub struct FirValue {
-    pub number: i32,
+    pub number: i64,
     pub kind: u8,
     pub place: u8,
 }

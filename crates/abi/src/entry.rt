@@ -26,10 +26,10 @@ use program::lookup;
 fn start<'s>(
     frame: Frame,
     vectors: [Vector; 64],
-    numbers: &'s mut [i32; 768],
-    items: &'s mut [i32; 1024],
-    caches: &'s mut [i32; 64],
-    result: &'s mut [i32; 16],
+    numbers: &'s mut [i64; 768],
+    items: &'s mut [i64; 1024],
+    caches: &'s mut [i64; 64],
+    result: &'s mut [i64; 16],
     codes: &'s mut [u16; 768],
     owners: &'s mut [u8; 64],
     stack: &'s mut [u8; 192],
@@ -39,14 +39,11 @@ fn start<'s>(
     depth: &'s mut u8,
     status: &'s mut u8,
     length: &'s mut u8,
-    value: &'s mut i32,
+    value: &'s mut i64,
 )
     ensures { λ _. ⌜ held (snapshotOf (now (numbers .exit)) (now (items .exit)) (now (caches .exit)) (now (result .exit)) (now (codes .exit)) (now (owners .exit)) (now (stack .exit)) (now (lengths .exit)) (now (promises .exit)) (now (calls .exit)) (now (depth .exit)) (now (status .exit)) (now (length .exit)) (now (value .exit))) ≡ startedOf frame vectors ⌝ }
 {
-    let blank = Frame::new(0, 0);
-    let mut frames = [blank; 32];
-    frames[0] = frame;
-    frames::load_frames(frames, owners, codes, numbers);
+    frames::load_first(frame, owners, codes, numbers);
     heap::load_vectors(vectors, lengths, items);
     *stack = [0; 192];
     *promises = [0; 192];
@@ -63,12 +60,12 @@ fn start<'s>(
 fn entered<'s>(
     image: &[u8],
     v: usize,
-    words: &[i32],
-    buffer: &[i32],
-    numbers: &'s mut [i32; 768],
-    items: &'s mut [i32; 1024],
-    caches: &'s mut [i32; 64],
-    result: &'s mut [i32; 16],
+    words: &[i64],
+    buffer: &[i64],
+    numbers: &'s mut [i64; 768],
+    items: &'s mut [i64; 1024],
+    caches: &'s mut [i64; 64],
+    result: &'s mut [i64; 16],
     codes: &'s mut [u16; 768],
     owners: &'s mut [u8; 64],
     stack: &'s mut [u8; 192],
@@ -78,7 +75,7 @@ fn entered<'s>(
     depth: &'s mut u8,
     status: &'s mut u8,
     length: &'s mut u8,
-    value: &'s mut i32,
+    value: &'s mut i64,
 ) -> Entry
     requires { ⌜ Limited (versionAt (now image) v) ⌝ }
     ensures { λ r. ⌜ (r ≡ question12 (versionAt (now (image .entry)) v) (arguments (parameterTypes (versionAt (now (image .entry)) v)) (now (words .entry))) (now (buffer .entry)) .entry) × Began r (question12 (versionAt (now (image .entry)) v) (arguments (parameterTypes (versionAt (now (image .entry)) v)) (now (words .entry))) (now (buffer .entry)) .state) (snapshotOf (now (numbers .entry)) (now (items .entry)) (now (caches .entry)) (now (result .entry)) (now (codes .entry)) (now (owners .entry)) (now (stack .entry)) (now (lengths .entry)) (now (promises .entry)) (now (calls .entry)) (now (depth .entry)) (now (status .entry)) (now (length .entry)) (now (value .entry))) (snapshotOf (now (numbers .exit)) (now (items .exit)) (now (caches .exit)) (now (result .exit)) (now (codes .exit)) (now (owners .exit)) (now (stack .exit)) (now (lengths .exit)) (now (promises .exit)) (now (calls .exit)) (now (depth .exit)) (now (status .exit)) (now (length .exit)) (now (value .exit))) ⌝ }
@@ -123,12 +120,12 @@ fn enter<'s>(
     image: &[u8],
     function: usize,
     version: usize,
-    words: &[i32],
-    buffer: &[i32],
-    numbers: &'s mut [i32; 768],
-    items: &'s mut [i32; 1024],
-    caches: &'s mut [i32; 64],
-    result: &'s mut [i32; 16],
+    words: &[i64],
+    buffer: &[i64],
+    numbers: &'s mut [i64; 768],
+    items: &'s mut [i64; 1024],
+    caches: &'s mut [i64; 64],
+    result: &'s mut [i64; 16],
     codes: &'s mut [u16; 768],
     owners: &'s mut [u8; 64],
     stack: &'s mut [u8; 192],
@@ -138,7 +135,7 @@ fn enter<'s>(
     depth: &'s mut u8,
     status: &'s mut u8,
     length: &'s mut u8,
-    value: &'s mut i32,
+    value: &'s mut i64,
 ) -> Entry
     ensures { λ r. ⌜ (r ≡ beginOf (now (image .entry)) function version (now (words .entry)) (now (buffer .entry)) .entry) × Began r (beginOf (now (image .entry)) function version (now (words .entry)) (now (buffer .entry)) .state) (snapshotOf (now (numbers .entry)) (now (items .entry)) (now (caches .entry)) (now (result .entry)) (now (codes .entry)) (now (owners .entry)) (now (stack .entry)) (now (lengths .entry)) (now (promises .entry)) (now (calls .entry)) (now (depth .entry)) (now (status .entry)) (now (length .entry)) (now (value .entry))) (snapshotOf (now (numbers .exit)) (now (items .exit)) (now (caches .exit)) (now (result .exit)) (now (codes .exit)) (now (owners .exit)) (now (stack .exit)) (now (lengths .exit)) (now (promises .exit)) (now (calls .exit)) (now (depth .exit)) (now (status .exit)) (now (length .exit)) (now (value .exit))) ⌝ }
 {
@@ -175,12 +172,12 @@ pub fn begin<'s>(
     image: &[u8],
     function: usize,
     version: usize,
-    words: &[i32],
-    buffer: &[i32],
-    numbers: &'s mut [i32; 768],
-    items: &'s mut [i32; 1024],
-    caches: &'s mut [i32; 64],
-    result: &'s mut [i32; 16],
+    words: &[i64],
+    buffer: &[i64],
+    numbers: &'s mut [i64; 768],
+    items: &'s mut [i64; 1024],
+    caches: &'s mut [i64; 64],
+    result: &'s mut [i64; 16],
     codes: &'s mut [u16; 768],
     owners: &'s mut [u8; 64],
     stack: &'s mut [u8; 192],
@@ -190,7 +187,7 @@ pub fn begin<'s>(
     depth: &'s mut u8,
     status: &'s mut u8,
     length: &'s mut u8,
-    value: &'s mut i32,
+    value: &'s mut i64,
 ) -> FirEntry
     ensures { λ r. ⌜ (r ≡ entryNumbers (beginOf (now (image .entry)) function version (now (words .entry)) (now (buffer .entry)) .entry)) × Began (beginOf (now (image .entry)) function version (now (words .entry)) (now (buffer .entry)) .entry) (beginOf (now (image .entry)) function version (now (words .entry)) (now (buffer .entry)) .state) (snapshotOf (now (numbers .entry)) (now (items .entry)) (now (caches .entry)) (now (result .entry)) (now (codes .entry)) (now (owners .entry)) (now (stack .entry)) (now (lengths .entry)) (now (promises .entry)) (now (calls .entry)) (now (depth .entry)) (now (status .entry)) (now (length .entry)) (now (value .entry))) (snapshotOf (now (numbers .exit)) (now (items .exit)) (now (caches .exit)) (now (result .exit)) (now (codes .exit)) (now (owners .exit)) (now (stack .exit)) (now (lengths .exit)) (now (promises .exit)) (now (calls .exit)) (now (depth .exit)) (now (status .exit)) (now (length .exit)) (now (value .exit))) ⌝ }
 {
@@ -223,13 +220,13 @@ pub fn run<'s>(
     image: &[u8],
     function: usize,
     version: usize,
-    words: &[i32],
+    words: &[i64],
     steps: u32,
-    buffer: &mut [i32],
-    numbers: &'s mut [i32; 768],
-    items: &'s mut [i32; 1024],
-    caches: &'s mut [i32; 64],
-    result: &'s mut [i32; 16],
+    buffer: &mut [i64],
+    numbers: &'s mut [i64; 768],
+    items: &'s mut [i64; 1024],
+    caches: &'s mut [i64; 64],
+    result: &'s mut [i64; 16],
     codes: &'s mut [u16; 768],
     owners: &'s mut [u8; 64],
     stack: &'s mut [u8; 192],
@@ -239,7 +236,7 @@ pub fn run<'s>(
     depth: &'s mut u8,
     status: &'s mut u8,
     length: &'s mut u8,
-    value: &'s mut i32,
+    value: &'s mut i64,
 ) -> FirAnswer
     ensures { λ r. ⌜ Answers r (runOf (now (image .entry)) function version (now (words .entry)) steps (now (buffer .entry))) (snapshotOf (now (numbers .entry)) (now (items .entry)) (now (caches .entry)) (now (result .entry)) (now (codes .entry)) (now (owners .entry)) (now (stack .entry)) (now (lengths .entry)) (now (promises .entry)) (now (calls .entry)) (now (depth .entry)) (now (status .entry)) (now (length .entry)) (now (value .entry))) (snapshotOf (now (numbers .exit)) (now (items .exit)) (now (caches .exit)) (now (result .exit)) (now (codes .exit)) (now (owners .exit)) (now (stack .exit)) (now (lengths .exit)) (now (promises .exit)) (now (calls .exit)) (now (depth .exit)) (now (status .exit)) (now (length .exit)) (now (value .exit))) (now (buffer .entry)) (now (buffer .exit)) ⌝ }
 {

@@ -32,7 +32,7 @@ pub mod parts;
 pub extern "C" fn fir_state_size() -> usize
     ensures { λ r. ⌜ r ≡ stateSize ⌝ }
 {
-    9544
+    17040
 }
 
 /// The alignment of a state in bytes.
@@ -40,7 +40,7 @@ pub extern "C" fn fir_state_size() -> usize
 pub extern "C" fn fir_state_alignment() -> usize
     ensures { λ r. ⌜ r ≡ stateAlignment ⌝ }
 {
-    4
+    8
 }
 
 /// Checks an image.
@@ -70,8 +70,8 @@ pub extern "C" fn fir_begin(
     image: &[u8],
     function: usize,
     version: usize,
-    words: &[i32],
-    buffer: &[i32],
+    words: &[i64],
+    buffer: &[i64],
     state: &mut Snapshot,
 ) -> FirEntry
     ensures { λ r. ⌜ (r ≡ entryNumbers (beginOf (now (image .entry)) function version (now (words .entry)) (now (buffer .entry)) .entry)) × Began (beginOf (now (image .entry)) function version (now (words .entry)) (now (buffer .entry)) .entry) (beginOf (now (image .entry)) function version (now (words .entry)) (now (buffer .entry)) .state) (now (state .entry)) (now (state .exit)) ⌝ }
@@ -130,7 +130,7 @@ pub extern "C" fn fir_budget(
     image: &[u8],
     state: &mut Snapshot,
     budget: u32,
-    buffer: &mut [i32],
+    buffer: &mut [i64],
 ) -> FirAnswer
     ensures { λ r. ⌜ Answers r (budgetOf (programOf (now (image .entry))) (held (now (state .entry))) budget (now (buffer .entry))) (now (state .entry)) (now (state .exit)) (now (buffer .entry)) (now (buffer .exit)) ⌝ }
 {
@@ -161,9 +161,9 @@ pub extern "C" fn fir_run(
     image: &[u8],
     function: usize,
     version: usize,
-    words: &[i32],
+    words: &[i64],
     budget: u32,
-    buffer: &mut [i32],
+    buffer: &mut [i64],
     state: &mut Snapshot,
 ) -> FirAnswer
     ensures { λ r. ⌜ Answers r (runOf (now (image .entry)) function version (now (words .entry)) budget (now (buffer .entry))) (now (state .entry)) (now (state .exit)) (now (buffer .entry)) (now (buffer .exit)) ⌝ }

@@ -43,7 +43,7 @@ pub struct Outcome {
 }
 
 /// The run has ended.
-fn end(status: &mut u8, length: &mut u8, value: &mut i32, end: End, steps: u32) -> Outcome
+fn end(status: &mut u8, length: &mut u8, value: &mut i64, end: End, steps: u32) -> Outcome
     ensures { λ r. ⌜ (r .answer ≡ Answer.Ended end) × (r .steps ≡ steps) × (statusOf (now (status .exit)) (now (value .exit)) (now (length .exit)) ≡ Status.Ended end) ⌝ }
 {
     let mark = snapshots::end_mark(end);
@@ -59,14 +59,14 @@ fn end(status: &mut u8, length: &mut u8, value: &mut i32, end: End, steps: u32) 
 
 /// Settles what so many steps have come to: the live calls and activations, and the end where the run has one.
 fn settle(
-    items: &[i32; 1024],
-    result: &mut [i32; 16],
+    items: &[i64; 1024],
+    result: &mut [i64; 16],
     lengths: &[u8; 64],
     calls: &mut u8,
     depth: &mut u8,
     status: &mut u8,
     length: &mut u8,
-    value: &mut i32,
+    value: &mut i64,
     counted: Counted,
 ) -> Outcome
     requires { ⌜ (counted .calls < 256) × (counted .depth < 256) × Placed (counted .turn) × (statusOf (now status) (now value) (now length) ≡ Status.Running) ⌝ }
@@ -111,10 +111,10 @@ fn settle(
 fn resumed<'s>(
     image: &[u8],
     budget: u32,
-    numbers: &'s mut [i32; 768],
-    items: &'s mut [i32; 1024],
-    caches: &'s mut [i32; 64],
-    result: &'s mut [i32; 16],
+    numbers: &'s mut [i64; 768],
+    items: &'s mut [i64; 1024],
+    caches: &'s mut [i64; 64],
+    result: &'s mut [i64; 16],
     codes: &'s mut [u16; 768],
     owners: &'s mut [u8; 64],
     stack: &'s mut [u8; 192],
@@ -124,7 +124,7 @@ fn resumed<'s>(
     depth: &'s mut u8,
     status: &'s mut u8,
     length: &'s mut u8,
-    value: &'s mut i32,
+    value: &'s mut i64,
 ) -> Outcome
     requires { ⌜ statusOf (now status) (now value) (now length) ≡ Status.Running ⌝ }
     ensures { λ r. ⌜ Comes r (snapshotOf (now (numbers .exit)) (now (items .exit)) (now (caches .exit)) (now (result .exit)) (now (codes .exit)) (now (owners .exit)) (now (stack .exit)) (now (lengths .exit)) (now (promises .exit)) (now (calls .exit)) (now (depth .exit)) (now (status .exit)) (now (length .exit)) (now (value .exit))) (runFrom (programOf (now (image .entry))) budget (held (snapshotOf (now (numbers .entry)) (now (items .entry)) (now (caches .entry)) (now (result .entry)) (now (codes .entry)) (now (owners .entry)) (now (stack .entry)) (now (lengths .entry)) (now (promises .entry)) (now (calls .entry)) (now (depth .entry)) (now (status .entry)) (now (length .entry)) (now (value .entry)))) 0) ⌝ }
@@ -160,10 +160,10 @@ fn resumed<'s>(
 fn under<'s>(
     image: &[u8],
     budget: u32,
-    numbers: &'s mut [i32; 768],
-    items: &'s mut [i32; 1024],
-    caches: &'s mut [i32; 64],
-    result: &'s mut [i32; 16],
+    numbers: &'s mut [i64; 768],
+    items: &'s mut [i64; 1024],
+    caches: &'s mut [i64; 64],
+    result: &'s mut [i64; 16],
     codes: &'s mut [u16; 768],
     owners: &'s mut [u8; 64],
     stack: &'s mut [u8; 192],
@@ -173,7 +173,7 @@ fn under<'s>(
     depth: &'s mut u8,
     status: &'s mut u8,
     length: &'s mut u8,
-    value: &'s mut i32,
+    value: &'s mut i64,
 ) -> Outcome
     ensures { λ r. ⌜ Comes r (snapshotOf (now (numbers .exit)) (now (items .exit)) (now (caches .exit)) (now (result .exit)) (now (codes .exit)) (now (owners .exit)) (now (stack .exit)) (now (lengths .exit)) (now (promises .exit)) (now (calls .exit)) (now (depth .exit)) (now (status .exit)) (now (length .exit)) (now (value .exit))) (budgetIn (programOf (now (image .entry))) (held (snapshotOf (now (numbers .entry)) (now (items .entry)) (now (caches .entry)) (now (result .entry)) (now (codes .entry)) (now (owners .entry)) (now (stack .entry)) (now (lengths .entry)) (now (promises .entry)) (now (calls .entry)) (now (depth .entry)) (now (status .entry)) (now (length .entry)) (now (value .entry)))) budget (held (snapshotOf (now (numbers .entry)) (now (items .entry)) (now (caches .entry)) (now (result .entry)) (now (codes .entry)) (now (owners .entry)) (now (stack .entry)) (now (lengths .entry)) (now (promises .entry)) (now (calls .entry)) (now (depth .entry)) (now (status .entry)) (now (length .entry)) (now (value .entry))) .status)) ⌝ }
 {
@@ -206,10 +206,10 @@ fn under<'s>(
 /// A single step.
 pub fn step<'s>(
     image: &[u8],
-    numbers: &'s mut [i32; 768],
-    items: &'s mut [i32; 1024],
-    caches: &'s mut [i32; 64],
-    result: &'s mut [i32; 16],
+    numbers: &'s mut [i64; 768],
+    items: &'s mut [i64; 1024],
+    caches: &'s mut [i64; 64],
+    result: &'s mut [i64; 16],
     codes: &'s mut [u16; 768],
     owners: &'s mut [u8; 64],
     stack: &'s mut [u8; 192],
@@ -219,7 +219,7 @@ pub fn step<'s>(
     depth: &'s mut u8,
     status: &'s mut u8,
     length: &'s mut u8,
-    value: &'s mut i32,
+    value: &'s mut i64,
 ) -> FirSaid
     ensures { λ r. ⌜ (r ≡ saidNumbers (stepOf (programOf (now (image .entry))) (held (snapshotOf (now (numbers .entry)) (now (items .entry)) (now (caches .entry)) (now (result .entry)) (now (codes .entry)) (now (owners .entry)) (now (stack .entry)) (now (lengths .entry)) (now (promises .entry)) (now (calls .entry)) (now (depth .entry)) (now (status .entry)) (now (length .entry)) (now (value .entry)))) .said)) × (held (snapshotOf (now (numbers .exit)) (now (items .exit)) (now (caches .exit)) (now (result .exit)) (now (codes .exit)) (now (owners .exit)) (now (stack .exit)) (now (lengths .exit)) (now (promises .exit)) (now (calls .exit)) (now (depth .exit)) (now (status .exit)) (now (length .exit)) (now (value .exit))) ≡ stepOf (programOf (now (image .entry))) (held (snapshotOf (now (numbers .entry)) (now (items .entry)) (now (caches .entry)) (now (result .entry)) (now (codes .entry)) (now (owners .entry)) (now (stack .entry)) (now (lengths .entry)) (now (promises .entry)) (now (calls .entry)) (now (depth .entry)) (now (status .entry)) (now (length .entry)) (now (value .entry)))) .state) ⌝ }
 {
@@ -249,11 +249,11 @@ pub fn step<'s>(
 pub fn budget<'s>(
     image: &[u8],
     budget: u32,
-    buffer: &mut [i32],
-    numbers: &'s mut [i32; 768],
-    items: &'s mut [i32; 1024],
-    caches: &'s mut [i32; 64],
-    result: &'s mut [i32; 16],
+    buffer: &mut [i64],
+    numbers: &'s mut [i64; 768],
+    items: &'s mut [i64; 1024],
+    caches: &'s mut [i64; 64],
+    result: &'s mut [i64; 16],
     codes: &'s mut [u16; 768],
     owners: &'s mut [u8; 64],
     stack: &'s mut [u8; 192],
@@ -263,7 +263,7 @@ pub fn budget<'s>(
     depth: &'s mut u8,
     status: &'s mut u8,
     length: &'s mut u8,
-    value: &'s mut i32,
+    value: &'s mut i64,
 ) -> FirAnswer
     ensures { λ r. ⌜ Answers r (budgetOf (programOf (now (image .entry))) (held (snapshotOf (now (numbers .entry)) (now (items .entry)) (now (caches .entry)) (now (result .entry)) (now (codes .entry)) (now (owners .entry)) (now (stack .entry)) (now (lengths .entry)) (now (promises .entry)) (now (calls .entry)) (now (depth .entry)) (now (status .entry)) (now (length .entry)) (now (value .entry)))) budget (now (buffer .entry))) (snapshotOf (now (numbers .entry)) (now (items .entry)) (now (caches .entry)) (now (result .entry)) (now (codes .entry)) (now (owners .entry)) (now (stack .entry)) (now (lengths .entry)) (now (promises .entry)) (now (calls .entry)) (now (depth .entry)) (now (status .entry)) (now (length .entry)) (now (value .entry))) (snapshotOf (now (numbers .exit)) (now (items .exit)) (now (caches .exit)) (now (result .exit)) (now (codes .exit)) (now (owners .exit)) (now (stack .exit)) (now (lengths .exit)) (now (promises .exit)) (now (calls .exit)) (now (depth .exit)) (now (status .exit)) (now (length .exit)) (now (value .exit))) (now (buffer .entry)) (now (buffer .exit)) ⌝ }
 {
@@ -297,7 +297,7 @@ pub fn budget<'s>(
 /// What the place `place` of the live call `call` holds.
 pub fn look<'s>(
     codes: &'s [u16; 768],
-    numbers: &'s [i32; 768],
+    numbers: &'s [i64; 768],
     calls: &'s u8,
     call: usize,
     place: usize,

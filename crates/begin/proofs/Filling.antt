@@ -8,7 +8,7 @@ use native.Mathlib.Omega.{arith}
 use lib.IntN.{ℤ, pos}
 use lib.ListN.{length, getD, set, take, drop, length-drop, drop-of-length-le}
 use lib.Seq.{sets, drop-cons, drop-drop, length-take-le, getD-take}
-use mir.Syntax.{w32}
+use mir.Syntax.{w64}
 use mir.Val.{SFits, toZ, ofZ}
 use mir.Facts.{toZ-ofZ}
 use Rattle.layout.specs.Records.{_!_}
@@ -154,7 +154,7 @@ module _ {W : Version} {ws : List ℤ} {n i p c : ℕ} {rs : List Place} {vs : L
     going-nothing e = sym (ahead-nothing (parameterTypes W) ws i p c rs vs t below is e) ∙ g .ahead
 
     -- the integer as it is stored
-    pub going-integer : {z : ℤ} → SFits w32 z → argumentOf (bind (begins.first (drop p ws)) (matched t)) ≡ Argument.Integer z → (p + 2 ≤ length ws) × Going W ws n (i + 1) (p + 2) c (set rs i (place (Value.Integer (toZ w32 (ofZ w32 z))))) vs
+    pub going-integer : {z : ℤ} → SFits w64 z → argumentOf (bind (begins.first (drop p ws)) (matched t)) ≡ Argument.Integer z → (p + 2 ≤ length ws) × Going W ws n (i + 1) (p + 2) c (set rs i (place (Value.Integer (toZ w64 (ofZ w64 z))))) vs
     going-integer {z} f e = let a = ahead-integer (parameterTypes W) ws i p c rs vs t below is z e in (a .0, record { enough = g .enough; all = g .all; ahead = rw (toZ-ofZ f) (sym (a .1) ∙ g .ahead) })
 
     pub going-vector : {m : ℕ} → argumentOf (bind (begins.first (drop p ws)) (matched t)) ≡ Argument.Vector m → (m ≤ ITEMS) × (p + 1 + m ≤ length ws) × Going W ws n (i + 1) (p + (m + 1)) (c + 1) (set rs i (place (Value.Vector c))) (set vs c (newVector (take m (drop (p + 1) ws))))

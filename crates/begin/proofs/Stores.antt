@@ -6,7 +6,7 @@ use native.Mathlib.Omega.{arith}
 use lib.IntN.{ℤ, pos}
 use lib.ListN.{length, getD, set, take, drop, replicate, length-drop}
 use lib.Seq.{sets, drop-cons, length-take-le}
-use mir.Syntax.{w32}
+use mir.Syntax.{w64}
 use mir.Val.{SFits, toZ, ofZ}
 use mir.Facts.{toZ-ofZ}
 use Rattle.machine.specs.States.{ITEMS, newVector, over}
@@ -52,7 +52,7 @@ module _ (ws : List ℤ) (p n : ℕ) where
         rw (a, drop-cons ws (p + j) (pos 0) (omega (arith, h, room)), b) refl
 
     -- the word as it is read
-    pub copied-one : SFits w32 (getD ws (p + j) (pos 0)) → j < n → Copied items j → Copied (set items j (toZ w32 (ofZ w32 (getD ws (p + j) (pos 0))))) (j + 1)
+    pub copied-one : SFits w64 (getD ws (p + j) (pos 0)) → j < n → Copied items j → Copied (set items j (toZ w64 (ofZ w64 (getD ws (p + j) (pos 0))))) (j + 1)
     unfolding Copied
     copied-one f h c =
         let a : suc j ≡ j + 1 = omega arith in

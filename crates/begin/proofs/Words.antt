@@ -11,7 +11,7 @@ use lib.Seq.{length-take-le, drop-cons, getD-drop}
 use lib.Dec.{T, leb}
 use lib.Signed.{ltZ, nonNeg}
 use borrow.Author.Tests.{le-leb, lt-leb, leb-true, ltb-true}
-use mir.Syntax.{w32, w64}
+use mir.Syntax.{w64}
 use mir.Val.{Fits, SFits, toZ, ofZ}
 use mir.Facts.{toZ-ofZ, fits-natAbs}
 use Rattle.machine.specs.States.{ITEMS}
@@ -94,10 +94,10 @@ module _ (z : ℤ) (r : List ℤ) where
 
 -- ---- at the word p
 
-module _ (ws : List ℤ) (p : ℕ) (inside : p < length ws) (fits : SFits w32 (getD ws p (pos 0))) where
+module _ (ws : List ℤ) (p : ℕ) (inside : p < length ws) (fits : SFits w64 (getD ws p (pos 0))) where
   -- the word, as it is read
   abbrev word : ℤ
-  word = toZ w32 (ofZ w32 (getD ws p (pos 0)))
+  word = toZ w64 (ofZ w64 (getD ws p (pos 0)))
 
   -- how many are behind it
   abbrev behind : ℕ
@@ -109,24 +109,24 @@ module _ (ws : List ℤ) (p : ℕ) (inside : p < length ws) (fits : SFits w32 (g
   behind-at : length (drop (suc p) ws) ≡ behind
   behind-at = omega (arith, length-drop (suc p) ws)
 
-  minus-at : ofZ w32 (getD ws p (pos 0)) ≡ 4294967295 → word ≡ negsuc 0
-  minus-at e = ap (toZ w32) e
+  minus-at : ofZ w64 (getD ws p (pos 0)) ≡ 18446744073709551615 → word ≡ negsuc 0
+  minus-at e = ap (toZ w64) e
 
-  pub lone-at : ofZ w32 (getD ws p (pos 0)) ≡ 4294967295 → behind ≡ 0 → Argument.Nothing ≡ argumentOf (begins.first (drop p ws))
+  pub lone-at : ofZ w64 (getD ws p (pos 0)) ≡ 18446744073709551615 → behind ≡ 0 → Argument.Nothing ≡ argumentOf (begins.first (drop p ws))
   lone-at e h = rw begins-at (lone word (drop (suc p) ws) (minus-at e) (behind-at ∙ h))
 
-  pub one-at : ofZ w32 (getD ws p (pos 0)) ≡ 4294967295 → (behind ≡ 0 → ⊥) → Argument.Integer (getD ws (p + 1) (pos 0)) ≡ argumentOf (begins.first (drop p ws))
+  pub one-at : ofZ w64 (getD ws p (pos 0)) ≡ 18446744073709551615 → (behind ≡ 0 → ⊥) → Argument.Integer (getD ws (p + 1) (pos 0)) ≡ argumentOf (begins.first (drop p ws))
   one-at e h =
       let a : suc p + 0 ≡ p + 1 = omega arith in
       let g : getD ws (p + 1) (pos 0) ≡ getD (drop (suc p) ws) 0 (pos 0) = rw (← a) (sym (getD-drop (suc p) ws 0 (pos 0))) in
       rw (begins-at, g) (one word (drop (suc p) ws) (minus-at e) (λ k. h (sym behind-at ∙ k)))
 
-  pub below-at : (ofZ w32 (getD ws p (pos 0)) ≡ 4294967295 → ⊥) → ltZ word (pos 0) ≡ true → Argument.Nothing ≡ argumentOf (begins.first (drop p ws))
-  below-at e h = rw begins-at (below word (drop (suc p) ws) (λ k. e (ap (ofZ w32) (sym (toZ-ofZ fits) ∙ k))) h)
+  pub below-at : (ofZ w64 (getD ws p (pos 0)) ≡ 18446744073709551615 → ⊥) → ltZ word (pos 0) ≡ true → Argument.Nothing ≡ argumentOf (begins.first (drop p ws))
+  below-at e h = rw begins-at (below word (drop (suc p) ws) (λ k. e (ap (ofZ w64) (sym (toZ-ofZ fits) ∙ k))) h)
 
   -- the length that it is
   pub length-at : ltZ word (pos 0) ≡ false → T (nonNeg word) × Fits w64 (natAbs word)
-  length-at h = (from-zero word h, fits-natAbs {w = w32} {z = word} tt (rw (toZ-ofZ fits) fits))
+  length-at h = (from-zero word h, fits-natAbs {w = w64} {z = word} tt (rw (toZ-ofZ fits) fits))
 
   pub many-at : ltZ word (pos 0) ≡ false → ITEMS < natAbs word → Argument.Nothing ≡ argumentOf (begins.first (drop p ws))
   many-at e h = rw begins-at (many word (drop (suc p) ws) e h)

@@ -31,7 +31,7 @@ use typing::types;
 /// An argument: none that is allowed, an integer, or a vector with its number of items.
 enum Argument {
     Nothing,
-    Integer(i32),
+    Integer(i64),
     Vector(usize),
 }
 
@@ -43,7 +43,7 @@ pub struct Filled {
 }
 
 /// The argument that begins at the word `p`, if there is one.
-fn given(words: &[i32], p: usize) -> Argument
+fn given(words: &[i64], p: usize) -> Argument
     ensures { λ r. ⌜ r ≡ argumentOf (first (drop p (now (words .entry)))) ⌝ }
 {
     if words.len() <= p {
@@ -71,7 +71,7 @@ fn given(words: &[i32], p: usize) -> Argument
 }
 
 /// The argument that begins at the word `p` for a parameter of type `t`, if there is one that matches.
-fn matching(words: &[i32], p: usize, t: usize) -> Argument
+fn matching(words: &[i64], p: usize, t: usize) -> Argument
     ensures { λ r. ⌜ r ≡ argumentOf (bind (first (drop p (now (words .entry)))) (matched t)) ⌝ }
 {
     match given(words, p) {
@@ -94,11 +94,11 @@ fn matching(words: &[i32], p: usize, t: usize) -> Argument
 }
 
 /// The vector of the `n` words from the word `p` on.
-fn vector_at(words: &[i32], p: usize, n: usize) -> Vector
+fn vector_at(words: &[i64], p: usize, n: usize) -> Vector
     requires { ⌜ (n ≤ ITEMS) × (p + n ≤ length (now words)) ⌝ }
     ensures { λ r. ⌜ r ≡ newVector (take n (drop p (now (words .entry)))) ⌝ }
 {
-    let mut items: [i32; 16] = [0; 16];
+    let mut items: [i64; 16] = [0; 16];
     let mut j: usize = 0;
     while j < n {
         items[j] = words[p + j];
@@ -128,7 +128,7 @@ fn unfilled() -> Filled
 
 /// Reads an argument for each parameter of the version at `v`. Public for the C interface, which asks of a version of an
 /// accepted image.
-pub fn fill(image: &[u8], v: usize, words: &[i32]) -> Filled
+pub fn fill(image: &[u8], v: usize, words: &[i64]) -> Filled
     requires { ⌜ Limited (versionAt (now image) v) ⌝ }
     ensures { λ r. ⌜ r ≡ filledOf (arguments (parameterTypes (versionAt (now (image .entry)) v)) (now (words .entry))) ⌝ }
 {
@@ -223,7 +223,7 @@ fn started(frame: Frame, vectors: [Vector; 64]) -> State
 }
 
 /// A run of the version at `v`: questions 12 and 13.
-fn entered(image: &[u8], v: usize, words: &[i32], buffer: &[i32]) -> Begun
+fn entered(image: &[u8], v: usize, words: &[i64], buffer: &[i64]) -> Begun
     requires { ⌜ Limited (versionAt (now image) v) ⌝ }
     ensures { λ r. ⌜ r ≡ question12 (versionAt (now (image .entry)) v) (arguments (parameterTypes (versionAt (now (image .entry)) v)) (now (words .entry))) (now (buffer .entry)) ⌝ }
 {
@@ -249,7 +249,7 @@ fn entered(image: &[u8], v: usize, words: &[i32], buffer: &[i32]) -> Begun
 }
 
 /// Begins a run of a version of a function of an image: its state before the first step, or a refusal.
-pub fn begin(image: &[u8], function: usize, version: usize, words: &[i32], buffer: &[i32]) -> Begun
+pub fn begin(image: &[u8], function: usize, version: usize, words: &[i64], buffer: &[i64]) -> Begun
     ensures { λ r. ⌜ r ≡ beginOf (now (image .entry)) function version (now (words .entry)) (now (buffer .entry)) ⌝ }
 {
     match questions::verdict(image) {

@@ -12,7 +12,7 @@ use Rattle.program.specs.Program.{Program, Version, CALL, findVersion, paramete
 use Rattle.program.specs.Shapes.{listedRegisters}
 use Rattle.machine.specs.Begin.{programOf}
 use Rattle.machine.specs.Calls.{enter, matching}
-use Rattle.machine.specs.Steps.{execute}
+use Rattle.machine.specs.Steps.{executeTo}
 use Rattle.machine.specs.Try.{Try, got, stuck, stop, _>>=_, _>>_, orStuck, stuckUnless}
 use Rattle.machine.specs.declared.State.{State}
 use Rattle.memory.specs.Memory.{Long, Memory, cellIn, stateOf}
@@ -77,12 +77,12 @@ matched-on o ks ts t e f = rw (e, f) refl
 
 module _ (P : Program) (W : Version) (M : Memory) (k d f w : ℕ) (rs : List ℕ) where
   call-missing : findVersion P f w ≡ none → executed P W M k (CALL d f w rs) ≡ stuck
-  unfolding executed execute orStuck _>>=_
+  unfolding executed executeTo orStuck _>>=_
   call-missing e = rw e refl
 
   call-found : (X : Version) → findVersion P f w ≡ some X
       → executed P W M k (CALL d f w rs) ≡ (orStuck (allOf (argumentKind P (M .owners) (M .promises) (M .calls) (M .codes) k) rs) >>= λ ks. stuckUnless (matching ks (parameterTypes X)) >> enter (stateOf M) k d X rs (map (λ q. cellIn (M .codes) (M .numbers) (24 * k + q)) rs))
-  unfolding executed execute orStuck _>>=_
+  unfolding executed executeTo orStuck _>>=_
   call-found X e = rw e (arguments-in P M k (λ vs ks. stuckUnless (matching ks (parameterTypes X)) >> enter (stateOf M) k d X rs vs) rs)
 
 listed-call : (s : List ℕ) (at d f w : ℕ) (rs : List ℕ) → instrAt s at ≡ CALL d f w rs → listedRegisters (instrAt s at) ≡ rs

@@ -11,7 +11,7 @@ use Rattle.program.specs.Program.{Argument, Program, Version, DISPATCH, paramet
 use Rattle.program.specs.Shapes.{listedRegisters}
 use Rattle.machine.specs.Begin.{programOf}
 use Rattle.machine.specs.Calls.{dispatches, enter, matching, picked}
-use Rattle.machine.specs.Steps.{execute, registersOf}
+use Rattle.machine.specs.Steps.{executeTo, registersOf}
 use Rattle.machine.specs.Try.{Try, got, stuck, stop, _>>=_, orStuck}
 use Rattle.machine.specs.declared.End.{End}
 use Rattle.machine.specs.declared.State.{State}
@@ -34,7 +34,7 @@ dispatched-match mark ret pairs ks X e = and-both _ _ (and-both _ _ (and-both _ 
 
 module _ (P : Program) (W : Version) (M : Memory) (k d f mark ret : ℕ) (pairs : List Argument) where
   dispatch-in : executed P W M k (DISPATCH d f mark ret pairs) ≡ (orStuck (allOf (argumentKind P (M .owners) (M .promises) (M .calls) (M .codes) k) (registersOf pairs)) >>= λ ks. picked P f mark ret pairs ks >>= λ X. enter (stateOf M) k d X (registersOf pairs) (map (λ q. cellIn (M .codes) (M .numbers) (24 * k + q)) (registersOf pairs)))
-  unfolding executed execute
+  unfolding executed executeTo
   dispatch-in = arguments-in P M k (λ vs ks. picked P f mark ret pairs ks >>= λ X. enter (stateOf M) k d X (registersOf pairs) vs) (registersOf pairs)
 
 bound-none : {B : Type 0} (o : Option (List ℕ)) (g : List ℕ → Try B) → o ≡ none → (orStuck o >>= g) ≡ stuck

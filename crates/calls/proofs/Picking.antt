@@ -17,7 +17,7 @@ use Rattle.layout.specs.Records.{_!_, bodyAt, kindAt}
 use Rattle.layout.specs.Tests.{_and_}
 use Rattle.program.proofs.Forms.{argument-registers, argument-types}
 use Rattle.program.specs.Places.{instrAt, versionAt}
-use Rattle.program.specs.Program.{Argument, Instr, Version, arguments, instrOf, markOf, parameterTypes}
+use Rattle.program.specs.Program.{Argument, Instr, Version, arguments, instrBy, markOf, parameterTypes}
 use Rattle.program.specs.Shapes.{listedRegisters, listedTypes}
 use Rattle.rules.specs.Types.{kindOf, ownershipOf, within}
 use Rattle.machine.proofs.Matching.{same-length}
@@ -118,7 +118,7 @@ module _ (A : ℕ → Option ℕ) where
 -- ---- the pairs of a DISPATCH are fields of its record
 
 pub pair-at : (s : List ℕ) (p j : ℕ) → j < length (listedTypes (instrAt s p)) → (listedRegisters (instrAt s p) ! j ≡ bodyAt s p ! (6 + j * 2)) × (listedTypes (instrAt s p) ! j ≡ bodyAt s p ! (5 + j * 2))
-unfolding listedRegisters listedTypes instrAt instrOf Rows
+unfolding listedRegisters listedTypes instrAt instrBy Rows
 pair-at s p j = choose-each (λ (i : Instr). j < length (listedTypes i) → (listedRegisters i ! j ≡ bodyAt s p ! (6 + j * 2)) × (listedTypes i ! j ≡ bodyAt s p ! (5 + j * 2))) (kindAt s p) _ _ no
     (λ e. no, (λ e. no, (λ e. no, (λ e. no, (λ e. no, (λ e. no, (λ e. no, (λ e. no, (λ e. no, (λ e. no, (λ e. no, (λ e. no, (λ e. no, (λ e. no, (λ e. no, (λ e. no, (λ e. no, (λ e. pairs, (λ e. no, tt)))))))))))))))))))
   where

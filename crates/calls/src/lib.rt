@@ -167,7 +167,7 @@ fn pass(
     image: &[u8],
     at: usize,
     codes: &mut [u16; 768],
-    numbers: &mut [i32; 768],
+    numbers: &mut [i64; 768],
     k: usize,
     to: usize,
     n: usize,
@@ -209,7 +209,7 @@ fn enter(
     image: &[u8],
     owners: &mut [u8; 64],
     codes: &mut [u16; 768],
-    numbers: &mut [i32; 768],
+    numbers: &mut [i64; 768],
     stack: &mut [u8; 192],
     calls: usize,
     depth: usize,
@@ -244,7 +244,7 @@ pub fn call(
     table: &[u16; 1152],
     owners: &mut [u8; 64],
     codes: &mut [u16; 768],
-    numbers: &mut [i32; 768],
+    numbers: &mut [i64; 768],
     stack: &mut [u8; 192],
     promises: &[u8; 192],
     calls: usize,
@@ -450,8 +450,7 @@ pub fn search(
     pick(image, table, &offered, function, mark, returns, n)
 }
 
-/// How many versions the function has.
-/// Part of the loop, which keeps `table` the image's index: a test would cost each step.
+/// How many versions the function has. Serves `searches`, which makes `table` the image's index.
 pub fn versions_of(image: &[u8], table: &[u16; 1152], function: u8) -> usize
     requires { ⌜ Indexed (now image) (now table) ⌝ }
     ensures { λ r. ⌜ (r ≡ versionsOf (programOf (now (image .entry))) function) × (r ≤ 4) ⌝ }
@@ -477,7 +476,7 @@ pub fn dispatch(
     table: &[u16; 1152],
     owners: &mut [u8; 64],
     codes: &mut [u16; 768],
-    numbers: &mut [i32; 768],
+    numbers: &mut [i64; 768],
     stack: &mut [u8; 192],
     promises: &[u8; 192],
     calls: usize,

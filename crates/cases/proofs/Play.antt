@@ -9,8 +9,9 @@ use Rattle.sets.specs.Sets.{empty, only, both, those, inhabited}
 use Rattle.layout.specs.Tests.{_and_, all, any, count, found, allFrom}
 use Rattle.layout.specs.Records.{sizeOf, walk, rest, every, choose}
 use Rattle.layout.specs.Scan.{scan}
-use Rattle.layout.specs.Questions.{question1, question2, lengthOf, question3, versionInBounds, inBounds, inOrder, dueAfter, noneDue, question4, follows, question5}
-use Rattle.program.specs.Program.{instrOf, put as putRecord, view, findVersion, firstMark, beside, arguments as pairsOf}
+use Rattle.layout.specs.Forms.{literalKind, literalLength, recordBytes, signByte, newRecord, newBytes}
+use Rattle.layout.specs.Questions.{question1, question2, plainLength, lengthOf, question3, versionInBounds, inBounds, inOrder, dueAfter, noneDue, question4, follows, question5}
+use Rattle.program.specs.Program.{numberIn, instrBy, putBy, viewBy, findVersion, firstMark, beside, arguments as pairsOf}
 use Rattle.program.specs.Search.{firstLine, firstBlock, first as firstNo}
 use Rattle.program.specs.Questions.{exists, namesBlock, namings, blockNamed}
 use Rattle.program.specs.Skips.{endsAfter, endsWithin, question14}
@@ -20,17 +21,18 @@ use Rattle.rules.specs.Effects.{reflective, covered}
 use Rattle.rules.specs.Questions.{typeAllowed, versionTypes, typesAllowed}
 use Rattle.rules.specs.Actions.{clash, joined, _then_, promised, emptied as emptiedBy, touch, actionOf, skipOf, either, join, here as hereIn, past, walk as walkCode, enter as entersBlock, actions}
 use Rattle.rules.specs.Flows.{flows}
-use Rattle.checker.specs.Verdicts.{ask, verdictOf}
+use Rattle.checker.specs.Verdicts.{ask, verdictIn}
 use Rattle.machine.specs.Try.{_>>=_, _>>_, stuckUnless, endUnless, orStuck, at, put, each}
-use Rattle.machine.specs.Values.{ranged, isZero, floored, divided, arith, index}
+use Rattle.machine.specs.Values.{rangedTo, isZero, floored, dividedTo, arithTo, index}
 use Rattle.machine.specs.States.{over, newVector, itemsOf, liveFrames, liveActivations, register, named, full, anInteger, aVector, aPromise, noPromise, isSet, value, integer, vector, promise, plain, name, kindIn, isVector, isPromise, isForce, refers, held, pending, vectorCounts, promiseCounts, free, freeVector, freePromise, withStack, withVector, withPromise, withEnd, withFrame, withRegister, withName, assign, store}
 use Rattle.machine.specs.Calls.{opened, passed, skipped, matching, emptyIf, emptied, frameFor, enter, sameOwnerships, dispatches, lowest, picked, force, closed, done, back, finish}
-use Rattle.machine.specs.Steps.{alone, execute, here, position, positionOf, proceed, advance}
-use Rattle.machine.specs.Runs.{saying, settled, stepIn, stepOf, lastStep, continued, runFrom, budgetIn, longEnough, budgetOf, written, bufferOf}
-use Rattle.machine.specs.Begin.{first, givenKind, matched, arguments, valuesOf, vectorsOf, firstState, refused, question13, question12, question11, enteredOf, beginAfter, beginOf, runAfter, runOf}
+use Rattle.machine.specs.Steps.{alone, executeTo, here, position, positionOf, proceedTo, advanceTo}
+use Rattle.machine.specs.Runs.{saying, settled, stepInTo, stepOfTo, lastStep, continued, runFromTo, budgetInTo, longEnough, budgetOfTo, written, bufferOf}
+use Rattle.machine.specs.Begin.{first, givenKind, matched, arguments, valuesOf, vectorsOf, firstState, refused, question13, question12, question11, enteredOf, beginAfter, beginOf, runAfterTo, runOfTo}
 use Rattle.machine.specs.declared.Answer.{Answer}
 use Rattle.cases.specs.Table.{Row, ran, Gives, cases}
 use Rattle.cases.specs.Further.{further}
+use Rattle.cases.specs.SixtyFour.{sixtyFour, MovesBelow, MovesAbove}
 
 -- ---- all rows in one equation
 
@@ -62,8 +64,8 @@ unfolding
     _and_ all any count found allFrom
     sizeOf walk rest every choose
     scan
-    question1 question2 lengthOf question3 versionInBounds inBounds inOrder dueAfter noneDue question4 follows question5
-    instrOf putRecord view findVersion firstMark beside pairsOf
+    literalKind literalLength question1 question2 plainLength lengthOf question3 versionInBounds inBounds inOrder dueAfter noneDue question4 follows question5
+    numberIn instrBy putBy viewBy findVersion firstMark beside pairsOf
     firstLine firstBlock firstNo
     exists namesBlock namings blockNamed endsAfter endsWithin question14
     kindOf ownershipOf isShared isOwned isBorrowed isInteger vectorType promiseType within parameterType registerType returnType
@@ -72,14 +74,14 @@ unfolding
     typeAllowed versionTypes typesAllowed
     clash joined _then_ promised emptiedBy touch actionOf skipOf either join hereIn past walkCode entersBlock actions
     flows
-    ask verdictOf
+    ask verdictIn
     _>>=_ _>>_ stuckUnless endUnless orStuck at put each
-    ranged isZero floored divided arith index
+    rangedTo isZero floored dividedTo arithTo index
     over newVector itemsOf liveFrames liveActivations register named full anInteger aVector aPromise noPromise isSet value integer vector promise plain name kindIn isVector isPromise isForce refers held pending vectorCounts promiseCounts free freeVector freePromise withStack withVector withPromise withEnd withFrame withRegister withName assign store
     opened passed skipped matching emptyIf emptied frameFor enter sameOwnerships dispatches lowest picked force closed done back finish
-    alone execute here position positionOf proceed advance
-    saying settled stepIn stepOf lastStep continued runFrom budgetIn longEnough budgetOf written bufferOf
-    first givenKind matched arguments valuesOf vectorsOf firstState refused question13 question12 question11 enteredOf beginAfter beginOf runAfter runOf
+    alone executeTo here position positionOf proceedTo advanceTo
+    saying settled stepInTo stepOfTo lastStep continued runFromTo budgetInTo longEnough budgetOfTo written bufferOf
+    first givenKind matched arguments valuesOf vectorsOf firstState refused question13 question12 question11 enteredOf beginAfter beginOf runAfterTo runOfTo
 rules = tt
 
 pub cases-hold : Holds cases
@@ -89,6 +91,19 @@ cases-hold = refl
 pub further-hold : Holds further
 unfolding rules Holds play expected further
 further-hold = refl
+
+pub sixty-four-hold : Holds sixtyFour
+unfolding rules Holds play expected sixtyFour
+sixty-four-hold = refl
+
+-- literals in both forms
+pub moves-below : MovesBelow
+unfolding rules MovesBelow recordBytes signByte newRecord newBytes
+moves-below = refl
+
+pub moves-above : MovesAbove
+unfolding rules MovesAbove recordBytes signByte newRecord newBytes
+moves-above = refl
 
 -- ---- each row
 

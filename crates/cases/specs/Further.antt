@@ -6,7 +6,7 @@ use lib.ListN.{set}
 use Rattle.layout.specs.Kinds as kind
 use Rattle.machine.specs.declared.Answer.{Answer}
 use Rattle.machine.specs.declared.End.{End}
-use Rattle.cases.specs.Table.{Row, row, neg, lentFrom, lent, refused_at_, integer, vector, undef, rec, I, quotient, endless}
+use Rattle.cases.specs.Table.{Row, row, neg, lentFrom, lent, refused_at_, integer, vector, undef, rec, lit, I, quotient, endless}
 
 -- ---- images
 
@@ -59,7 +59,7 @@ abbrev pub peeking : List ℕ
 peeking =
     rec kind.VERSION (0 ∷ 0 ∷ 0 ∷ 3 ∷ 1 ∷ 2 ∷ 2 ∷ 4 ∷ 1 ∷ []) ++
     rec kind.BLOCK (1 ∷ 2 ∷ 5 ∷ []) ++
-    rec kind.LIT (0 ∷ 5 ∷ 0 ∷ 0 ∷ 0 ∷ []) ++
+    lit 0 5 ++
     rec kind.STORE (1 ∷ 0 ∷ []) ++
     rec kind.PROM (1 ∷ 1 ∷ []) ++
     rec kind.CALL (2 ∷ 1 ∷ 0 ∷ 1 ∷ 1 ∷ []) ++
@@ -90,7 +90,7 @@ abbrev pub circle : List ℕ
 circle =
     rec kind.VERSION (0 ∷ 0 ∷ 0 ∷ 3 ∷ 2 ∷ 4 ∷ 2 ∷ 4 ∷ 4 ∷ []) ++
     rec kind.BLOCK (0 ∷ 0 ∷ 5 ∷ []) ++
-    rec kind.LIT (0 ∷ 1 ∷ 0 ∷ 0 ∷ 0 ∷ []) ++
+    lit 0 1 ++
     rec kind.PROM (1 ∷ 1 ∷ []) ++
     rec kind.PROM (2 ∷ 2 ∷ []) ++
     rec kind.PROM (1 ∷ 3 ∷ []) ++
@@ -129,8 +129,8 @@ owning =
     rec kind.LEN (2 ∷ 1 ∷ []) ++
     rec kind.VERSION (1 ∷ 1 ∷ 1 ∷ 3 ∷ 0x13 ∷ 1 ∷ 0x13 ∷ 2 ∷ 2 ∷ []) ++
     rec kind.BLOCK (0 ∷ 0 ∷ 3 ∷ []) ++
-    rec kind.LIT (1 ∷ 1 ∷ 0 ∷ 0 ∷ 0 ∷ []) ++
-    rec kind.LIT (2 ∷ 0xFD ∷ 0xFF ∷ 0xFF ∷ 0xFF ∷ []) ++
+    lit 1 1 ++
+    rec kind.LIT (2 ∷ 0xFD ∷ 0xFF ∷ 0xFF ∷ 0xFF ∷ 0xFF ∷ 0xFF ∷ 0xFF ∷ 0xFF ∷ []) ++
     rec kind.SET (0 ∷ 1 ∷ 2 ∷ [])
 
 -- four vectors in four registers, one more into the register 0, then the body calls itself
@@ -150,7 +150,7 @@ abbrev pub promises : List ℕ
 promises =
     rec kind.VERSION (0 ∷ 0 ∷ 0 ∷ 8 ∷ 2 ∷ 8 ∷ 2 ∷ 4 ∷ 4 ∷ 4 ∷ 4 ∷ 4 ∷ 4 ∷ 4 ∷ []) ++
     rec kind.BLOCK (0 ∷ 0 ∷ 9 ∷ []) ++
-    rec kind.LIT (0 ∷ 1 ∷ 0 ∷ 0 ∷ 0 ∷ []) ++
+    lit 0 1 ++
     rec kind.PROM (1 ∷ 1 ∷ []) ++
     rec kind.PROM (2 ∷ 2 ∷ []) ++
     rec kind.PROM (3 ∷ 3 ∷ []) ++
@@ -172,19 +172,19 @@ abbrev pub skipping : ℕ → List ℕ
 skipping n =
     rec kind.VERSION (0 ∷ 0 ∷ 1 ∷ 2 ∷ 2 ∷ 1 ∷ 2 ∷ 2 ∷ []) ++
     rec kind.BLOCK (0 ∷ 1 ∷ 3 ∷ []) ++
-    rec kind.LIT (1 ∷ 5 ∷ 0 ∷ 0 ∷ 0 ∷ []) ++
+    lit 1 5 ++
     rec kind.SKIP (0 ∷ n ∷ []) ++
-    rec kind.LIT (1 ∷ 9 ∷ 0 ∷ 0 ∷ 0 ∷ [])
+    lit 1 9
 
 -- a SKIP of n in the part of two instructions that another passes over, then the result is doubled
 abbrev pub skippingTwice : ℕ → List ℕ
 skippingTwice n =
     rec kind.VERSION (0 ∷ 0 ∷ 2 ∷ 3 ∷ 2 ∷ 1 ∷ 2 ∷ 2 ∷ 2 ∷ []) ++
     rec kind.BLOCK (0 ∷ 2 ∷ 5 ∷ []) ++
-    rec kind.LIT (2 ∷ 5 ∷ 0 ∷ 0 ∷ 0 ∷ []) ++
+    lit 2 5 ++
     rec kind.SKIP (0 ∷ 2 ∷ []) ++
     rec kind.SKIP (1 ∷ n ∷ []) ++
-    rec kind.LIT (2 ∷ 9 ∷ 0 ∷ 0 ∷ 0 ∷ []) ++
+    lit 2 9 ++
     rec kind.ARITH (2 ∷ 0 ∷ 2 ∷ 2 ∷ [])
 
 -- a register that only one way assigned is read
@@ -193,7 +193,7 @@ assignedOnOneWay =
     rec kind.VERSION (0 ∷ 0 ∷ 1 ∷ 2 ∷ 2 ∷ 1 ∷ 2 ∷ 2 ∷ []) ++
     rec kind.BLOCK (0 ∷ 1 ∷ 2 ∷ []) ++
     rec kind.SKIP (0 ∷ 1 ∷ []) ++
-    rec kind.LIT (1 ∷ 9 ∷ 0 ∷ 0 ∷ 0 ∷ [])
+    lit 1 9
 
 -- a register that only one way emptied is read
 abbrev pub emptiedOnOneWay : List ℕ
@@ -292,7 +292,7 @@ assignedByForce =
     rec kind.PROM (1 ∷ 1 ∷ []) ++
     rec kind.FORCE (0 ∷ 1 ∷ []) ++
     rec kind.BLOCK (0 ∷ 2 ∷ 1 ∷ []) ++
-    rec kind.LIT (2 ∷ 5 ∷ 0 ∷ 0 ∷ 0 ∷ [])
+    lit 2 5
 
 -- a register is emptied after a promise captured it
 abbrev pub captured : List ℕ
@@ -342,7 +342,6 @@ further =
     row quotient 0 0 (neg 1 ∷ neg 6 ∷ neg 1 ∷ pos 2 ∷ []) 9 (lent 16) (integer (neg 3)) 2 (lent 16) ∷
     row quotient 0 0 (neg 1 ∷ pos 6 ∷ neg 1 ∷ neg 2 ∷ []) 9 (lent 16) (integer (neg 3)) 2 (lent 16) ∷
     row quotient 0 0 (neg 1 ∷ pos 7 ∷ neg 1 ∷ pos 0 ∷ []) 9 (lent 16) undef 1 (lent 16) ∷
-    row quotient 0 0 (neg 1 ∷ neg 2147483648 ∷ neg 1 ∷ neg 1 ∷ []) 9 (lent 16) undef 1 (lent 16) ∷
     -- PEEK and POKE act on the names of the promise's frame
     row peeking 0 0 [] 99 (lent 16) (integer (pos 5)) 9 (lent 16) ∷
     -- a force within a force; a force caches its integer
@@ -372,13 +371,13 @@ further =
     row (skippingTwice 1) 0 0 (neg 1 ∷ pos 1 ∷ neg 1 ∷ pos 0 ∷ []) 9 (lent 16) (integer (pos 10)) 5 (lent 16) ∷
     row (skippingTwice 1) 0 0 (neg 1 ∷ pos 1 ∷ neg 1 ∷ pos 1 ∷ []) 9 (lent 16) (integer (pos 18)) 6 (lent 16) ∷
     -- 14: n goes past the end of the block; past the end of the part that the SKIP stands in
-    row (skipping 2) 0 0 (neg 1 ∷ pos 0 ∷ []) 9 (lent 16) (refused 14 at 28) 0 (lent 16) ∷
-    row (skipping 255) 0 0 (neg 1 ∷ pos 0 ∷ []) 9 (lent 16) (refused 14 at 28) 0 (lent 16) ∷
-    row (skippingTwice 2) 0 0 (neg 1 ∷ pos 0 ∷ neg 1 ∷ pos 0 ∷ []) 9 (lent 16) (refused 14 at 35) 0 (lent 16) ∷
+    row (skipping 2) 0 0 (neg 1 ∷ pos 0 ∷ []) 9 (lent 16) (refused 14 at 32) 0 (lent 16) ∷
+    row (skipping 255) 0 0 (neg 1 ∷ pos 0 ∷ []) 9 (lent 16) (refused 14 at 32) 0 (lent 16) ∷
+    row (skippingTwice 2) 0 0 (neg 1 ∷ pos 0 ∷ neg 1 ∷ pos 0 ∷ []) 9 (lent 16) (refused 14 at 39) 0 (lent 16) ∷
     -- 14 is asked after 7 and before 8: of a SKIP whose register is not there, and of one whose register is a vector
-    row (set (skipping 255) 32 2) 0 0 (neg 1 ∷ pos 0 ∷ []) 9 (lent 16) (refused 7 at 28) 0 (lent 16) ∷
-    row (set (skipping 255) 10 3) 0 0 (pos 0 ∷ []) 9 (lent 16) (refused 14 at 28) 0 (lent 16) ∷
-    row (set (skipping 1) 10 3) 0 0 (pos 0 ∷ []) 9 (lent 16) (refused 8 at 28) 0 (lent 16) ∷
+    row (set (skipping 255) 36 2) 0 0 (neg 1 ∷ pos 0 ∷ []) 9 (lent 16) (refused 7 at 32) 0 (lent 16) ∷
+    row (set (skipping 255) 10 3) 0 0 (pos 0 ∷ []) 9 (lent 16) (refused 14 at 32) 0 (lent 16) ∷
+    row (set (skipping 1) 10 3) 0 0 (pos 0 ∷ []) 9 (lent 16) (refused 8 at 32) 0 (lent 16) ∷
     -- ways join by what both assign, and by union of what they empty and capture: 10
     row assignedOnOneWay 0 0 (neg 1 ∷ pos 1 ∷ []) 9 (lent 16) (refused 10 at 0) 0 (lent 16) ∷
     row emptiedOnOneWay 0 0 (neg 1 ∷ pos 0 ∷ pos 0 ∷ []) 9 (lent 16) (refused 10 at 0) 0 (lent 16) ∷

@@ -89,6 +89,10 @@ deep = Answer.Ended End.Deep
 abbrev pub rec : ℕ → List ℕ → List ℕ
 rec k body = (4 + length body) ∷ 0 ∷ k ∷ 0 ∷ body
 
+-- LIT d i for an i of 0 to 255
+abbrev pub lit : ℕ → ℕ → List ℕ
+lit d i = rec kind.LIT (d ∷ i ∷ 0 ∷ 0 ∷ 0 ∷ 0 ∷ 0 ∷ 0 ∷ 0 ∷ [])
+
 -- image I, identity, as the paper writes it: a VERSION and its BLOCK
 abbrev pub I : List ℕ
 I =
@@ -107,16 +111,20 @@ setOn a =
     rec kind.VERSION (0 ∷ 0 ∷ 1 ∷ 4 ∷ 0x13 ∷ 1 ∷ 0x03 ∷ 0x13 ∷ 0x02 ∷ 0x02 ∷ []) ++
     rec kind.BLOCK (0 ∷ 1 ∷ 4 ∷ []) ++
     rec kind.DUP (1 ∷ 0 ∷ []) ++
-    rec kind.LIT (2 ∷ 0 ∷ 0 ∷ 0 ∷ 0 ∷ []) ++
-    rec kind.LIT (3 ∷ 42 ∷ 0 ∷ 0 ∷ 0 ∷ []) ++
+    lit 2 0 ++
+    lit 3 42 ++
     rec kind.SET (a ∷ 2 ∷ 3 ∷ [])
+
+-- what the operation op gives of the two parameters
+abbrev pub computing : ℕ → List ℕ
+computing op =
+    rec kind.VERSION (0 ∷ 0 ∷ 2 ∷ 3 ∷ 2 ∷ 1 ∷ 2 ∷ 2 ∷ 2 ∷ []) ++
+    rec kind.BLOCK (0 ∷ 2 ∷ 1 ∷ []) ++
+    rec kind.ARITH (2 ∷ op ∷ 0 ∷ 1 ∷ [])
 
 -- the first parameter divided by the second
 abbrev pub quotient : List ℕ
-quotient =
-    rec kind.VERSION (0 ∷ 0 ∷ 2 ∷ 3 ∷ 2 ∷ 1 ∷ 2 ∷ 2 ∷ 2 ∷ []) ++
-    rec kind.BLOCK (0 ∷ 2 ∷ 1 ∷ []) ++
-    rec kind.ARITH (2 ∷ 3 ∷ 0 ∷ 1 ∷ [])
+quotient = computing 3
 
 -- a body that calls itself
 abbrev pub endless : List ℕ
@@ -147,7 +155,7 @@ cases =
     -- P8 on an empty vector UNDEF
     row (setOn 1) 0 0 (pos 0 ∷ []) 100 (lent 16) undef 4 (lent 16) ∷
     -- P9 SET on the shared one: 8
-    row (setOn 0) 0 0 (pos 1 ∷ pos 1 ∷ []) 100 (lent 16) (refused 8 at 45) 0 (lent 16) ∷
+    row (setOn 0) 0 0 (pos 1 ∷ pos 1 ∷ []) 100 (lent 16) (refused 8 at 53) 0 (lent 16) ∷
     -- P10 −7 divided by 2 is −4
     row quotient 0 0 (neg 1 ∷ neg 7 ∷ neg 1 ∷ pos 2 ∷ []) 100 (lent 17) (integer (neg 4)) 2 (lent 17) ∷
     -- P11 a body that calls itself, budget 32: DEEP after 31 steps

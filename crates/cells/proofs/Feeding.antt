@@ -6,7 +6,7 @@ use lib.IntN.{ℤ}
 use Rattle.program.specs.Program.{LIT, ARITH, SELECT, NAMED, Program, Version}
 use Rattle.machine.specs.Try.{Try, got, stuck, stop, _>>=_, _>>_}
 use Rattle.machine.specs.States.{assign}
-use Rattle.machine.specs.Steps.{execute}
+use Rattle.machine.specs.Steps.{executeTo}
 use Rattle.machine.specs.Values as values
 use Rattle.machine.specs.declared.Value.{Value}
 use Rattle.memory.specs.Memory.{Memory, stateOf, valueOf}
@@ -34,11 +34,11 @@ bind-got a f = refl
 
 module _ (P : Program) (W : Version) (M : Memory) (k d : ℕ) where
   pub lit-feeds : (z : ℤ) → Feeds P W (Gives.Cell 1 z) M k d (LIT d z)
-  unfolding Feeds executed execute givesOf valueOf _>>=_ endOf
+  unfolding Feeds executed executeTo givesOf valueOf _>>=_ endOf
   lit-feeds z = λ long live few. refl
 
   pub arith-feeds : (g : Gives) (op a b : ℕ) → givesOf g ≡ arithIn (M .codes) (M .numbers) k op a b → Feeds P W g M k d (ARITH d op a b)
-  unfolding Feeds executed execute arithIn
+  unfolding Feeds executed executeTo arithIn
   arith-feeds g op a b e = λ long live few.
       let s = stateOf M in
       rw (integer-in (M .owners) (M .codes) (M .numbers) k a, integer-in (M .owners) (M .codes) (M .numbers) k b, e)
@@ -48,7 +48,7 @@ module _ (P : Program) (W : Version) (M : Memory) (k d : ℕ) where
       ∙ bind-same (values.arith op x y) _ _ (λ z. bind-got (Value.Integer z) (assign s k d))))))
 
   pub select-feeds : (g : Gives) (c a b : ℕ) → givesOf g ≡ selectIn (M .codes) (M .numbers) k c a b → Feeds P W g M k d (SELECT d c a b)
-  unfolding Feeds executed execute selectIn
+  unfolding Feeds executed executeTo selectIn
   select-feeds g c a b e = λ long live few.
       let s = stateOf M in
       rw (integer-in (M .owners) (M .codes) (M .numbers) k c, integer-in (M .owners) (M .codes) (M .numbers) k a, integer-in (M .owners) (M .codes) (M .numbers) k b, e)
@@ -58,5 +58,5 @@ module _ (P : Program) (W : Version) (M : Memory) (k d : ℕ) where
       ∙ bind-same (integerIn (M .codes) (M .numbers) k b) _ _ (λ y. bind-got (Value.Integer (cond (values.isZero w) y x)) (assign s k d))))))
 
   pub named-feeds : (g : Gives) (x : ℕ) → givesOf g ≡ namedIn (M .codes) (M .numbers) k x → Feeds P W g M k d (NAMED d x)
-  unfolding Feeds executed execute
+  unfolding Feeds executed executeTo
   named-feeds g x e = λ long live few. rw (named-in (M .owners) (M .codes) (M .numbers) k x, e)

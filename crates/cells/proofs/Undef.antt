@@ -7,7 +7,7 @@ use lib.Signed.{mag, ltZ}
 use lib.Dec.{eqb, ltb}
 use Rattle.layout.specs.Records.{choose}
 use Rattle.machine.specs.Try.{Try, got, stuck, stop, _>>_, endUnless}
-use Rattle.machine.specs.Values.{ranged, floored, divided, isZero, arith, index}
+use Rattle.machine.specs.Values.{RANGE, ranged, rangedTo, floored, divided, dividedTo, isZero, arith, arithTo, index}
 use Rattle.machine.specs.declared.End.{End}
 use Rattle.integers.specs.Computed.{computedOf, indexedOf}
 use Rattle.integers.specs.declared.Computed.{Computed}
@@ -35,15 +35,15 @@ ends true t p = p
 ends false t p = λ h. refl
 
 only-ranged : (z : ℤ) → Only (ranged z)
-unfolding ranged
-only-ranged z = ends (ltb (mag z) 2147483648) (got z) (only-got z)
+unfolding rangedTo
+only-ranged z = ends (ltb (mag z) RANGE) (got z) (only-got z)
 
 only-divided : (x y : ℤ) → Only (divided x y)
-unfolding divided
+unfolding dividedTo
 only-divided x y = ends (not (isZero y)) (ranged (floored x y)) (only-ranged (floored x y))
 
 pub arith-undef : (op : ℕ) (x y : ℤ) → computedOf (arith op x y) ≡ Computed.Undef → arith op x y ≡ stop End.Undef
-unfolding arith choose Only
+unfolding arithTo choose Only
 arith-undef op x y =
     only-cond (eqb op 0) _ _ (only-ranged (x +ℤ y))
     (only-cond (eqb op 1) _ _ (only-ranged (x -ℤ y))

@@ -55,7 +55,7 @@ pub fn is_full(c: u16) -> bool
 
 /// The integer in the register `r` of the frame `k`.
 /// Part of the loop, which keeps `k` below 32: a test would cost each step.
-pub fn integer(codes: &[u16; 768], numbers: &[i32; 768], k: usize, r: u8) -> Whole
+pub fn integer(codes: &[u16; 768], numbers: &[i64; 768], k: usize, r: u8) -> Whole
     requires { ⌜ k < 32 ⌝ }
     ensures { λ x. ⌜ wholeOf x ≡ integerIn (now (codes .entry)) (now (numbers .entry)) k r ⌝ }
 {
@@ -142,7 +142,7 @@ pub fn plain(codes: &[u16; 768], k: usize, r: u8) -> Found
 
 /// NAMED: what the name `x` of the frame `k` gives.
 /// Part of the loop, which keeps `k` below 32: a test would cost each step.
-pub fn named(codes: &[u16; 768], numbers: &[i32; 768], k: usize, x: u8) -> Gives
+pub fn named(codes: &[u16; 768], numbers: &[i64; 768], k: usize, x: u8) -> Gives
     requires { ⌜ k < 32 ⌝ }
     ensures { λ r. ⌜ givesOf r ≡ namedIn (now (codes .entry)) (now (numbers .entry)) k x ⌝ }
 {
@@ -163,7 +163,7 @@ pub fn named(codes: &[u16; 768], numbers: &[i32; 768], k: usize, x: u8) -> Gives
 
 /// ARITH: what the operation gives.
 /// Part of the loop, which keeps `k` below 32: a test would cost each step.
-pub fn arith(codes: &[u16; 768], numbers: &[i32; 768], k: usize, op: u8, a: u8, b: u8) -> Gives
+pub fn arith(codes: &[u16; 768], numbers: &[i64; 768], k: usize, op: u8, a: u8, b: u8) -> Gives
     requires { ⌜ k < 32 ⌝ }
     ensures { λ r. ⌜ givesOf r ≡ arithIn (now (codes .entry)) (now (numbers .entry)) k op a b ⌝ }
 {
@@ -182,7 +182,7 @@ pub fn arith(codes: &[u16; 768], numbers: &[i32; 768], k: usize, op: u8, a: u8, 
 
 /// SELECT: what is chosen.
 /// Part of the loop, which keeps `k` below 32: a test would cost each step.
-pub fn select(codes: &[u16; 768], numbers: &[i32; 768], k: usize, c: u8, a: u8, b: u8) -> Gives
+pub fn select(codes: &[u16; 768], numbers: &[i64; 768], k: usize, c: u8, a: u8, b: u8) -> Gives
     requires { ⌜ k < 32 ⌝ }
     ensures { λ r. ⌜ givesOf r ≡ selectIn (now (codes .entry)) (now (numbers .entry)) k c a b ⌝ }
 {
@@ -202,11 +202,11 @@ pub fn select(codes: &[u16; 768], numbers: &[i32; 768], k: usize, c: u8, a: u8, 
 /// Part of the loop, which keeps `k` below 32: a test would cost each step.
 pub fn put(
     codes: &mut [u16; 768],
-    numbers: &mut [i32; 768],
+    numbers: &mut [i64; 768],
     k: usize,
     d: u8,
     c: u16,
-    z: i32,
+    z: i64,
 ) -> bool
     requires { ⌜ k < 32 ⌝ }
     ensures { λ r. ⌜ (r ≡ ltb d 16) × (now (codes .exit) ≡ written (now (codes .entry)) (24 * k) 16 d c) × (now (numbers .exit) ≡ written (now (numbers .entry)) (24 * k) 16 d z) ⌝ }
@@ -224,11 +224,11 @@ pub fn put(
 /// Part of the loop, which keeps `k` below 32: a test would cost each step.
 pub fn put_name(
     codes: &mut [u16; 768],
-    numbers: &mut [i32; 768],
+    numbers: &mut [i64; 768],
     k: usize,
     x: u8,
     c: u16,
-    z: i32,
+    z: i64,
 ) -> bool
     requires { ⌜ k < 32 ⌝ }
     ensures { λ r. ⌜ (r ≡ ltb x 8) × (now (codes .exit) ≡ written (now (codes .entry)) (24 * k + 16) 8 x c) × (now (numbers .exit) ≡ written (now (numbers .entry)) (24 * k + 16) 8 x z) ⌝ }
@@ -244,7 +244,7 @@ pub fn put_name(
 
 /// Gives the register `d` of the frame `k` what a part of a step gave.
 /// Part of the loop, which keeps `k` below 32: a test would cost each step.
-pub fn give(codes: &mut [u16; 768], numbers: &mut [i32; 768], k: usize, d: u8, gives: Gives) -> Did
+pub fn give(codes: &mut [u16; 768], numbers: &mut [i64; 768], k: usize, d: u8, gives: Gives) -> Did
     requires { ⌜ k < 32 ⌝ }
     ensures { λ r. ⌜ Gave r (now (codes .entry)) (now (codes .exit)) (now (numbers .entry)) (now (numbers .exit)) k d gives ⌝ }
 {

@@ -6,6 +6,7 @@ use Prim.Native.Nat.{ℕ}
 use lib.ListN.{length}
 use Rattle.layout.specs.Records.{records}
 use Rattle.layout.specs.Questions.{question1, question2, question3, question4, question5}
+use Rattle.layout.specs.declared.Form.{Form}
 use Rattle.layout.specs.declared.Found.the-variants.{Nothing}
 use Rattle.program.specs.Program.{Version, Program, program, findVersion}
 use Rattle.program.specs.Search.{first}
@@ -15,16 +16,16 @@ use Rattle.program.proofs.Held.{Held, holds}
 use Rattle.program.proofs.Laid.{bounds, in-bounds}
 use Rattle.rules.specs.Questions.{question6, question8, question9}
 use Rattle.rules.specs.Flows.{question10}
-use Rattle.checker.specs.Verdicts.{verdictOf}
+use Rattle.checker.specs.Verdicts.{verdictOf, verdictIn}
 use Rattle.checker.specs.declared.Verdict.{Verdict}
 use Rattle.checker.specs.declared.Verdict.the-variants.{Accepted, Refused}
 use Rattle.checker.proofs.Asks.{asked}
 
--- what the questions found of the image s, whose program has k versions
-pub record Passed (s : List ℕ) (k : ℕ) : Type 0 where
+-- what the questions found of the image s of a form, whose program has k versions
+pub record Passed (form : Form) (s : List ℕ) (k : ℕ) : Type 0 where
   pub q1 : question1 s ≡ Nothing
   pub q2 : question2 (records s) ≡ Nothing
-  pub q3 : question3 (records s) ≡ Nothing
+  pub q3 : question3 form (records s) ≡ Nothing
   pub q4 : question4 (length s) (records s) ≡ Nothing
   pub q5 : question5 (records s) ≡ Nothing
   pub q6 : first question6 (program (records s)) ≡ Nothing
@@ -41,8 +42,8 @@ carried (Accepted k) = k
 carried (Refused n p) = p
 
 -- an accepted image passed all questions
-pub passed : (s : List ℕ) (k : ℕ) → verdictOf s ≡ Accepted k → Passed s k
-unfolding verdictOf carried
+pub passed : {form : Form} (s : List ℕ) (k : ℕ) → verdictIn form s ≡ Accepted k → Passed form s k
+unfolding verdictIn carried
 passed s k e =
     let e1 = asked 1 _ _ k e in
     let e2 = asked 2 _ _ k (e1 .1) in

@@ -12,12 +12,13 @@ use Rattle.layout.specs.Tests.{_and_}
 use Rattle.layout.specs.Questions.{question1}
 use Rattle.layout.proofs.Bools.{and-both}
 use Rattle.layout.specs.Kinds as kind
+use Rattle.layout.specs.declared.Form.{Form}
 use Rattle.layout.specs.declared.Found.{Found}
 use Rattle.layout.specs.declared.Found.the-variants.{Nothing, At}
 use Rattle.program.specs.Program.{nowhere}
 use Rattle.program.specs.Places.{viewAt}
 use Rattle.program.proofs.Views.{Whole, at-version, at-block, at-line}
-use Rattle.checker.specs.Verdicts.{ask, verdictOf}
+use Rattle.checker.specs.Verdicts.{ask, verdictIn}
 use Rattle.checker.specs.declared.Verdict.{Verdict}
 use Rattle.checker.specs.declared.Verdict.the-variants.{Accepted, Refused}
 
@@ -51,9 +52,9 @@ unfolding ask
 asked n Nothing more k e = (refl, e)
 asked n (At p) more k e = let z : _≡_ {A = ℕ} 0 1 = cc in absurd (omega arith)
 
-pub accepted-short : (s : List ℕ) (k : ℕ) → verdictOf s ≡ Accepted k → length s ≤ IMAGE
-unfolding verdictOf question1
-accepted-short s k e = go (ltb 0 (length s) and leb (length s) IMAGE) refl (asked 1 _ _ k e .0)
+pub accepted-short : (form : Form) (s : List ℕ) (k : ℕ) → verdictIn form s ≡ Accepted k → length s ≤ IMAGE
+unfolding verdictIn question1
+accepted-short form s k e = go (ltb 0 (length s) and leb (length s) IMAGE) refl (asked 1 _ _ k e .0)
   where
     go : (b : Bool) → (ltb 0 (length s) and leb (length s) IMAGE) ≡ b → cond b Nothing (At 0) ≡ Nothing → length s ≤ IMAGE
     go true x y = leb-true (length s) IMAGE (and-both _ _ x .1)

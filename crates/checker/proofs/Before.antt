@@ -8,6 +8,7 @@ use lib.ListN.{length}
 use Rattle.layout.specs.Records.{records}
 use Rattle.layout.specs.Tests.{found}
 use Rattle.layout.specs.Questions.{question1, question2, question3, question4, question5}
+use Rattle.layout.specs.declared.Form.{Form}
 use Rattle.layout.specs.declared.Found.{Found}
 use Rattle.layout.specs.declared.Found.the-variants.{Nothing}
 use Rattle.sets.specs.Sets.{size, below}
@@ -21,7 +22,7 @@ use Rattle.rules.specs.Actions.{Action}
 use Rattle.rules.specs.Flows.{flows, question10}
 use Rattle.rules.proofs.Before.{bodyAction₀, flows₀, still-does, still-flows}
 use Rattle.writer.specs.Text.{text, decimal}
-use Rattle.checker.specs.Verdicts.{ask, verdictOf}
+use Rattle.checker.specs.Verdicts.{ask, verdictIn}
 use Rattle.checker.specs.Reports.{counts, lineText, versionLine, versionLines, refusal, answer, reportText}
 use Rattle.checker.specs.declared.Verdict.{Verdict}
 use Rattle.checker.specs.declared.Verdict.the-variants.{Accepted, Refused}
@@ -33,17 +34,17 @@ use Rattle.checker.proofs.Asks.{asked, ask-yes}
 abbrev pub question10₀ : Program → Question
 question10₀ P = record { ofVersion = flows₀ P; ofBlock = free; ofInstr = free }
 
--- the verdict, where `last` is what question 10 finds
-abbrev pub ending : Found → List ℕ → Verdict
-ending last s =
+-- the verdict in a form, where `last` is what question 10 finds
+abbrev pub ending : Form → Found → List ℕ → Verdict
+ending form last s =
     let rs = records s in
     let P = program rs in
-    ask 1 (question1 s) (ask 2 (question2 rs) (ask 3 (question3 rs) (ask 4 (question4 (length s) rs) (ask 5 (question5 rs)
+    ask 1 (question1 s) (ask 2 (question2 rs) (ask 3 (question3 form rs) (ask 4 (question4 (length s) rs) (ask 5 (question5 rs)
     (ask 6 (first question6 P) (ask 7 (first (question7 P) P) (ask 14 (question14 rs) (ask 8 (first (question8 P) P) (ask 9 (first (question9 P) P)
     (ask 10 last (Accepted (length P))))))))))))
 
-pub verdict₀ : List ℕ → Verdict
-verdict₀ s = ending (first (question10₀ (program (records s))) (program (records s))) s
+pub verdict₀ : Form → List ℕ → Verdict
+verdict₀ form s = ending form (first (question10₀ (program (records s))) (program (records s))) s
 
 unfoldable pub counts₀ : Program → Version → List ℕ
 counts₀ P v = Option·elim (bodyAction₀ P v) [] (λ a. size (a .R) ∷ size (a .W) ∷ size (a .U) ∷ size (a .C) ∷ [])
@@ -53,7 +54,7 @@ answer₀ P (Accepted n) = flatMap (λ (v : Version). lineText (v .function) (v 
 answer₀ P (Refused n p) = refusal n p
 
 pub reportText₀ : List ℕ → List ℕ
-reportText₀ s = answer₀ (program (records s)) (verdict₀ s)
+reportText₀ s = answer₀ (program (records s)) (verdict₀ Form.Wide s)
 
 -- ---- the laws
 
@@ -107,16 +108,16 @@ ask-still : (n k : ℕ) (x : Found) {m m′ : Verdict} → (m ≡ Accepted k →
 ask-still n k x {m} {m′} h e = let a = asked n x m k e in ask-yes n m′ (a .0) ∙ h (a .1)
 
 -- THE LAW: an image that was accepted before is accepted, with as many versions
-pub still-accepted : (s : List ℕ) (k : ℕ) → verdict₀ s ≡ Accepted k → verdictOf s ≡ Accepted k
-unfolding verdictOf verdict₀
-still-accepted s k =
+pub still-accepted : (form : Form) (s : List ℕ) (k : ℕ) → verdict₀ form s ≡ Accepted k → verdictIn form s ≡ Accepted k
+unfolding verdictIn verdict₀
+still-accepted form s k =
     ask-still 1 k _ (ask-still 2 k _ (ask-still 3 k _ (ask-still 4 k _ (ask-still 5 k _ (ask-still 6 k _ (ask-still 7 k _ (ask-still 14 k _ (ask-still 8 k _ (ask-still 9 k _
     (λ e. let P = program (records s) in let a = asked 10 _ _ k e in ask-yes 10 (Accepted (length P)) (still-nothing P P (a .0)) ∙ a .1))))))))))
 
 -- question 10 found nothing in such an image
-ended : (s : List ℕ) (k : ℕ) → verdict₀ s ≡ Accepted k → first (question10₀ (program (records s))) (program (records s)) ≡ Nothing
+ended : (form : Form) (s : List ℕ) (k : ℕ) → verdict₀ form s ≡ Accepted k → first (question10₀ (program (records s))) (program (records s)) ≡ Nothing
 unfolding verdict₀
-ended s k e =
+ended form s k e =
     let e1 = asked 1 _ _ k e in
     let e2 = asked 2 _ _ k (e1 .1) in
     let e3 = asked 3 _ _ k (e2 .1) in
@@ -130,8 +131,8 @@ ended s k e =
     asked 10 _ _ k (e9 .1) .0
 
 -- THE LAW: and `check` prints the same of it, the four counts of each version included
-pub same-report : (s : List ℕ) (k : ℕ) → verdict₀ s ≡ Accepted k → reportText₀ s ≡ reportText s
+pub same-report : (s : List ℕ) (k : ℕ) → verdict₀ Form.Wide s ≡ Accepted k → reportText₀ s ≡ reportText s
 unfolding answer answer₀ reportText reportText₀
 same-report s k e =
     let P = program (records s) in
-    rw (e, still-accepted s k e) (ap (λ (t : List ℕ). t ++ text "accepted " ++ decimal k ++ text "\n") (same-lines P P (ended s k e)))
+    rw (e, still-accepted Form.Wide s k e) (ap (λ (t : List ℕ). t ++ text "accepted " ++ decimal k ++ text "\n") (same-lines P P (ended Form.Wide s k e)))

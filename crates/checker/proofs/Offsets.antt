@@ -15,18 +15,19 @@ use Rattle.layout.specs.Records.{Rec, sizeOf, sizeAt, walk, rest, records}
 use Rattle.layout.specs.Scan.{scan}
 use Rattle.layout.specs.Questions.{question1, question2, question3, question4, question5, whole, fitting, same, nothing, placed, dueAfter, noneDue, start, following, lastVersion}
 use Rattle.layout.specs.declared.Due.{Due}
+use Rattle.layout.specs.declared.Form.{Form}
 use Rattle.layout.specs.declared.Found.{Found}
 use Rattle.layout.specs.declared.Found.the-variants.{Nothing, At}
 use Rattle.layout.proofs.Bools.{and-both}
 use Rattle.layout.proofs.Walk.{size-room}
-use Rattle.program.specs.Program.{Line, Block, Version, Program, View, nowhere, lineOf, blockOf, versionOf, put, view, program}
+use Rattle.program.specs.Program.{Line, Block, Version, Program, View, nowhere, lineOf, blockOf, versionOf, put, putBy, view, viewBy, program}
 use Rattle.program.specs.Search.{Question, firstLine, firstBlock, first}
 use Rattle.program.specs.Questions.{question7}
 use Rattle.program.specs.Skips.{noEnds, endsAfter, endsWithin, question14}
 use Rattle.program.proofs.Lookups.{Each}
 use Rattle.rules.specs.Questions.{question6, question8, question9}
 use Rattle.rules.specs.Flows.{question10}
-use Rattle.checker.specs.Verdicts.{ask, verdictOf}
+use Rattle.checker.specs.Verdicts.{ask, verdictIn}
 use Rattle.checker.proofs.Asks.{ask-no}
 use Rattle.checker.specs.declared.Verdict.{Verdict}
 use Rattle.checker.specs.declared.Verdict.the-variants.{Accepted, Refused}
@@ -84,9 +85,9 @@ module _ (n : ℕ) (rs : List Rec) (e : Each (RecIn n) rs) where
   unfolding question2 Within
   in-2 = scan-in whole same nothing n (λ st. tt) rs e tt
 
-  in-3 : Within n (question3 rs)
+  in-3 : (form : Form) → Within n (question3 form rs)
   unfolding question3 Within
-  in-3 = scan-in fitting same nothing n (λ st. tt) rs e tt
+  in-3 form = scan-in (fitting form) same nothing n (λ st. tt) rs e tt
 
   in-4 : Within n (question4 n rs)
   unfolding question4 noneDue Within
@@ -121,7 +122,7 @@ unfolding Each
 nowhere-in n = record { code = tt; blocks = tt; versions = tt }
 
 put-in : (n : ℕ) (r : Rec) (w : View) → r .at ≤ n → ViewIn n w → ViewIn n (put r w)
-unfolding put Each
+unfolding putBy Each
 put-in n r w h e = go (eqb (r .kind) kind.VERSION) (eqb (r .kind) kind.BLOCK)
   where
     go : (a b : Bool) → ViewIn n (cond a (record { code = []; blocks = []; versions = versionOf r (w .blocks) ∷ w .versions }) (cond b (record { code = []; blocks = blockOf r (w .code) ∷ w .blocks; versions = w .versions }) (record { code = lineOf r ∷ w .code; blocks = w .blocks; versions = w .versions })))
@@ -130,7 +131,7 @@ put-in n r w h e = go (eqb (r .kind) kind.VERSION) (eqb (r .kind) kind.BLOCK)
     go false false = record { code = (h, e .code); blocks = e .blocks; versions = e .versions }
 
 view-in : (n : ℕ) (rs : List Rec) → Each (RecIn n) rs → ViewIn n (view rs)
-unfolding view Each
+unfolding viewBy Each
 view-in n [] e = nowhere-in n
 view-in n (r ∷ rs) e = go (eqb (r .size) 0) (put-in n r (view rs) (e .0) (view-in n rs (e .1)))
   where
@@ -171,15 +172,15 @@ ask-low n k Nothing more h e = e
 ask-low n k (At p) more h e = h
 
 -- of one question after the other
-verdict-in : (s : List ℕ) → Low (length s) (verdictOf s)
-unfolding verdictOf Low
-verdict-in s =
+verdict-in : (form : Form) (s : List ℕ) → Low (length s) (verdictIn form s)
+unfolding verdictIn Low
+verdict-in form s =
     let rs = records-in s in
     let vs = view-in (length s) (records s) rs .versions in
     let P = program (records s) in
     ask-low _ 1 _ _ (in-1 s)
     (ask-low _ 2 _ _ (in-2 (length s) (records s) rs)
-    (ask-low _ 3 _ _ (in-3 (length s) (records s) rs)
+    (ask-low _ 3 _ _ (in-3 (length s) (records s) rs form)
     (ask-low _ 4 _ _ (in-4 (length s) (records s) rs)
     (ask-low _ 5 _ _ (in-5 (length s) (records s) rs)
     (ask-low _ 6 _ _ (first-in question6 (length s) P vs)
@@ -190,18 +191,18 @@ verdict-in s =
     (ask-low _ 10 _ _ (first-in (question10 P) (length s) P vs) tt))))))))))
 
 -- THE LAW: an image that is too long is refused at 0
-pub refused-low : (s : List ℕ) (q p : ℕ) → verdictOf s ≡ Refused q p → p ≤ IMAGE
-unfolding verdictOf question1 Low
-refused-low s q p e = go (ltb 0 (length s) and leb (length s) IMAGE) refl
+pub refused-low : (form : Form) (s : List ℕ) (q p : ℕ) → verdictIn form s ≡ Refused q p → p ≤ IMAGE
+unfolding verdictIn question1 Low
+refused-low form s q p e = go (ltb 0 (length s) and leb (length s) IMAGE) refl
   where
     inside : p ≤ length s
-    inside = let h : Low (length s) (verdictOf s) = verdict-in s in rw e at h
+    inside = let h : Low (length s) (verdictIn form s) = verdict-in form s in rw e at h
 
     go : (b : Bool) → (ltb 0 (length s) and leb (length s) IMAGE) ≡ b → p ≤ IMAGE
     go true t = omega (arith, inside, leb-true (length s) IMAGE (and-both _ _ t .1))
     go false t =
         let x : question1 s ≡ At 0 = rw t refl in
-        let y : verdictOf s ≡ Refused 1 0 = ask-no 1 _ x in
+        let y : verdictIn form s ≡ Refused 1 0 = ask-no 1 _ x in
         let z : Refused 1 0 ≡ Refused q p = sym y ∙ e in
         let w : 0 ≡ p = cc in
         omega arith

@@ -4,6 +4,7 @@ use Prim.Native.Nat.{ℕ}
 use lib.ListN.{length}
 use Rattle.layout.specs.Records.{records}
 use Rattle.layout.specs.Questions.{question1, question2, question3, question4, question5}
+use Rattle.layout.specs.declared.Form.{Form}
 use Rattle.layout.specs.declared.Found.{Found}
 use Rattle.layout.specs.declared.Found.the-variants.{Nothing, At}
 use Rattle.program.specs.Program.{program}
@@ -45,12 +46,17 @@ from5 s = ask 5 (question5 (records s)) (from6 s)
 abbrev pub from4 : List ℕ → Verdict
 from4 s = ask 4 (question4 (length s) (records s)) (from5 s)
 
-abbrev pub from3 : List ℕ → Verdict
-from3 s = ask 3 (question3 (records s)) (from4 s)
+-- from 3 on by the form: question 3 alone asks for it; no other looks at a literal's kind or number
+abbrev pub from3 : Form → List ℕ → Verdict
+from3 form s = ask 3 (question3 form (records s)) (from4 s)
 
-abbrev pub from2 : List ℕ → Verdict
-from2 s = ask 2 (question2 (records s)) (from3 s)
+abbrev pub from2 : Form → List ℕ → Verdict
+from2 form s = ask 2 (question2 (records s)) (from3 form s)
 
--- all questions: those from 1 on
-unfoldable pub verdictOf : List ℕ → Verdict
-verdictOf s = ask 1 (question1 s) (from2 s)
+-- all questions: those from 1 on, put to an image in a form
+unfoldable pub verdictIn : Form → List ℕ → Verdict
+verdictIn form s = ask 1 (question1 s) (from2 form s)
+
+-- in the form in force, that of 64 bits
+abbrev pub verdictOf : List ℕ → Verdict
+verdictOf s = verdictIn Form.Wide s

@@ -3,9 +3,10 @@ ghost use mathlib.Core.Path.{_≡_};
 ghost use lib.ListN.{length};
 ghost use Rattle.layout.specs.Records.{records};
 ghost use Rattle.program.specs.Program.{program};
-ghost use Rattle.checker.specs.Verdicts.{from2, from3, from4, from5, from6, from7, from8, from9, from10, from14, verdictOf};
+ghost use Rattle.checker.specs.Verdicts.{from2, from3, from4, from5, from6, from7, from8, from9, from10, from14, verdictIn, verdictOf};
 use crate::Verdict;
 use flow::question10;
+use layout::Form;
 use layout::Found;
 use program::question7;
 use program::question14;
@@ -114,32 +115,39 @@ fn from_4(image: &[u8]) -> Verdict
     from_5(image)
 }
 
-/// The questions from 3 on.
-fn from_3(image: &[u8]) -> Verdict
-    ensures { λ r. ⌜ r ≡ from3 (now (image .entry)) ⌝ }
+/// The questions from 3 on, put to an image in a form.
+fn from_3(image: &[u8], form: Form) -> Verdict
+    ensures { λ r. ⌜ r ≡ from3 form (now (image .entry)) ⌝ }
 {
-    if let Found::At(p) = layout::question_3(image) {
+    if let Found::At(p) = layout::question_3(image, form) {
         return Verdict::Refused(3, p);
     }
     from_4(image)
 }
 
-/// The questions from 2 on.
-fn from_2(image: &[u8]) -> Verdict
-    ensures { λ r. ⌜ r ≡ from2 (now (image .entry)) ⌝ }
+/// The questions from 2 on, put to an image in a form.
+fn from_2(image: &[u8], form: Form) -> Verdict
+    ensures { λ r. ⌜ r ≡ from2 form (now (image .entry)) ⌝ }
 {
     if let Found::At(p) = layout::question_2(image) {
         return Verdict::Refused(2, p);
     }
-    from_3(image)
+    from_3(image, form)
 }
 
-/// The verdict on an image: accepted with its number of versions, or refused with the question's number and the offset.
-pub fn verdict(image: &[u8]) -> Verdict
-    ensures { λ r. ⌜ r ≡ verdictOf (now (image .entry)) ⌝ }
+/// The verdict on an image in a form: accepted with its number of versions, or refused with the question's number and the offset.
+pub fn verdict_in(image: &[u8], form: Form) -> Verdict
+    ensures { λ r. ⌜ r ≡ verdictIn form (now (image .entry)) ⌝ }
 {
     if let Found::At(p) = layout::question_1(image) {
         return Verdict::Refused(1, p);
     }
-    from_2(image)
+    from_2(image, form)
+}
+
+/// The verdict on an image in the form in force.
+pub fn verdict(image: &[u8]) -> Verdict
+    ensures { λ r. ⌜ r ≡ verdictOf (now (image .entry)) ⌝ }
+{
+    verdict_in(image, Form::Wide)
 }

@@ -8,7 +8,7 @@ use native.Mathlib.Omega.{arith}
 use lib.IntN.{ℤ, pos}
 use lib.ListN.{length, take, set, getD}
 use lib.Seq.{take-all}
-use mir.Syntax.{w32}
+use mir.Syntax.{w64}
 use mir.Val.{SFits, toZ, ofZ}
 use mir.Facts.{toZ-ofZ}
 use Rattle.machine.specs.States.{over}
@@ -48,7 +48,7 @@ over-full (x ∷ xs) (y ∷ ys) (suc j) (suc n) h g = ap (λ l. x ∷ l) (over-f
 -- the first j items are in the buffer
 module _ (xs ys buffer : List ℤ) (j : ℕ) (there : buffer ≡ over (take j xs) ys) where
   -- the item as it is read
-  pub there-next : SFits w32 (getD xs j (pos 0)) → j < length xs → set buffer j (toZ w32 (ofZ w32 (getD xs j (pos 0)))) ≡ over (take (j + 1) xs) ys
+  pub there-next : SFits w64 (getD xs j (pos 0)) → j < length xs → set buffer j (toZ w64 (ofZ w64 (getD xs j (pos 0)))) ≡ over (take (j + 1) xs) ys
   there-next f h = rw (toZ-ofZ f, there, add-one) (over-next xs ys j (pos 0) h)
 
   -- they are those asked for, as n is j

@@ -8,7 +8,7 @@ use machine::End;
 use machine::Vector;
 
 /// Writes the first `n` items, as many as there are and have a place, from the place 0 on; all else stays.
-fn put_items(buffer: &mut [i32], result: [i32; 16], n: usize)
+fn put_items(buffer: &mut [i64], result: [i64; 16], n: usize)
     ensures { λ _. ⌜ now (buffer .exit) ≡ over (take n result) (now (buffer .entry)) ⌝ }
 {
     let mut j: usize = 0;
@@ -25,7 +25,7 @@ fn put_items(buffer: &mut [i32], result: [i32; 16], n: usize)
 }
 
 /// Writes what an answer gives into the lent buffer from the place 0 on: the items of a vector result; all else stays.
-pub fn deliver(buffer: &mut [i32], result: [i32; 16], answer: Answer)
+pub fn deliver(buffer: &mut [i64], result: [i64; 16], answer: Answer)
     ensures { λ _. ⌜ now (buffer .exit) ≡ over (written result answer) (now (buffer .entry)) ⌝ }
 {
     match answer {

@@ -12,7 +12,7 @@ use typing::types;
 /// How an activation ended: its value has gone back and so many calls are left, the run is done, or it is stuck.
 pub enum Closed {
     Back(usize),
-    Integer(i32),
+    Integer(i64),
     Vector(usize),
     Stuck,
 }
@@ -20,13 +20,13 @@ pub enum Closed {
 /// Gives a cell to the register `d` of the frame of the activation below; `calls` are left. Says whether it could.
 fn back(
     codes: &mut [u16; 768],
-    numbers: &mut [i32; 768],
+    numbers: &mut [i64; 768],
     stack: &[u8; 192],
     calls: usize,
     depth: usize,
     d: u8,
     c: u16,
-    z: i32,
+    z: i64,
 ) -> bool
     requires { ⌜ depth ≤ 32 ⌝ }
     ensures { λ r. ⌜ Backs r (now (codes .entry)) (now (codes .exit)) (now (numbers .entry)) (now (numbers .exit)) (now (stack .entry)) calls depth d c z ⌝ }
@@ -47,10 +47,10 @@ fn back(
 /// The end of a force, whose result is the cell `i`: the integer is cached and goes back. Says whether it could.
 fn end_force(
     codes: &mut [u16; 768],
-    numbers: &mut [i32; 768],
+    numbers: &mut [i64; 768],
     stack: &[u8; 192],
     promises: &mut [u8; 192],
-    caches: &mut [i32; 64],
+    caches: &mut [i64; 64],
     calls: usize,
     depth: usize,
     i: usize,
@@ -77,7 +77,7 @@ fn end_force(
 }
 
 /// How the run ends where the lowest activation ends with the cell.
-fn finished(c: u16, z: i32) -> Closed
+fn finished(c: u16, z: i64) -> Closed
     ensures { λ r. ⌜ Finished r c z ⌝ }
 {
     if c == 1 {
@@ -99,7 +99,7 @@ fn end_call(
     table: &[u16; 1152],
     owners: &[u8; 64],
     codes: &mut [u16; 768],
-    numbers: &mut [i32; 768],
+    numbers: &mut [i64; 768],
     stack: &[u8; 192],
     promises: &[u8; 192],
     calls: usize,
@@ -152,12 +152,12 @@ pub fn finish(
     table: &[u16; 1152],
     owners: &[u8; 64],
     codes: &mut [u16; 768],
-    numbers: &mut [i32; 768],
+    numbers: &mut [i64; 768],
     stack: &[u8; 192],
     lengths: &[u8; 64],
-    items: &[i32; 1024],
+    items: &[i64; 1024],
     promises: &mut [u8; 192],
-    caches: &mut [i32; 64],
+    caches: &mut [i64; 64],
     spot: Spot,
 ) -> Closed
     requires { ⌜ Indexed (now image) (now table) × (0 < spot .depth) × (spot .depth ≤ 32) × (spot .frame < 32) × (spot .calls < 256) ⌝ }

@@ -6,8 +6,8 @@ use lib.IntN.{ℤ}
 use lib.ListN.{length}
 use borrow.Author.Tests.{le-leb, lt-leb}
 use Rattle.program.specs.Program.{Program}
-use Rattle.machine.specs.Begin.{beginOf, programOf, runAfter, runOf}
-use Rattle.machine.specs.Runs.{budgetIn, budgetOf, bufferOf, continued, longEnough, runFrom, stepIn, stepOf, written}
+use Rattle.machine.specs.Begin.{beginOf, programOf, runAfterTo, runOf, runOfTo}
+use Rattle.machine.specs.Runs.{budgetIn, budgetInTo, budgetOf, budgetOfTo, bufferOf, continued, longEnough, runFrom, runFromTo, stepInTo, stepOf, stepOfTo, written}
 use Rattle.machine.specs.States.{over}
 use Rattle.machine.specs.declared.Answer.{Answer}
 use Rattle.machine.specs.declared.Begun.{Begun}
@@ -24,11 +24,11 @@ use Rattle.engine.specs.Parts.{saidOf}
 
 module _ (P : Program) (s : State) (n : ℕ) where
   pub under-running : {r : Ran} {x : Status} → x ≡ Status.Running → r ≡ runFrom P n s 0 → r ≡ budgetIn P s n x
-  unfolding budgetIn
+  unfolding budgetInTo
   under-running e f = rw (e, f)
 
   pub under-ended : {x : Status} (z : End) → x ≡ Status.Ended z → record { state = s; answer = Answer.Ended z; steps = 0 } ≡ budgetIn P s n x
-  unfolding budgetIn
+  unfolding budgetInTo
   under-ended z e = rw e
 
 -- ---- a single step is a budget of one
@@ -40,7 +40,7 @@ one t (Said.Ended z) more e = refl
 one t Said.Stuck more e = refl
 
 single : (P : Program) (s : State) (x : Status) → s .status ≡ x → record { state = budgetIn P s 1 x .state; said = saidOf (budgetIn P s 1 x .answer) } ≡ stepOf P s
-unfolding budgetIn runFrom stepOf stepIn saidOf
+unfolding budgetInTo runFromTo stepOfTo stepInTo saidOf
 single P s Status.Running e = one (stepOf P s .state) (stepOf P s .said) (λ t. runFrom P 0 t 1) (λ u. refl)
 single P s (Status.Ended z) e = sym (rw e)
 
@@ -51,12 +51,12 @@ steps-once P s e f = rw (f, e) (single P s (s .status) refl)
 
 module _ (P : Program) (s : State) (n : ℕ) (buffer : List ℤ) where
   pub refuses : length buffer < 16 → record { state = s; answer = Answer.Refused 13 0; steps = 0 } ≡ budgetOf P s n buffer
-  unfolding budgetOf longEnough
-  refuses h = rw (lt-leb 16 (length buffer) h, budgetOf)
+  unfolding budgetOfTo longEnough
+  refuses h = rw (lt-leb 16 (length buffer) h, budgetOfTo)
 
   pub takes : {r : Ran} → 16 ≤ length buffer → r ≡ budgetIn P s n (s .status) → r ≡ budgetOf P s n buffer
-  unfolding budgetOf longEnough
-  takes h e = rw (le-leb 16 (length buffer) h, budgetOf) e
+  unfolding budgetOfTo longEnough
+  takes h e = rw (le-leb 16 (length buffer) h, budgetOfTo) e
 
 pub leaves : (s : State) (q p n : ℕ) (buffer : List ℤ) → buffer ≡ bufferOf (record { state = s; answer = Answer.Refused q p; steps = n }) buffer
 unfolding bufferOf written over
@@ -70,9 +70,9 @@ delivers r buffer e = e
 
 module _ (image : List ℕ) (f v : ℕ) (words : List ℤ) (n : ℕ) (buffer : List ℤ) (b : Begun) (begun : b ≡ beginOf image f v words buffer) where
   pub run-refused : (q p : ℕ) → b .entry ≡ Entry.Refused q p → record { state = b .state; answer = Answer.Refused q p; steps = 0 } ≡ runOf image f v words n buffer
-  unfolding runOf runAfter
+  unfolding runOfTo runAfterTo
   run-refused q p e = rw (← begun, e)
 
   pub run-begun : {r : Ran} → b .entry ≡ Entry.Begun → r ≡ budgetOf (programOf image) (b .state) n buffer → r ≡ runOf image f v words n buffer
-  unfolding runOf runAfter
+  unfolding runOfTo runAfterTo
   run-begun e g = rw (← begun, e) g

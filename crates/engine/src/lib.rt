@@ -34,7 +34,7 @@ pub struct State {
 struct Outcome {
     calls: u8,
     depth: u8,
-    result: [i32; 16],
+    result: [i64; 16],
     status: Status,
     answer: Answer,
 }
@@ -43,12 +43,12 @@ struct Outcome {
 fn standing(
     owners: &[u8; 64],
     codes: &[u16; 768],
-    numbers: &[i32; 768],
+    numbers: &[i64; 768],
     stack: &[u8; 192],
     lengths: &[u8; 64],
-    items: &[i32; 1024],
+    items: &[i64; 1024],
     promises: &[u8; 192],
-    caches: &[i32; 64],
+    caches: &[i64; 64],
     outcome: Outcome,
 ) -> machine::State
     ensures { λ r. ⌜ r ≡ stateWith (memoryOf (now (owners .entry)) (now (codes .entry)) (now (numbers .entry)) (now (stack .entry)) (now (lengths .entry)) (now (items .entry)) (now (promises .entry)) (now (caches .entry)) (outcome .result) (outcome .calls) (outcome .depth)) (outcome .status) ⌝ }
@@ -75,7 +75,7 @@ pub fn shown(n: u8) -> u8
 }
 
 /// A run with its calls and activations, which goes on or is stuck.
-fn going(calls: u8, depth: u8, result: [i32; 16], reply: Answer) -> Outcome
+fn going(calls: u8, depth: u8, result: [i64; 16], reply: Answer) -> Outcome
     ensures { λ r. ⌜ r ≡ goingWith calls depth result reply ⌝ }
 {
     Outcome {
@@ -88,7 +88,7 @@ fn going(calls: u8, depth: u8, result: [i32; 16], reply: Answer) -> Outcome
 }
 
 /// A run that has ended.
-fn ended(calls: u8, depth: u8, result: [i32; 16], end: End) -> Outcome
+fn ended(calls: u8, depth: u8, result: [i64; 16], end: End) -> Outcome
     ensures { λ r. ⌜ r ≡ endedWith calls depth result end ⌝ }
 {
     Outcome {
@@ -101,7 +101,7 @@ fn ended(calls: u8, depth: u8, result: [i32; 16], end: End) -> Outcome
 }
 
 /// What the steps that were taken come to, by the last turn.
-fn come_to(lengths: &[u8; 64], items: &[i32; 1024], result: [i32; 16], counted: Counted) -> Outcome
+fn come_to(lengths: &[u8; 64], items: &[i64; 1024], result: [i64; 16], counted: Counted) -> Outcome
     requires { ⌜ (counted .calls < 256) × (counted .depth < 256) × Placed (counted .turn) ⌝ }
     ensures { λ r. ⌜ r ≡ outcomeOf (counted .turn) (now (lengths .entry)) (now (items .entry)) result (counted .calls) (counted .depth) ⌝ }
 {
@@ -130,12 +130,12 @@ fn resumed(state: machine::State, image: &[u8], budget: u32) -> Ran
 {
     let mut owners = [0u8; 64];
     let mut codes = [0u16; 768];
-    let mut numbers = [0i32; 768];
+    let mut numbers = [0i64; 768];
     let mut stack = [0u8; 192];
     let mut lengths = [0u8; 64];
-    let mut items = [0i32; 1024];
+    let mut items = [0i64; 1024];
     let mut promises = [0u8; 192];
-    let mut caches = [0i32; 64];
+    let mut caches = [0i64; 64];
     let frames = state.frames;
     frames::load_frames(frames, &mut owners, &mut codes, &mut numbers);
     let activations = state.activations;
@@ -222,7 +222,7 @@ impl State {
 
     /// At most `budget` steps, after question 13 to the lent buffer: the state after them, the answer and the steps taken.
     /// A vector that the run is done with is written to the buffer from the place 0 on.
-    pub fn budget(self, image: &[u8], budget: u32, buffer: &mut [i32]) -> Ran
+    pub fn budget(self, image: &[u8], budget: u32, buffer: &mut [i64]) -> Ran
         ensures { λ r. ⌜ (r ≡ budgetOf (programOf (now (image .entry))) (self .inner) budget (now (buffer .entry))) × (now (buffer .exit) ≡ bufferOf r (now (buffer .entry))) ⌝ }
     {
         let state = self.inner;
@@ -243,7 +243,7 @@ impl State {
 }
 
 /// Begins a run of a version of a function of an image: its state before the first step, or a refusal. Nothing is written.
-pub fn begin(image: &[u8], function: usize, version: usize, words: &[i32], buffer: &[i32]) -> Begun
+pub fn begin(image: &[u8], function: usize, version: usize, words: &[i64], buffer: &[i64]) -> Begun
     ensures { λ r. ⌜ r ≡ beginOf (now (image .entry)) function version (now (words .entry)) (now (buffer .entry)) ⌝ }
 {
     begin::begin(image, function, version, words, buffer)
@@ -254,9 +254,9 @@ pub fn run(
     image: &[u8],
     function: usize,
     version: usize,
-    words: &[i32],
+    words: &[i64],
     budget: u32,
-    buffer: &mut [i32],
+    buffer: &mut [i64],
 ) -> Ran
     ensures { λ r. ⌜ (r ≡ runOf (now (image .entry)) function version (now (words .entry)) budget (now (buffer .entry))) × (now (buffer .exit) ≡ bufferOf r (now (buffer .entry))) ⌝ }
 {

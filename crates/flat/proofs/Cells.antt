@@ -7,7 +7,7 @@ use lib.IntN.{ℤ, pos}
 use lib.ListN.{length, getD, set, take, length-set, List·getD-eq-default}
 use lib.Seq.{getD-set-same}
 use mir.Facts.{toZ-ofZ}
-use mir.Syntax.{w32}
+use mir.Syntax.{w64}
 use mir.Val.{SFits, toZ, ofZ}
 use borrow.Author.Tests.{lt-ltb, le-ltb, ne-eqb}
 use Rattle.layout.specs.Records.{_!_}
@@ -70,12 +70,12 @@ module _ (s : List ℕ) (x : List ℤ) (i : ℕ) (inside : i < 768) (all : lengt
   unfolding valueOf
   empty-loaded = code-loaded 0 Value.Empty refl
 
-  pub integer-loaded : (z : ℤ) → SFits w32 z → CellLoaded s (set s i 1) x (set x i (toZ w32 (ofZ w32 z))) i (Value.Integer z)
+  pub integer-loaded : (z : ℤ) → SFits w64 z → CellLoaded s (set s i 1) x (set x i (toZ w64 (ofZ w64 z))) i (Value.Integer z)
   unfolding cellIn valueOf
   integer-loaded z f = record {
-    is = rw (getD-set-same s i 1 0 (omega arith), getD-set-same x i (toZ w32 (ofZ w32 z)) (pos 0) (omega arith), toZ-ofZ f) refl;
+    is = rw (getD-set-same s i 1 0 (omega arith), getD-set-same x i (toZ w64 (ofZ w64 z)) (pos 0) (omega arith), toZ-ofZ f) refl;
     codes = kept-set i s i 1 (omega arith);
-    numbers = kept-set i x i (toZ w32 (ofZ w32 z)) (omega arith);
+    numbers = kept-set i x i (toZ w64 (ofZ w64 z)) (omega arith);
   }
 
   pub vector-code : (v : ℕ) → v < 256 → CellLoaded s (set s i (256 + v)) x x i (Value.Vector v)

@@ -7,7 +7,7 @@ use lib.IntN.{ℤ, pos}
 use lib.ListN.{length, getD, set, length-set}
 use lib.Seq.{getD-set-same}
 use mir.Facts.{toZ-ofZ}
-use mir.Syntax.{w32}
+use mir.Syntax.{w64}
 use mir.Val.{SFits, toZ, ofZ}
 use Rattle.layout.specs.Records.{_!_}
 use Rattle.machine.specs.declared.Cache.{Cache}
@@ -38,12 +38,12 @@ module _ (s : List ℕ) (x : List ℤ) (p : ℕ) (inside : p < 64) (all : length
     caches = kept-same p x;
   }
 
-  pub forced-loaded : (z : ℤ) → SFits w32 z → CacheLoaded s (set s (3 * p + 2) 1) x (set x p (toZ w32 (ofZ w32 z))) p (Cache.Forced z)
+  pub forced-loaded : (z : ℤ) → SFits w64 z → CacheLoaded s (set s (3 * p + 2) 1) x (set x p (toZ w64 (ofZ w64 z))) p (Cache.Forced z)
   unfolding cacheOf
   forced-loaded z f = record {
-    is = rw (getD-set-same s (3 * p + 2) 1 0 (omega arith), getD-set-same x p (toZ w32 (ofZ w32 z)) (pos 0) (omega arith), toZ-ofZ f) refl;
+    is = rw (getD-set-same s (3 * p + 2) 1 0 (omega arith), getD-set-same x p (toZ w64 (ofZ w64 z)) (pos 0) (omega arith), toZ-ofZ f) refl;
     flags = kept-set (3 * p + 2) s (3 * p + 2) 1 (omega arith);
-    caches = kept-set p x p (toZ w32 (ofZ w32 z)) (omega arith);
+    caches = kept-set p x p (toZ w64 (ofZ w64 z)) (omega arith);
   }
 
   module _ (t : List ℕ) (y : List ℤ) (q : Promise) (o : CacheLoaded (set (set s (3 * p) (q .frame)) (3 * p + 1) (q .block)) t x y p (q .cache)) where

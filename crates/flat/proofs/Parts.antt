@@ -1,11 +1,14 @@
 -- Lists by a rule for each place, one place after the other.
 use mathlib.Core.Path.{_≡_, refl, sym, ap, _∙_}
 use mathlib.Core.List.{List, [], _∷_, _++_}
+use mathlib.Core.Bool.{cond}
 use Prim.Native.Nat.{ℕ, zero, suc, _+_, _≤_, _<_}
 use native.Mathlib.Nat.{not-suc-le-zero, le-of-suc-le-suc}
 use native.Mathlib.Numerals.{add-one}
 use native.Mathlib.Omega.{arith}
-use lib.ListN.{length, getD, set, take, length-set}
+use lib.ListN.{length, getD, set, take, length-set, replicate, getD-replicate}
+use lib.Dec.{eqb}
+use borrow.Author.Tests.{ne-eqb}
 use lib.Seq.{take-suc, take-suc-set, take-all, take-set-le, take-take, getD-take, getD-set-same, getD-set-other}
 use Rattle.memory.specs.Lists.{upTo}
 use Rattle.memory.proofs.Lists.{upTo-same}
@@ -35,6 +38,12 @@ module _ {A : Type 0} where
   all-done f k n l e a b t =
       let s : n ≡ k = omega arith in
       rw s (t ∙ take-all k l (omega arith))
+
+  -- ---- one in front of others that are all the same
+
+  pub first-set : (x y : A) (k : ℕ) → k < 32 → getD (set (replicate 32 y) 0 x) k y ≡ cond (eqb k 0) x y
+  first-set x y zero h = refl
+  first-set x y (suc k) h = rw (ne-eqb (suc k) 0 (λ e. omega arith)) (getD-replicate 31 k y y (omega arith))
 
   -- ---- places
 

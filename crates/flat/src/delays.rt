@@ -9,7 +9,7 @@ use machine::Cache;
 use machine::Promise;
 
 /// What a force has left, by the number `c` with `z` beside it.
-fn cache(c: u8, z: i32) -> Cache
+fn cache(c: u8, z: i64) -> Cache
     ensures { λ r. ⌜ r ≡ cacheOf c z ⌝ }
 {
     if c == 0 {
@@ -20,7 +20,7 @@ fn cache(c: u8, z: i32) -> Cache
 }
 
 /// The promise `p`.
-fn promise(flags: &[u8; 192], caches: &[i32; 64], p: usize) -> Promise
+fn promise(flags: &[u8; 192], caches: &[i64; 64], p: usize) -> Promise
     requires { ⌜ p < 64 ⌝ }
     ensures { λ r. ⌜ r ≡ promiseIn (now (flags .entry)) (now (caches .entry)) p ⌝ }
 {
@@ -33,7 +33,7 @@ fn promise(flags: &[u8; 192], caches: &[i32; 64], p: usize) -> Promise
 }
 
 /// The promises of a state.
-pub fn promises(flags: &[u8; 192], caches: &[i32; 64]) -> [Promise; 64]
+pub fn promises(flags: &[u8; 192], caches: &[i64; 64]) -> [Promise; 64]
     ensures { λ r. ⌜ r ≡ upTo (promiseIn (now (flags .entry)) (now (caches .entry))) 0 64 ⌝ }
 {
     let mut all = [Promise {
@@ -50,7 +50,7 @@ pub fn promises(flags: &[u8; 192], caches: &[i32; 64]) -> [Promise; 64]
 }
 
 /// Loads what a force of the promise `p` has left.
-fn load_cache(cache: Cache, p: usize, flags: &mut [u8; 192], caches: &mut [i32; 64])
+fn load_cache(cache: Cache, p: usize, flags: &mut [u8; 192], caches: &mut [i64; 64])
     requires { ⌜ (p < 64) × (length (now flags) ≡ 192) × (length (now caches) ≡ 64) ⌝ }
     ensures { λ _. ⌜ CacheLoaded (now (flags .entry)) (now (flags .exit)) (now (caches .entry)) (now (caches .exit)) p cache ⌝ }
 {
@@ -66,7 +66,7 @@ fn load_cache(cache: Cache, p: usize, flags: &mut [u8; 192], caches: &mut [i32; 
 }
 
 /// Loads the promise `p`.
-fn load_promise(promise: Promise, p: usize, flags: &mut [u8; 192], caches: &mut [i32; 64])
+fn load_promise(promise: Promise, p: usize, flags: &mut [u8; 192], caches: &mut [i64; 64])
     requires { ⌜ (p < 64) × (length (now flags) ≡ 192) × (length (now caches) ≡ 64) ⌝ }
     ensures { λ _. ⌜ PromiseLoaded (now (flags .entry)) (now (flags .exit)) (now (caches .entry)) (now (caches .exit)) p promise ⌝ }
 {
@@ -77,7 +77,7 @@ fn load_promise(promise: Promise, p: usize, flags: &mut [u8; 192], caches: &mut 
 }
 
 /// Loads the promises of a state.
-pub fn load_promises(promises: [Promise; 64], flags: &mut [u8; 192], caches: &mut [i32; 64])
+pub fn load_promises(promises: [Promise; 64], flags: &mut [u8; 192], caches: &mut [i64; 64])
     ensures { λ _. ⌜ (upTo (promiseIn (now (flags .exit)) (now (caches .exit))) 0 64 ≡ promises) × (length (now (flags .exit)) ≡ 192) × (length (now (caches .exit)) ≡ 64) ⌝ }
 {
     *flags = [0; 192];

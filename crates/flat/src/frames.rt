@@ -1,7 +1,10 @@
 //! The frames of a state as owners and cells, and back.
 ghost use mathlib.Core.Path.{_≡_};
 ghost use Prim.Native.Nat.{_<_};
-ghost use lib.ListN.{length};
+ghost use lib.Dec.{eqb};
+ghost use lib.ListN.{length, replicate, set};
+ghost use mathlib.Core.Bool.{cond};
+ghost use Rattle.machine.specs.States.{newFrame};
 ghost use Rattle.memory.specs.Lists.{upTo};
 ghost use Rattle.memory.specs.Memory.{cellIn, frameIn, namesIn, registersIn, valueOf};
 ghost use Rattle.flat.specs.Arrays.{CellLoaded, FrameLoaded, NamesLoaded, RegistersLoaded};
@@ -10,7 +13,7 @@ use machine::Place;
 use machine::Value;
 
 /// The value of a cell, by its code and its number.
-fn value(c: u16, z: i32) -> Value
+fn value(c: u16, z: i64) -> Value
     ensures { λ r. ⌜ r ≡ valueOf c z ⌝ }
 {
     if c == 1 {
@@ -29,7 +32,7 @@ fn value(c: u16, z: i32) -> Value
 }
 
 /// The value of the cell `i`; a cell that is not there holds nothing.
-pub fn cell(codes: &[u16; 768], numbers: &[i32; 768], i: usize) -> Value
+pub fn cell(codes: &[u16; 768], numbers: &[i64; 768], i: usize) -> Value
     ensures { λ r. ⌜ r ≡ cellIn (now (codes .entry)) (now (numbers .entry)) i ⌝ }
 {
     if memory::halves(codes) <= i {
@@ -39,7 +42,7 @@ pub fn cell(codes: &[u16; 768], numbers: &[i32; 768], i: usize) -> Value
 }
 
 /// The registers of the frame `k`.
-fn registers(codes: &[u16; 768], numbers: &[i32; 768], k: usize) -> [Place; 16]
+fn registers(codes: &[u16; 768], numbers: &[i64; 768], k: usize) -> [Place; 16]
     requires { ⌜ k < 32 ⌝ }
     ensures { λ r. ⌜ r ≡ registersIn (now (codes .entry)) (now (numbers .entry)) k ⌝ }
 {
@@ -56,7 +59,7 @@ fn registers(codes: &[u16; 768], numbers: &[i32; 768], k: usize) -> [Place; 16]
 }
 
 /// The names of the frame `k`.
-fn names(codes: &[u16; 768], numbers: &[i32; 768], k: usize) -> [Place; 8]
+fn names(codes: &[u16; 768], numbers: &[i64; 768], k: usize) -> [Place; 8]
     requires { ⌜ k < 32 ⌝ }
     ensures { λ r. ⌜ r ≡ namesIn (now (codes .entry)) (now (numbers .entry)) k ⌝ }
 {
@@ -73,7 +76,7 @@ fn names(codes: &[u16; 768], numbers: &[i32; 768], k: usize) -> [Place; 8]
 }
 
 /// The frame `k`.
-fn frame(owners: &[u8; 64], codes: &[u16; 768], numbers: &[i32; 768], k: usize) -> Frame
+fn frame(owners: &[u8; 64], codes: &[u16; 768], numbers: &[i64; 768], k: usize) -> Frame
     requires { ⌜ k < 32 ⌝ }
     ensures { λ r. ⌜ r ≡ frameIn (now (owners .entry)) (now (codes .entry)) (now (numbers .entry)) k ⌝ }
 {
@@ -88,7 +91,7 @@ fn frame(owners: &[u8; 64], codes: &[u16; 768], numbers: &[i32; 768], k: usize) 
 }
 
 /// The frames of a state.
-pub fn frames(owners: &[u8; 64], codes: &[u16; 768], numbers: &[i32; 768]) -> [Frame; 32]
+pub fn frames(owners: &[u8; 64], codes: &[u16; 768], numbers: &[i64; 768]) -> [Frame; 32]
     ensures { λ r. ⌜ r ≡ upTo (frameIn (now (owners .entry)) (now (codes .entry)) (now (numbers .entry))) 0 32 ⌝ }
 {
     let blank = Frame::new(0, 0);
@@ -102,7 +105,7 @@ pub fn frames(owners: &[u8; 64], codes: &[u16; 768], numbers: &[i32; 768]) -> [F
 }
 
 /// Loads the cell `i`.
-fn load_cell(value: Value, i: usize, codes: &mut [u16; 768], numbers: &mut [i32; 768])
+fn load_cell(value: Value, i: usize, codes: &mut [u16; 768], numbers: &mut [i64; 768])
     requires { ⌜ (i < 768) × (length (now codes) ≡ 768) × (length (now numbers) ≡ 768) ⌝ }
     ensures { λ _. ⌜ CellLoaded (now (codes .entry)) (now (codes .exit)) (now (numbers .entry)) (now (numbers .exit)) i value ⌝ }
 {
@@ -128,7 +131,7 @@ fn load_registers(
     registers: [Place; 16],
     k: usize,
     codes: &mut [u16; 768],
-    numbers: &mut [i32; 768],
+    numbers: &mut [i64; 768],
 )
     requires { ⌜ (k < 32) × (length (now codes) ≡ 768) × (length (now numbers) ≡ 768) ⌝ }
     ensures { λ _. ⌜ RegistersLoaded (now (codes .entry)) (now (codes .exit)) (now (numbers .entry)) (now (numbers .exit)) k registers ⌝ }
@@ -143,7 +146,7 @@ fn load_registers(
 }
 
 /// Loads the names of the frame `k`.
-fn load_names(names: [Place; 8], k: usize, codes: &mut [u16; 768], numbers: &mut [i32; 768])
+fn load_names(names: [Place; 8], k: usize, codes: &mut [u16; 768], numbers: &mut [i64; 768])
     requires { ⌜ (k < 32) × (length (now codes) ≡ 768) × (length (now numbers) ≡ 768) ⌝ }
     ensures { λ _. ⌜ NamesLoaded (now (codes .entry)) (now (codes .exit)) (now (numbers .entry)) (now (numbers .exit)) k names ⌝ }
 {
@@ -162,7 +165,7 @@ fn load_frame(
     k: usize,
     owners: &mut [u8; 64],
     codes: &mut [u16; 768],
-    numbers: &mut [i32; 768],
+    numbers: &mut [i64; 768],
 )
     requires { ⌜ (k < 32) × (length (now owners) ≡ 64) × (length (now codes) ≡ 768) × (length (now numbers) ≡ 768) ⌝ }
     ensures { λ _. ⌜ FrameLoaded (now (owners .entry)) (now (owners .exit)) (now (codes .entry)) (now (codes .exit)) (now (numbers .entry)) (now (numbers .exit)) k frame ⌝ }
@@ -180,7 +183,7 @@ pub fn load_frames(
     frames: [Frame; 32],
     owners: &mut [u8; 64],
     codes: &mut [u16; 768],
-    numbers: &mut [i32; 768],
+    numbers: &mut [i64; 768],
 )
     ensures { λ _. ⌜ (upTo (frameIn (now (owners .exit)) (now (codes .exit)) (now (numbers .exit))) 0 32 ≡ frames) × (length (now (owners .exit)) ≡ 64) × (length (now (codes .exit)) ≡ 768) × (length (now (numbers .exit)) ≡ 768) ⌝ }
 {
@@ -190,6 +193,32 @@ pub fn load_frames(
     let mut k: usize = 0;
     while k < 32 {
         load_frame(frames[k], k, owners, codes, numbers);
+        k += 1;
+    }
+}
+
+/// The frame `k` of a state whose first call has the frame, and no other one.
+fn first_or_blank(frame: Frame, k: usize) -> Frame
+    ensures { λ r. ⌜ r ≡ cond (eqb k 0) frame (newFrame 0 0) ⌝ }
+{
+    if k == 0 { frame } else { Frame::new(0, 0) }
+}
+
+/// Loads the frame of a first call; the others are blank.
+pub fn load_first(
+    frame: Frame,
+    owners: &mut [u8; 64],
+    codes: &mut [u16; 768],
+    numbers: &mut [i64; 768],
+)
+    ensures { λ _. ⌜ (upTo (frameIn (now (owners .exit)) (now (codes .exit)) (now (numbers .exit))) 0 32 ≡ set (replicate 32 (newFrame 0 0)) 0 frame) × (length (now (owners .exit)) ≡ 64) × (length (now (codes .exit)) ≡ 768) × (length (now (numbers .exit)) ≡ 768) ⌝ }
+{
+    *owners = [0; 64];
+    *codes = [0; 768];
+    *numbers = [0; 768];
+    let mut k: usize = 0;
+    while k < 32 {
+        load_frame(first_or_blank(frame, k), k, owners, codes, numbers);
         k += 1;
     }
 }

@@ -8,7 +8,7 @@ ghost use Rattle.flat.specs.Arrays.{ItemsLoaded, VectorLoaded, itemsIn};
 use machine::Vector;
 
 /// The items of the vector `v`.
-fn items_of(items: &[i32; 1024], v: usize) -> [i32; 16]
+fn items_of(items: &[i64; 1024], v: usize) -> [i64; 16]
     requires { ⌜ v < 64 ⌝ }
     ensures { λ r. ⌜ r ≡ itemsIn (now (items .entry)) v ⌝ }
 {
@@ -22,7 +22,7 @@ fn items_of(items: &[i32; 1024], v: usize) -> [i32; 16]
 }
 
 /// The vector `v`; one that is not there has no items.
-pub fn vector(lengths: &[u8; 64], items: &[i32; 1024], v: usize) -> Vector
+pub fn vector(lengths: &[u8; 64], items: &[i64; 1024], v: usize) -> Vector
     ensures { λ r. ⌜ r ≡ vectorIn (now (lengths .entry)) (now (items .entry)) v ⌝ }
 {
     memory::words(items);
@@ -40,7 +40,7 @@ pub fn vector(lengths: &[u8; 64], items: &[i32; 1024], v: usize) -> Vector
 }
 
 /// The vectors of a state.
-pub fn vectors(lengths: &[u8; 64], items: &[i32; 1024]) -> [Vector; 64]
+pub fn vectors(lengths: &[u8; 64], items: &[i64; 1024]) -> [Vector; 64]
     ensures { λ r. ⌜ r ≡ upTo (vectorIn (now (lengths .entry)) (now (items .entry))) 0 64 ⌝ }
 {
     let mut all = [Vector {
@@ -56,7 +56,7 @@ pub fn vectors(lengths: &[u8; 64], items: &[i32; 1024]) -> [Vector; 64]
 }
 
 /// Loads the items of the vector `v`.
-fn load_items(own: [i32; 16], v: usize, items: &mut [i32; 1024])
+fn load_items(own: [i64; 16], v: usize, items: &mut [i64; 1024])
     requires { ⌜ (v < 64) × (length (now items) ≡ 1024) ⌝ }
     ensures { λ _. ⌜ ItemsLoaded (now (items .entry)) (now (items .exit)) v own ⌝ }
 {
@@ -68,7 +68,7 @@ fn load_items(own: [i32; 16], v: usize, items: &mut [i32; 1024])
 }
 
 /// Loads the vector `v`.
-fn load_vector(vector: Vector, v: usize, lengths: &mut [u8; 64], items: &mut [i32; 1024])
+fn load_vector(vector: Vector, v: usize, lengths: &mut [u8; 64], items: &mut [i64; 1024])
     requires { ⌜ (v < 64) × (length (now lengths) ≡ 64) × (length (now items) ≡ 1024) ⌝ }
     ensures { λ _. ⌜ VectorLoaded (now (lengths .entry)) (now (lengths .exit)) (now (items .entry)) (now (items .exit)) v vector ⌝ }
 {
@@ -78,7 +78,7 @@ fn load_vector(vector: Vector, v: usize, lengths: &mut [u8; 64], items: &mut [i3
 }
 
 /// Loads the vectors of a state.
-pub fn load_vectors(vectors: [Vector; 64], lengths: &mut [u8; 64], items: &mut [i32; 1024])
+pub fn load_vectors(vectors: [Vector; 64], lengths: &mut [u8; 64], items: &mut [i64; 1024])
     ensures { λ _. ⌜ (upTo (vectorIn (now (lengths .exit)) (now (items .exit))) 0 64 ≡ vectors) × (length (now (lengths .exit)) ≡ 64) × (length (now (items .exit)) ≡ 1024) ⌝ }
 {
     *lengths = [0; 64];

@@ -15,7 +15,7 @@ use Rattle.layout.proofs.Walk.{size-in}
 use Rattle.layout.proofs.Rows.{Rows, choose-each}
 use Rattle.sets.specs.Sets.{only, those, setOf}
 use Rattle.sets.proofs.Masks.{set-empty}
-use Rattle.program.specs.Program.{Instr, Program, instrOf, lineOf, program, Line}
+use Rattle.program.specs.Program.{Instr, Program, instrOf, instrBy, lineOf, program, Line}
 use Rattle.program.specs.Places.{viewAt, past, versionAt, blockAt, instrAt, blockPlace, isLine}
 use Rattle.program.proofs.Views.{line-view, line-none, is-lined}
 use Rattle.program.proofs.Lookups.{block-found, block-missing}
@@ -30,18 +30,18 @@ use Rattle.rules.proofs.Walked.{walked-at, walked-missing}
 
 -- only PROM enters, and only its block
 pub enters-same : (P : Program) (f g : ℕ → Option Action) (k : ℕ) (b : List ℕ) → (k ≡ kind.PROM → f (b ! 1) ≡ g (b ! 1)) → actionOf f (touch P (instrOf k b)) ≡ actionOf g (touch P (instrOf k b))
-unfolding actionOf touch instrOf Rows
+unfolding actionOf touch instrBy Rows
 enters-same P f g k b h = choose-each (λ (i : Instr). actionOf f (touch P i) ≡ actionOf g (touch P i)) k _ _ refl
     (λ e. refl, (λ e. refl, (λ e. refl, (λ e. refl, (λ e. refl, (λ e. refl, (λ e. refl, (λ e. refl, (λ e. refl, (λ e. refl, (λ e. refl, (λ e. refl, (λ e. ap (λ (o : Option Action). promised (those 16 (b ! 0 ∷ [])) o) (h e), (λ e. refl, (λ e. refl, (λ e. refl, (λ e. refl, (λ e. refl, (λ e. refl, tt)))))))))))))))))))
 
 -- only SKIP passes over instructions
 pub skip-none : (P : Program) (k : ℕ) (b : List ℕ) → (k ≡ kind.SKIP → ⊥) → none ≡ skipsOf P (instrOf k b)
-unfolding skipOf touch instrOf Rows
+unfolding skipOf touch instrBy Rows
 skip-none P k b h = choose-each (λ (i : Instr). none ≡ skipOf (touch P i)) k _ _ refl
     (λ e. refl, (λ e. refl, (λ e. refl, (λ e. refl, (λ e. refl, (λ e. refl, (λ e. refl, (λ e. refl, (λ e. refl, (λ e. refl, (λ e. refl, (λ e. refl, (λ e. refl, (λ e. refl, (λ e. refl, (λ e. refl, (λ e. refl, (λ e. refl, (λ e. absurd (h e), tt)))))))))))))))))))
 
 pub skip-some : (P : Program) (k n : ℕ) (b : List ℕ) → k ≡ kind.SKIP → n ≡ b ! 1 → skipIn (n + 1) ≡ skipsOf P (instrOf k b)
-unfolding skipOf touch instrOf choose skipIn
+unfolding skipOf touch instrBy choose skipIn
 skip-some P k n b e h = let z : n + 1 ≡ suc n = omega arith in rw (z, e, h) refl
 
 -- ---- an instruction at an offset

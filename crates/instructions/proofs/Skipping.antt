@@ -9,7 +9,7 @@ use lib.ListN.{length, length-set, set}
 use Rattle.layout.specs.Records.{_!_}
 use Rattle.program.specs.Program.{Program, SKIP, Version}
 use Rattle.machine.specs.Calls.{skipped}
-use Rattle.machine.specs.Steps.{execute}
+use Rattle.machine.specs.Steps.{executeTo}
 use Rattle.machine.specs.Try.{got, stuck}
 use Rattle.machine.specs.Values.{isZero}
 use Rattle.memory.specs.Memory.{Memory, stateOf}
@@ -31,17 +31,17 @@ module _ (codes : List ℕ) (numbers : List ℤ) (stack : List ℕ) (calls depth
   next = stack ! (6 * (depth - 1) + 5)
 
   pub skip-stuck : integerIn codes numbers k a ≡ stuck → Skips Turn.Stuck codes numbers stack stack calls depth k a n
-  unfolding Skips Turns executed execute withSkip withOpen withCells
+  unfolding Skips Turns executed executeTo withSkip withOpen withCells
   skip-stuck e = λ P W M long. (bound-stuck _ (integer-in (M .owners) codes numbers k a ∙ e), refl)
 
   module _ {z : ℤ} (e : integerIn codes numbers k a ≡ got z) where
     pub skip-left : isZero z ≡ false → Skips Turn.On codes numbers stack stack calls depth k a n
-    unfolding Skips Turns executed execute withSkip withOpen withCells
+    unfolding Skips Turns executed executeTo withSkip withOpen withCells
     skip-left q = λ P W M long. (bound-got _ (integer-in (M .owners) codes numbers k a ∙ e) ∙ rw q refl, long, refl, refl)
 
     module _ (q : isZero z ≡ true) where
       reached : (P : Program) (W : Version) (M : Memory) → executed P W (before M) k (SKIP a n) ≡ skipped (stateOf (before M)) n
-      unfolding executed execute withSkip withOpen withCells
+      unfolding executed executeTo withSkip withOpen withCells
       reached P W M = bound-got _ (integer-in (M .owners) codes numbers k a ∙ e) ∙ rw q refl
 
       pub skip-none : depth ≡ 0 → Skips Turn.Stuck codes numbers stack stack calls depth k a n

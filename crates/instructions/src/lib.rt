@@ -19,7 +19,7 @@ use promises::Forced;
 pub enum Turn {
     On,
     Stack(usize, usize),
-    Integer(i32),
+    Integer(i64),
     Vector(usize),
     Stuck,
     Stop(Halt),
@@ -51,7 +51,7 @@ fn opened(did: Did, calls: usize, depth: usize) -> Turn
 /// Part of the loop, which keeps `k` below 32 and `depth` at most 32: tests would cost each step.
 fn skip(
     codes: &[u16; 768],
-    numbers: &[i32; 768],
+    numbers: &[i64; 768],
     stack: &mut [u8; 192],
     calls: usize,
     depth: usize,
@@ -87,12 +87,12 @@ pub fn instruct(
     table: &[u16; 1152],
     owners: &mut [u8; 64],
     codes: &mut [u16; 768],
-    numbers: &mut [i32; 768],
+    numbers: &mut [i64; 768],
     stack: &mut [u8; 192],
     lengths: &mut [u8; 64],
-    items: &mut [i32; 1024],
+    items: &mut [i64; 1024],
     promises: &mut [u8; 192],
-    caches: &[i32; 64],
+    caches: &[i64; 64],
     calls: usize,
     depth: usize,
     k: usize,

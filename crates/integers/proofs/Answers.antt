@@ -8,25 +8,25 @@ use lib.Signed.{mag, leZ, ltZ, nonNeg}
 use lib.Dec.{T, ltb, leb→le}
 use borrow.Author.Tests.{ltb-true, lt-ltb, le-ltb}
 use Rattle.machine.specs.Try.{got, _>>_, endUnless}
-use Rattle.machine.specs.Values.{ranged, isZero, floored, divided, index}
+use Rattle.machine.specs.Values.{RANGE, ranged, rangedTo, isZero, floored, divided, dividedTo, index}
 use Rattle.integers.specs.Computed.{computedOf, indexedOf}
 use Rattle.integers.specs.declared.Computed.{Computed}
 use Rattle.integers.specs.declared.Indexed.{Indexed}
 
-pub in-range : (z : ℤ) → ltb (mag z) 2147483648 ≡ true → Computed.Integer z ≡ computedOf (ranged z)
-unfolding computedOf ranged endUnless _>>_
+pub in-range : (z : ℤ) → ltb (mag z) RANGE ≡ true → Computed.Integer z ≡ computedOf (ranged z)
+unfolding computedOf rangedTo endUnless _>>_
 in-range z e = rw e
 
-pub out-of-range : (z : ℤ) → ltb (mag z) 2147483648 ≡ false → Computed.Undef ≡ computedOf (ranged z)
-unfolding computedOf ranged endUnless _>>_
+pub out-of-range : (z : ℤ) → ltb (mag z) RANGE ≡ false → Computed.Undef ≡ computedOf (ranged z)
+unfolding computedOf rangedTo endUnless _>>_
 out-of-range z e = rw e
 
 pub by-zero : (x y : ℤ) → isZero y ≡ true → Computed.Undef ≡ computedOf (divided x y)
-unfolding computedOf divided endUnless _>>_
+unfolding computedOf dividedTo endUnless _>>_
 by-zero x y e = rw e
 
 pub not-by-zero : (x y : ℤ) → isZero y ≡ false → ranged (floored x y) ≡ divided x y
-unfolding divided endUnless _>>_
+unfolding dividedTo endUnless _>>_
 not-by-zero x y e = rw e
 
 pub is-less : {t : Bool} → t ≡ true → Computed.Integer (pos 1) ≡ computedOf (got (cond t (pos 1) (pos 0)))

@@ -1,3 +1,4 @@
 pub mod Answers
 pub mod Floors
+pub mod Ranges
 pub mod Signs

@@ -1,7 +1,8 @@
 -- What the operations on integers answer.
 use mathlib.Core.Bool.{Bool, true, false}
-use Prim.Native.Nat.{ℕ, zero, suc}
+use Prim.Native.Nat.{ℕ, zero, suc, _-_}
 use lib.IntN.{ℤ, pos, negsuc}
+use Rattle.machine.specs.Values.{RANGE}
 use Rattle.machine.specs.Try.{Try, got, stuck, stop}
 use Rattle.integers.specs.declared.Computed.{Computed}
 use Rattle.integers.specs.declared.Indexed.{Indexed}
@@ -23,3 +24,10 @@ unfoldable pub isMinusOne : ℤ → Bool
 isMinusOne (pos n) = false
 isMinusOne (negsuc zero) = true
 isMinusOne (negsuc (suc n)) = false
+
+-- the greatest distance from 0 of a product in range: that of the least integer where the signs differ, else one less
+unfoldable pub limitOf : ℤ → ℤ → ℕ
+limitOf (pos a) (pos b) = RANGE - 1
+limitOf (pos a) (negsuc b) = RANGE
+limitOf (negsuc a) (pos b) = RANGE
+limitOf (negsuc a) (negsuc b) = RANGE - 1

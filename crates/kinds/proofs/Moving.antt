@@ -13,7 +13,7 @@ use Rattle.layout.proofs.Lists.{get-none, get-some}
 use Rattle.program.specs.Program.{Program, Version, MOVE, CAST}
 use Rattle.rules.specs.Types.{kindOf, within}
 use Rattle.machine.specs.States.{assign, full, kindIn, value}
-use Rattle.machine.specs.Steps.{execute}
+use Rattle.machine.specs.Steps.{executeTo}
 use Rattle.machine.specs.Try.{Try, got, stuck, stop, _>>=_, _>>_, at, orStuck, stuckUnless, endUnless}
 use Rattle.machine.specs.declared.End.{End}
 use Rattle.machine.specs.declared.State.{State}
@@ -130,13 +130,13 @@ casts (some m) (some u) v h = go (within m (kindOf u))
 
 module _ (P : Program) (W : Version) (M : Memory) (k d a : ℕ) where
   move-in : executed P W M k (MOVE d a) ≡ (typedIn P W (M .owners) (M .promises) (M .calls) (M .codes) (M .numbers) k d a false >>= assign (stateOf M) k d)
-  unfolding executed execute typedIn at
+  unfolding executed executeTo typedIn at
   move-in =
       value-kind P M k a (λ v m. orStuck (getElem? (W .types) d) >>= λ u. stuckUnless (within m (kindOf u)) >> assign (stateOf M) k d v)
       ∙ moves (argumentKind P (M .owners) (M .promises) (M .calls) (M .codes) k a) (getElem? (W .types) d) (cellIn (M .codes) (M .numbers) (24 * k + a)) (assign (stateOf M) k d)
 
   cast-in : executed P W M k (CAST d a) ≡ (typedIn P W (M .owners) (M .promises) (M .calls) (M .codes) (M .numbers) k d a true >>= assign (stateOf M) k d)
-  unfolding executed execute typedIn at
+  unfolding executed executeTo typedIn at
   cast-in =
       value-kind P M k a (λ v m. orStuck (getElem? (W .types) d) >>= λ u. endUnless End.Undef (within m (kindOf u)) >> assign (stateOf M) k d v)
       ∙ casts (argumentKind P (M .owners) (M .promises) (M .calls) (M .codes) k a) (getElem? (W .types) d) (cellIn (M .codes) (M .numbers) (24 * k + a)) (assign (stateOf M) k d)

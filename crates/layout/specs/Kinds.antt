@@ -9,9 +9,9 @@ VERSION = 1
 abbrev pub BLOCK : ℕ
 BLOCK = 2
 
--- LIT d, i32
-abbrev pub LIT : ℕ
-LIT = 16
+-- LIT d, i32: the literal of the 32-bit form, which the form in force does not know
+abbrev pub NARROW-LIT : ℕ
+NARROW-LIT = 16
 
 -- MOVE d a
 abbrev pub MOVE : ℕ
@@ -88,3 +88,7 @@ DISPATCH = 34
 -- SKIP a n
 abbrev pub SKIP : ℕ
 SKIP = 35
+
+-- LIT d, i64: the literal of the 64-bit form
+abbrev pub LIT : ℕ
+LIT = 36

@@ -9,10 +9,12 @@ use Rattle.layout.specs.Bounds.{IMAGE, FUNCTIONS, VERSIONS, ALL-VERSIONS
 use Rattle.layout.specs.Kinds as kind
 use Rattle.layout.specs.Tests.{_and_}
 use Rattle.layout.specs.Records.{Rec, _!_, choose}
+use Rattle.layout.specs.Forms.{literalKind, literalLength}
 use Rattle.layout.specs.Scan.{scan}
 use Rattle.layout.specs.declared.Found.{Found}
 use Rattle.layout.specs.declared.Found.the-variants.{Nothing, At}
 use Rattle.layout.specs.declared.Due.{Due}
+use Rattle.layout.specs.declared.Form.{Form}
 
 -- 1: has the image 1..32,768 bytes?
 unfoldable pub question1 : List ℕ → Found
@@ -34,12 +36,11 @@ whole st r = true
 unfoldable pub question2 : List Rec → Found
 question2 rs = scan whole same nothing tt rs
 
--- the length that a kind and its fields make; 0, which no record has, where the kind is not known
-unfoldable pub lengthOf : ℕ → List ℕ → ℕ
-lengthOf k b = choose k 0 (
+-- the length that a kind of both forms and its fields make; 0, which no record has, where the kind is none of them
+unfoldable pub plainLength : ℕ → List ℕ → ℕ
+plainLength k b = choose k 0 (
     (kind.VERSION, 10 + b ! 3) ∷
     (kind.BLOCK, 7) ∷
-    (kind.LIT, 9) ∷
     (kind.MOVE, 6) ∷
     (kind.USE, 6) ∷
     (kind.DUP, 6) ∷
@@ -60,13 +61,17 @@ lengthOf k b = choose k 0 (
     (kind.DISPATCH, 9 + 2 * b ! 4) ∷
     (kind.SKIP, 6) ∷ [])
 
--- 3: is each kind known, its length the one its fields make?
-abbrev pub fitting : Unit {0} → Rec → Bool
-fitting st r = eqb (r .size) (lengthOf (r .kind) (r .body))
+-- the length that a kind and its fields make in a form
+unfoldable pub lengthOf : Form → ℕ → List ℕ → ℕ
+lengthOf form k b = cond (eqb k (literalKind form)) (literalLength form) (plainLength k b)
 
--- 3, put to the records of an image
-unfoldable pub question3 : List Rec → Found
-question3 rs = scan fitting same nothing tt rs
+-- 3: is each kind known, its length the one its fields make?
+abbrev pub fitting : Form → Unit {0} → Rec → Bool
+fitting form st r = eqb (r .size) (lengthOf form (r .kind) (r .body))
+
+-- 3, put to the records of an image in a form; no other question asks for the form
+unfoldable pub question3 : Form → List Rec → Found
+question3 form rs = scan (fitting form) same nothing tt rs
 
 -- a VERSION's numbers and counts: function, version, parameters, registers, blocks
 unfoldable pub versionInBounds : List ℕ → Bool

@@ -4,7 +4,7 @@ pub const VERSION: usize = 1;
 
 pub const BLOCK: usize = 2;
 
-pub const LIT: usize = 16;
+pub const NARROW_LIT: usize = 16;
 
 pub const MOVE: usize = 17;
 
@@ -43,3 +43,5 @@ pub const CALL: usize = 33;
 pub const DISPATCH: usize = 34;
 
 pub const SKIP: usize = 35;
+
+pub const LIT: usize = 36;

@@ -5,7 +5,8 @@ ghost use lib.Dec.{eqb};
 ghost use lib.ListN.{length};
 ghost use Rattle.layout.specs.Tests.{_and_};
 ghost use Rattle.layout.specs.Records.{_!_, sizeAt, kindAt, bodyAt, recAt, records};
-ghost use Rattle.layout.specs.Questions.{question1, question2, question3, question4, question5, lengthOf, versionInBounds, inBounds, inOrder, dueAfter, follows};
+ghost use Rattle.layout.specs.Questions.{question1, question2, question3, question4, question5, plainLength, lengthOf, versionInBounds, inBounds, inOrder, dueAfter, follows};
+ghost use Rattle.layout.specs.Forms.{literalKind, literalLength};
 ghost use Rattle.layout.specs.Turns.{lastAt, turnOf};
 
 pub mod bounds;
@@ -106,14 +107,39 @@ pub fn question_2(image: &[u8]) -> Found
     Found::Nothing
 }
 
-/// The length that the kind and the fields of the record at `p` make, or 0 where its kind is not known.
-fn length_at(image: &[u8], p: usize) -> usize
-    ensures { λ r. ⌜ r ≡ lengthOf (kindAt (now (image .entry)) p) (bodyAt (now (image .entry)) p) ⌝ }
+/// The form of an image, by its literals: numbers of 32 bits, or of 64.
+pub enum Form {
+    Narrow,
+    Wide,
+}
+
+/// The kind of a form's literal.
+pub fn literal_kind(form: Form) -> usize
+    ensures { λ r. ⌜ r ≡ literalKind form ⌝ }
+{
+    match form {
+        Form::Narrow => kinds::NARROW_LIT,
+        Form::Wide => kinds::LIT,
+    }
+}
+
+/// The whole length of a form's literal.
+pub fn literal_length(form: Form) -> usize
+    ensures { λ r. ⌜ r ≡ literalLength form ⌝ }
+{
+    match form {
+        Form::Narrow => 9,
+        Form::Wide => 13,
+    }
+}
+
+/// The length that the kind and the fields of the record at `p` make, or 0 where its kind is not one of both forms.
+fn plain_length_at(image: &[u8], p: usize) -> usize
+    ensures { λ r. ⌜ r ≡ plainLength (kindAt (now (image .entry)) p) (bodyAt (now (image .entry)) p) ⌝ }
 {
     match kind_at(image, p) {
         kinds::VERSION => 10 + field(image, p, 3),
         kinds::BLOCK => 7,
-        kinds::LIT => 9,
         kinds::MOVE => 6,
         kinds::USE => 6,
         kinds::DUP => 6,
@@ -137,9 +163,19 @@ fn length_at(image: &[u8], p: usize) -> usize
     }
 }
 
-/// Question 3: is each kind known, its length the one its fields make?
-pub fn question_3(image: &[u8]) -> Found
-    ensures { λ r. ⌜ r ≡ question3 (records (now (image .entry))) ⌝ }
+/// The length that the kind and the fields of the record at `p` make in a form, or 0 where its kind is not known.
+fn length_at(image: &[u8], p: usize, form: Form) -> usize
+    ensures { λ r. ⌜ r ≡ lengthOf form (kindAt (now (image .entry)) p) (bodyAt (now (image .entry)) p) ⌝ }
+{
+    if kind_at(image, p) == literal_kind(form) {
+        return literal_length(form);
+    }
+    plain_length_at(image, p)
+}
+
+/// Question 3: is each kind known in the form, its length the one its fields make?
+pub fn question_3(image: &[u8], form: Form) -> Found
+    ensures { λ r. ⌜ r ≡ question3 form (records (now (image .entry))) ⌝ }
 {
     let mut p = 0;
     while p < image.len() {
@@ -147,7 +183,7 @@ pub fn question_3(image: &[u8]) -> Found
         if n == 0 {
             return Found::At(p);
         }
-        if n != length_at(image, p) {
+        if n != length_at(image, p, form) {
             return Found::At(p);
         }
         p += n;

@@ -10,6 +10,7 @@ use lib.ListN.{length, drop}
 use lib.Seq.{drop-cons, drop-length}
 use lib.Dec.{eqb, ltb}
 use borrow.Author.Tests.{ne-eqb, eq-eqb, ltb-true, ltb-false, eqb-true, eqb-false}
+use Rattle.layout.specs.declared.Form.{Form}
 use Rattle.layout.specs.Bounds.{IMAGE}
 use Rattle.layout.specs.Kinds as kind
 use Rattle.layout.specs.Tests.{_and_, found}
@@ -206,7 +207,7 @@ module _ (old new : List ℕ) (s : State) where
     change-differs p h = rw (e, h) refl
 
     pub answer-low : (p : ℕ) → answer15 old new s ≡ At p → p ≤ IMAGE
-    answer-low p h = omega (arith, answer-in p h, accepted-short new k e)
+    answer-low p h = omega (arith, answer-in p h, accepted-short Form.Wide new k e)
 
 -- THE LAW: a change asks of a state only which versions have a live frame, and whether they are there
 pub change-alike : (old new : List ℕ) (s t : State) → ((f w : ℕ) → isLive s f w ≡ isLive t f w) → ((P : Program) → allThere P s ≡ allThere P t) → changeOf old new s ≡ changeOf old new t

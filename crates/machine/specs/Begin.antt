@@ -11,9 +11,10 @@ use Rattle.program.specs.Program.{Version, Program, program, findVersion, param
 use Rattle.rules.specs.Types.{kindOf, within}
 use Rattle.checker.specs.Verdicts.{verdictOf}
 use Rattle.checker.specs.declared.Verdict.{Verdict}
+use Rattle.machine.specs.Values.{RANGE}
 use Rattle.machine.specs.States.{ACTIVATIONS, ITEMS, PROMISES, VECTORS, newFrame, newVector, over}
 use Rattle.machine.specs.Calls.{frameFor}
-use Rattle.machine.specs.Runs.{longEnough, budgetOf}
+use Rattle.machine.specs.Runs.{longEnough, budgetOfTo}
 use Rattle.machine.specs.declared.Answer.{Answer}
 use Rattle.machine.specs.declared.Begun.{Begun}
 use Rattle.machine.specs.declared.Cache.{Cache}
@@ -127,10 +128,18 @@ beginOf image f v words buffer = beginAfter (verdictOf image) (programOf image) 
 -- ---- from the start
 
 -- a budget given at the start counts as the first; a refusal takes no step
-unfoldable pub runAfter : Entry → Program → State → ℕ → List ℤ → Ran
-runAfter (Entry.Refused q p) P s n buffer = record { state = s; answer = Answer.Refused q p; steps = 0 }
-runAfter Entry.Begun P s n buffer = budgetOf P s n buffer
+unfoldable pub runAfterTo : ℕ → Entry → Program → State → ℕ → List ℤ → Ran
+runAfterTo R (Entry.Refused q p) P s n buffer = record { state = s; answer = Answer.Refused q p; steps = 0 }
+runAfterTo R Entry.Begun P s n buffer = budgetOfTo R P s n buffer
 
 -- a run from the start: it is begun and gets its first budget
-unfoldable pub runOf : List ℕ → ℕ → ℕ → List ℤ → ℕ → List ℤ → Ran
-runOf image f v words n buffer = let b = beginOf image f v words buffer in runAfter (b .entry) (programOf image) (b .state) n buffer
+unfoldable pub runOfTo : ℕ → List ℕ → ℕ → ℕ → List ℤ → ℕ → List ℤ → Ran
+runOfTo R image f v words n buffer = let b = beginOf image f v words buffer in runAfterTo R (b .entry) (programOf image) (b .state) n buffer
+
+-- ---- in the range in force
+
+abbrev pub runAfter : Entry → Program → State → ℕ → List ℤ → Ran
+runAfter e P s n buffer = runAfterTo RANGE e P s n buffer
+
+abbrev pub runOf : List ℕ → ℕ → ℕ → List ℤ → ℕ → List ℤ → Ran
+runOf image f v words n buffer = runOfTo RANGE image f v words n buffer

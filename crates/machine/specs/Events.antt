@@ -4,7 +4,8 @@ use mathlib.Core.Bool.{true, false}
 use Prim.Native.Nat.{ℕ, zero, suc}
 use lib.IntN.{ℤ}
 use Rattle.program.specs.Program.{Program}
-use Rattle.machine.specs.Runs.{longEnough, stepOf, budgetOf, bufferOf}
+use Rattle.machine.specs.Values.{RANGE}
+use Rattle.machine.specs.Runs.{longEnough, stepOf, stepOfTo, budgetOfTo, bufferOf}
 use Rattle.machine.specs.Begin.{programOf}
 use Rattle.machine.specs.Changes.{changeOf}
 use Rattle.machine.specs.declared.Answer.{Answer}
@@ -48,22 +49,33 @@ unfoldable pub inForce : Changed → List ℕ → List ℕ → List ℕ
 inForce Changed.Taken old new = new
 inForce (Changed.Refused q p) old new = old
 
--- what one event does to a run under the image in force, and its reply; a change carries the state over whole
-unfoldable pub handle : Event → Run → Handled
-handle single r = let x = stepOf (programIn r) (r .state) in record { run = inState r (x .state); reply = said (x .said) }
-handle (budget n buffer) r =
-    let x = budgetOf (programIn r) (r .state) n buffer in record { run = inState r (x .state); reply = gave (x .answer) (x .steps) (bufferOf x buffer) }
-handle (change new) r = let x = changeOf (r .image) new (r .state) in record { run = record { image = inForce x (r .image) new; state = r .state }; reply = became x }
+-- what one event does to a run under the image in force, with integers in the range R, and its reply; a change carries the state over whole
+unfoldable pub handleTo : ℕ → Event → Run → Handled
+handleTo R single r = let x = stepOfTo R (programIn r) (r .state) in record { run = inState r (x .state); reply = said (x .said) }
+handleTo R (budget n buffer) r =
+    let x = budgetOfTo R (programIn r) (r .state) n buffer in record { run = inState r (x .state); reply = gave (x .answer) (x .steps) (bufferOf x buffer) }
+handleTo R (change new) r = let x = changeOf (r .image) new (r .state) in record { run = record { image = inForce x (r .image) new; state = r .state }; reply = became x }
 
 -- the run after a list of events, each handed what the one before left
-unfoldable pub after : List Event → Run → Run
-after [] r = r
-after (e ∷ es) r = after es (handle e r .run)
+unfoldable pub afterTo : ℕ → List Event → Run → Run
+afterTo R [] r = r
+afterTo R (e ∷ es) r = afterTo R es (handleTo R e r .run)
 
 -- their replies, in order
-unfoldable pub replies : List Event → Run → List Reply
-replies [] r = []
-replies (e ∷ es) r = let h = handle e r in h .reply ∷ replies es (h .run)
+unfoldable pub repliesTo : ℕ → List Event → Run → List Reply
+repliesTo R [] r = []
+repliesTo R (e ∷ es) r = let h = handleTo R e r in h .reply ∷ repliesTo R es (h .run)
+
+-- ---- in the range in force
+
+abbrev pub handle : Event → Run → Handled
+handle e r = handleTo RANGE e r
+
+abbrev pub after : List Event → Run → Run
+after es r = afterTo RANGE es r
+
+abbrev pub replies : List Event → Run → List Reply
+replies es r = repliesTo RANGE es r
 
 -- ---- history: the states in which a step was tried, in order
 

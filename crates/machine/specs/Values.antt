@@ -9,14 +9,20 @@ use Rattle.layout.specs.Records.{choose}
 use Rattle.machine.specs.Try.{Try, got, stuck, stop, _>>_, endUnless}
 use Rattle.machine.specs.declared.End.{End}
 
--- Values and types: integers from −2,147,483,648 to 2,147,483,647; one more than the greatest
+-- 02, 5: integers from −9,223,372,036,854,775,808 to 9,223,372,036,854,775,807; one more than the greatest
 abbrev pub RANGE : ℕ
-RANGE = 2147483648
+RANGE = 9223372036854775808
+
+-- Values and types of 01: the same for integers of 32 bits, −2,147,483,648 to 2,147,483,647
+abbrev pub NARROW-RANGE : ℕ
+NARROW-RANGE = 2147483648
+
+-- ---- with integers in the range R
 
 -- UNDEF: integer result out of range; `mag` is n both for n and for −(n + 1)
-unfoldable pub ranged : ℤ → Try ℤ
-ranged z = do
-  endUnless End.Undef (ltb (mag z) RANGE)
+unfoldable pub rangedTo : ℕ → ℤ → Try ℤ
+rangedTo R z = do
+  endUnless End.Undef (ltb (mag z) R)
   got z
 
 -- is it 0?
@@ -30,18 +36,18 @@ floored x (pos b) = shrZ x b
 floored x (negsuc b) = shrZ (negℤ x) (suc b)
 
 -- UNDEF: divide by 0
-unfoldable pub divided : ℤ → ℤ → Try ℤ
-divided x y = do
+unfoldable pub dividedTo : ℕ → ℤ → ℤ → Try ℤ
+dividedTo R x y = do
   endUnless End.Undef (not (isZero y))
-  ranged (floored x y)
+  rangedTo R (floored x y)
 
 -- op 0 add, 1 subtract, 2 multiply, 3 divide, 4 less, which gives 1 or 0; there is no other
-unfoldable pub arith : ℕ → ℤ → ℤ → Try ℤ
-arith op x y = choose op stuck (
-    (0, ranged (x +ℤ y)) ∷
-    (1, ranged (x -ℤ y)) ∷
-    (2, ranged (x *ℤ y)) ∷
-    (3, divided x y) ∷
+unfoldable pub arithTo : ℕ → ℕ → ℤ → ℤ → Try ℤ
+arithTo R op x y = choose op stuck (
+    (0, rangedTo R (x +ℤ y)) ∷
+    (1, rangedTo R (x -ℤ y)) ∷
+    (2, rangedTo R (x *ℤ y)) ∷
+    (3, dividedTo R x y) ∷
     (4, got (cond (ltZ x y) (pos 1) (pos 0))) ∷ [])
 
 -- UNDEF: GET or SET index outside a vector of n items
@@ -50,3 +56,14 @@ index (pos i) n = do
   endUnless End.Undef (ltb i n)
   got i
 index (negsuc i) n = stop End.Undef
+
+-- ---- in the range in force
+
+abbrev pub ranged : ℤ → Try ℤ
+ranged z = rangedTo RANGE z
+
+abbrev pub divided : ℤ → ℤ → Try ℤ
+divided x y = dividedTo RANGE x y
+
+abbrev pub arith : ℕ → ℤ → ℤ → Try ℤ
+arith op x y = arithTo RANGE op x y

@@ -6,7 +6,7 @@ ghost use Rattle.machine.specs.Frames.{readOf, writtenOf, isAt, holds};
 /// What a register or a name holds: nothing, an integer, or the place of a vector or a promise.
 pub enum Value {
     Empty,
-    Integer(i32),
+    Integer(i64),
     Vector(u8),
     Promise(u8),
 }
@@ -42,13 +42,13 @@ pub struct Activation {
 /// A vector: the first `length` of the items.
 pub struct Vector {
     pub length: u8,
-    pub items: [i32; 16],
+    pub items: [i64; 16],
 }
 
 /// What the force of a promise has left.
 pub enum Cache {
     Unforced,
-    Forced(i32),
+    Forced(i64),
 }
 
 /// A block delayed in a frame.
@@ -60,7 +60,7 @@ pub struct Promise {
 
 /// How a run ended: DONE with an integer, DONE with a vector of that length, or a stop.
 pub enum End {
-    Integer(i32),
+    Integer(i64),
     Vector(u8),
     Undef,
     Deep,
@@ -83,7 +83,7 @@ pub struct State {
     pub depth: u8,
     pub vectors: [Vector; 64],
     pub promises: [Promise; 64],
-    pub result: [i32; 16],
+    pub result: [i64; 16],
     pub status: Status,
 }
 

@@ -22,14 +22,14 @@ pub enum Did {
 
 /// What a part of a step gives a register: the code and the integer of a cell, stuck, or a stop.
 pub enum Gives {
-    Cell(u16, i32),
+    Cell(u16, i64),
     Stuck,
     Stop(Halt),
 }
 
 /// An integer operand, or stuck.
 pub enum Whole {
-    Is(i32),
+    Is(i64),
     Stuck,
 }
 
@@ -73,7 +73,7 @@ pub fn halves(s: &[u16]) -> usize
 }
 
 /// How many integers there are.
-pub fn words(s: &[i32]) -> usize
+pub fn words(s: &[i64]) -> usize
     ensures { λ r. ⌜ r ≡ length (now (s .entry)) ⌝ }
 {
     s.len()

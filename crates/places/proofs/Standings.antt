@@ -22,7 +22,7 @@ use Rattle.program.proofs.Views.{line-view, line-none}
 use Rattle.machine.specs.Begin.{programOf}
 use Rattle.machine.specs.Calls.{finish, passed}
 use Rattle.machine.specs.States.{liveActivations, liveFrames, value}
-use Rattle.machine.specs.Steps.{Here, Position, advance, blockEnd, execute, here, instruction, outside, position, positionOf, proceed}
+use Rattle.machine.specs.Steps.{Here, Position, advance, advanceTo, blockEnd, execute, here, instruction, outside, position, positionOf, proceed, proceedTo}
 use Rattle.machine.specs.Try.{got, stuck, _>>=_, orStuck, at}
 use Rattle.machine.specs.declared.Activation.{Activation}
 use Rattle.machine.specs.declared.Frame.{Frame}
@@ -134,11 +134,11 @@ module _ (P : Program) (S : State) where
   here-unblocked a f W ea ef ew eb = rw (ea, ef, ew, at-none (W .blocks) (a .block) eb)
 
   advance-got : (h : Here) (x : Position) → here P S ≡ got h → positionOf h ≡ x → advance P S ≡ proceed P S h x
-  unfolding advance _>>=_
+  unfolding advanceTo _>>=_
   advance-got h x e f = rw (e, f)
 
   advance-stuck : here P S ≡ stuck → advance P S ≡ stuck
-  unfolding advance _>>=_
+  unfolding advanceTo _>>=_
   advance-stuck e = rw e
 
 -- ---- the place in a block
@@ -276,7 +276,7 @@ module _ (s : List ℕ) (M : Memory) where
 
 -- a step from there is stuck
 pub astray-stuck : (P : Program) (S : State) → Astray P S → advance P S ≡ stuck
-unfolding Astray proceed
+unfolding Astray proceedTo
 astray-stuck P S (inl e) = advance-stuck P S e
 astray-stuck P S (inr (h, e, f)) = advance-got P S h outside e f
 
@@ -325,13 +325,13 @@ module _ (s : List ℕ) (M : Memory) (p : Spot) (q : Standing s M p) where
 
   -- what the next step is
   pub at-instruction : p .next < 48 → isLine s (p .at) ≡ true → advance (programOf s) (stateOf M) ≡ execute (programOf s) (passed (stateOf M) (activationIn (M .stack) (M .depth - 1))) (p .frame) (frameIn (M .owners) (M .codes) (M .numbers) (p .frame)) (versionAt s (p .version)) (instrAt s (p .at))
-  unfolding proceed activationIn topOf
+  unfolding proceedTo activationIn topOf
   at-instruction h l =
       advance-got (programOf s) (stateOf M) standsIn (instruction (instrAt s (p .at))) stands-here (stands-instruction h l)
       ∙ ap (λ k. execute (programOf s) (passed (stateOf M) (activationIn (M .stack) (M .depth - 1))) k (frameIn (M .owners) (M .codes) (M .numbers) (p .frame)) (versionAt s (p .version)) (instrAt s (p .at))) (sym (q .framed))
 
   pub at-end : (ltb (p .next) 48 and isLine s (p .at)) ≡ false → advance (programOf s) (stateOf M) ≡ (value (frameIn (M .owners) (M .codes) (M .numbers) (p .frame)) (blockAt s (p .block) .result) >>= λ (v : Value). finish (programOf s) (stateOf M) (activationIn (M .stack) (M .depth - 1)) (versionAt s (p .version)) v (activationIn (M .stack) (M .depth - 1) .opener))
-  unfolding proceed
+  unfolding proceedTo
   at-end e = advance-got (programOf s) (stateOf M) standsIn blockEnd stands-here (stands-end e)
 
 -- ---- from one memory to another

@@ -12,7 +12,7 @@ use Rattle.layout.specs.Tests.{all, count}
 use Rattle.layout.specs.Records.{_!_, every, bodyAt}
 use Rattle.layout.proofs.Fields.{length-every, all-map}
 use Rattle.layout.proofs.Rows.{Rows, choose-each}
-use Rattle.program.specs.Program.{Argument, Instr, Line, View, nowhere, arguments, instrOf}
+use Rattle.program.specs.Program.{Argument, Instr, Line, View, nowhere, arguments, instrOf, instrBy}
 use Rattle.program.proofs.Forms.{argument-registers}
 use Rattle.program.specs.Places.{viewAt, past, versionAt, blockAt, instrAt, blockPlace}
 use Rattle.program.specs.Questions.{namesBlock, namings}
@@ -37,7 +37,7 @@ block-lacks s v b e = none-past (versionAt s v .blocks) b (block-missing s v b e
 
 -- only a PROM names a block
 pub names-none : (n k : ℕ) (b : List ℕ) → (k ≡ kind.PROM → ⊥) → namesBlock n (instrOf k b) ≡ false
-unfolding namesBlock instrOf Rows
+unfolding namesBlock instrBy Rows
 names-none n k b h = choose-each (λ (i : Instr). namesBlock n i ≡ false) k _ _ refl
     (λ e. refl, (λ e. refl, (λ e. refl, (λ e. refl, (λ e. refl, (λ e. refl, (λ e. refl, (λ e. refl, (λ e. refl, (λ e. refl, (λ e. refl, (λ e. refl, (λ e. absurd (h e), (λ e. refl, (λ e. refl, (λ e. refl, (λ e. refl, (λ e. refl, (λ e. refl, tt)))))))))))))))))))
 

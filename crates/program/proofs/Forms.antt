@@ -7,7 +7,7 @@ use lib.ListN.{length}
 use Rattle.layout.specs.Kinds as kind
 use Rattle.layout.specs.Records.{_!_, every, fields, choose, kindAt, bodyAt}
 use Rattle.layout.proofs.Rows.{Rows, choose-each}
-use Rattle.program.specs.Program.{Argument, Instr, arguments, instrOf}
+use Rattle.program.specs.Program.{Argument, Instr, arguments, instrBy}
 use Rattle.program.specs.Places.{instrAt}
 use Rattle.program.specs.Shapes.{listedRegisters, listedTypes}
 
@@ -31,27 +31,27 @@ argument-registers b k (suc n) = let e : k + 2 + 1 ≡ k + 1 + 2 = omega arith i
 
 module _ (s : List ℕ) (p i : ℕ) {k : ℕ} (e : k ≡ kindAt s p) where
   pub operand-vec : k ≡ kind.VEC → listedRegisters (instrAt s p) ! i ≡ fields (bodyAt s p) 2 (bodyAt s p ! 1) ! i
-  unfolding listedRegisters instrAt instrOf choose
+  unfolding listedRegisters instrAt instrBy choose
   operand-vec x = simp (sym e ∙ x)
 
   pub operand-call : k ≡ kind.CALL → listedRegisters (instrAt s p) ! i ≡ fields (bodyAt s p) 4 (bodyAt s p ! 3) ! i
-  unfolding listedRegisters instrAt instrOf choose
+  unfolding listedRegisters instrAt instrBy choose
   operand-call x = simp (sym e ∙ x)
 
   pub operand-dispatch : k ≡ kind.DISPATCH → listedRegisters (instrAt s p) ! i ≡ every (bodyAt s p) 6 2 (bodyAt s p ! 4) ! i
-  unfolding listedRegisters instrAt instrOf choose
+  unfolding listedRegisters instrAt instrBy choose
   operand-dispatch x = simp (sym e ∙ x, argument-registers)
 
   pub no-operand : (k ≡ kind.VEC → ⊥) → (k ≡ kind.CALL → ⊥) → (k ≡ kind.DISPATCH → ⊥) → listedRegisters (instrAt s p) ! i ≡ 0
-  unfolding listedRegisters instrAt instrOf Rows
+  unfolding listedRegisters instrAt instrBy Rows
   no-operand x y z = rw (← e) (choose-each (λ (j : Instr). listedRegisters j ! i ≡ 0) k _ _ refl
       (λ h. refl, (λ h. refl, (λ h. refl, (λ h. absurd (x h), (λ h. refl, (λ h. refl, (λ h. refl, (λ h. refl, (λ h. refl, (λ h. refl, (λ h. refl, (λ h. refl, (λ h. refl, (λ h. refl, (λ h. refl, (λ h. refl, (λ h. absurd (y h), (λ h. absurd (z h), (λ h. refl, tt))))))))))))))))))))
 
   pub type-dispatch : k ≡ kind.DISPATCH → listedTypes (instrAt s p) ! i ≡ every (bodyAt s p) 5 2 (bodyAt s p ! 4) ! i
-  unfolding listedTypes instrAt instrOf choose
+  unfolding listedTypes instrAt instrBy choose
   type-dispatch x = simp (sym e ∙ x, argument-types)
 
   pub no-type : (k ≡ kind.DISPATCH → ⊥) → listedTypes (instrAt s p) ! i ≡ 0
-  unfolding listedTypes instrAt instrOf Rows
+  unfolding listedTypes instrAt instrBy Rows
   no-type z = rw (← e) (choose-each (λ (j : Instr). listedTypes j ! i ≡ 0) k _ _ refl
       (λ h. refl, (λ h. refl, (λ h. refl, (λ h. refl, (λ h. refl, (λ h. refl, (λ h. refl, (λ h. refl, (λ h. refl, (λ h. refl, (λ h. refl, (λ h. refl, (λ h. refl, (λ h. refl, (λ h. refl, (λ h. refl, (λ h. refl, (λ h. absurd (z h), (λ h. refl, tt))))))))))))))))))))

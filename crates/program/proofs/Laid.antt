@@ -19,7 +19,7 @@ use Rattle.layout.specs.declared.Due.{Due}
 use Rattle.layout.proofs.Bools.{and-both}
 use Rattle.layout.proofs.Fields.{length-every}
 use Rattle.layout.proofs.Rows.{Rows, choose-each}
-use Rattle.program.specs.Program.{Instr, LIT, MOVE, USE, DUP, VEC, LEN, GET, SET, ARITH, SELECT, CAST, NAMED, STORE, PROM, FORCE, PEEK, POKE, CALL, DISPATCH, SKIP, Line, Block, Version, View, instrOf, lineOf, blockOf, versionOf, nowhere, put, view, program}
+use Rattle.program.specs.Program.{Instr, LIT, MOVE, USE, DUP, VEC, LEN, GET, SET, ARITH, SELECT, CAST, NAMED, STORE, PROM, FORCE, PEEK, POKE, CALL, DISPATCH, SKIP, Line, Block, Version, View, instrOf, instrBy, lineOf, blockOf, versionOf, nowhere, put, putBy, view, viewBy, program}
 use Rattle.program.specs.Search.{Question, firstLine, firstBlock, first}
 use Rattle.program.proofs.Forms.{length-arguments}
 
@@ -110,13 +110,13 @@ module _ (b : List ℕ) where
 
 -- an instruction has the bounds of its record
 instr-inside : (k : ℕ) (b : List ℕ) → inBounds k b ≡ true → instrBounded (instrOf k b) ≡ true
-unfolding instrBounded instrOf Rows
+unfolding instrBounded instrBy Rows
 instr-inside k b h = choose-each (λ (i : Instr). instrBounded i ≡ true) k _ _ refl
     (λ e. refl, (λ e. refl, (λ e. refl, (λ e. rw (length-every b 2 1 (b ! 1)) (vec-bound b e h), (λ e. refl, (λ e. refl, (λ e. refl, (λ e. arith-bound b e h, (λ e. refl, (λ e. refl, (λ e. refl, (λ e. refl, (λ e. refl, (λ e. refl, (λ e. refl, (λ e. refl, (λ e. rw (length-every b 4 1 (b ! 3)) (call-bound b e h), (λ e. rw (length-arguments b 5 (b ! 4)) (dispatch-bound b e h), (λ e. refl, tt)))))))))))))))))))
 
 module _ (r : Rec) (d : Due) (w : View) (a : Laid (dueAfter d r) w) (bound : inBounds (r .kind) (r .body) ≡ true) (order : inOrder d (r .kind) ≡ true) where
   at-version : r .kind ≡ kind.VERSION → Laid d (put r w)
-  unfolding put inBounds inOrder dueAfter choose first
+  unfolding putBy inBounds inOrder dueAfter choose first
   at-version e = subst (Laid d) is (record { code = sym (eqb-true _ 0 (o .1)); blocks = sym (eqb-true _ 0 (o .0)); lines = no-lines; inside = no-blocks; versions = rw fits (a .inside _ 0 _ ∙ a .versions) })
     where
       is : _≡_ {A = View} (record { code = []; blocks = []; versions = versionOf r (w .blocks) ∷ w .versions }) (put r w)
@@ -129,7 +129,7 @@ module _ (r : Rec) (d : Due) (w : View) (a : Laid (dueAfter d r) w) (bound : inB
       fits = version-inside r (w .blocks) (simp e at bound) (simp e at (a .blocks))
 
   at-block : r .kind ≡ kind.BLOCK → Laid d (put r w)
-  unfolding put inBounds inOrder dueAfter choose blockBounded
+  unfolding putBy inBounds inOrder dueAfter choose blockBounded
   at-block e = subst (Laid d) is (record { code = sym (eqb-true _ 0 (o .1)); blocks = ap suc count ∙ more; lines = no-lines; inside = λ v n k. one-block v n _ _ k fits (a .lines v n) (a .inside v (n + 1) k); versions = a .versions })
     where
       is : _≡_ {A = View} (record { code = []; blocks = blockOf r (w .code) ∷ w .blocks; versions = w .versions }) (put r w)
@@ -151,7 +151,7 @@ module _ (r : Rec) (d : Due) (w : View) (a : Laid (dueAfter d r) w) (bound : inB
       fits = rw announced (simp e at bound)
 
   at-line : eqb (r .kind) kind.VERSION ≡ false → eqb (r .kind) kind.BLOCK ≡ false → Laid d (put r w)
-  unfolding put inOrder dueAfter choose
+  unfolding putBy inOrder dueAfter choose
   at-line e1 e2 = subst (Laid d) is (record { code = ap suc count ∙ more; blocks = simp (e1, e2) at (a .blocks); lines = λ v n k. one-line v n _ _ k (instr-inside (r .kind) (r .body) bound) (a .lines v n k); inside = a .inside; versions = a .versions })
     where
       is : _≡_ {A = View} (record { code = lineOf r ∷ w .code; blocks = w .blocks; versions = w .versions }) (put r w)
@@ -175,7 +175,7 @@ module _ (r : Rec) (d : Due) (w : View) (a : Laid (dueAfter d r) w) (bound : inB
       go false false ex ey = at-line ex ey
 
 laid : (end : ℕ) (rs : List Rec) (d : Due) → scan placed dueAfter (noneDue end) d rs ≡ Nothing → Laid d (view rs)
-unfolding scan noneDue view first
+unfolding scan noneDue viewBy first
 laid end [] d h = let p = and-both _ _ (passed _ Nothing end h .0) in record { code = sym (eqb-true _ 0 (p .1)); blocks = sym (eqb-true _ 0 (p .0)); lines = no-lines; inside = no-blocks; versions = refl }
 laid end (r ∷ rs) d h = let p = passed _ _ (r .at) h in let t = and-both _ _ (p .0) in let q = and-both _ _ (t .1) in
     whole (ne-eqb (r .size) 0 (λ z. absurd (omega (arith, ltb-true 0 (r .size) (t .0))))) (at-record r d (view rs) (laid end rs (dueAfter d r) (p .1)) (q .0) (q .1))

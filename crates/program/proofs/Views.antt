@@ -11,15 +11,15 @@ use Rattle.layout.specs.Records.{sizeAt, kindAt, recAt}
 use Rattle.layout.proofs.Walk.{rest-cons, rest-end}
 use Rattle.layout.specs.Tests.{_and_}
 use Rattle.layout.proofs.Bools.{and-both}
-use Rattle.program.specs.Program.{lineOf, nowhere, put, view}
+use Rattle.program.specs.Program.{lineOf, nowhere, put, putBy, viewBy}
 use Rattle.program.specs.Places.{viewAt, past, versionAt, blockAt, isLine}
 
 pub view-end : (s : List ℕ) (p : ℕ) → length s ≤ p → viewAt s p ≡ nowhere
-unfolding view
+unfolding viewBy
 view-end s p h = simp (rest-end s p h)
 
 pub view-broken : (s : List ℕ) (p : ℕ) → p < length s → sizeAt s p ≡ 0 → viewAt s p ≡ nowhere
-unfolding view
+unfolding viewBy
 view-broken s p h z = simp (rest-cons s p h, z)
 
 -- from an offset outside of the image, and from a record that is not whole, nothing is seen
@@ -31,7 +31,7 @@ view-past s p z = go (ltb p (length s)) refl
     go false e = view-end s p (ltb-false p (length s) e)
 
 pub view-at : (s : List ℕ) (p : ℕ) → p < length s → (sizeAt s p ≡ 0 → ⊥) → viewAt s p ≡ put (recAt s p) (viewAt s (past s p))
-unfolding view
+unfolding viewBy
 view-at s p h z = simp (rest-cons s p h, ne-eqb (sizeAt s p) 0 z)
 
 -- A pass has met a whole record of length n and kind k.
@@ -47,15 +47,15 @@ module _ {s : List ℕ} {p n k : ℕ} (m : Whole s p n k) where
 
   -- a VERSION, a BLOCK and an instruction
   pub at-version : k ≡ kind.VERSION → viewAt s p ≡ record { code = []; blocks = []; versions = versionAt s p ∷ viewAt s (p + n) .versions }
-  unfolding put versionAt
+  unfolding putBy versionAt
   at-version e = rw (m .size) (seen ∙ simp (sym (m .kind) ∙ e))
 
   pub at-block : k ≡ kind.BLOCK → viewAt s p ≡ record { code = []; blocks = blockAt s p ∷ viewAt s (p + n) .blocks; versions = viewAt s (p + n) .versions }
-  unfolding put blockAt
+  unfolding putBy blockAt
   at-block e = rw (m .size) (seen ∙ simp (sym (m .kind) ∙ e))
 
   pub at-line : (k ≡ kind.VERSION → ⊥) → (k ≡ kind.BLOCK → ⊥) → viewAt s p ≡ record { code = lineOf (recAt s p) ∷ viewAt s (p + n) .code; blocks = viewAt s (p + n) .blocks; versions = viewAt s (p + n) .versions }
-  unfolding put
+  unfolding putBy
   at-line v b = rw (m .size) (seen ∙ simp (ne-eqb (kindAt s p) kind.VERSION (λ (y : kindAt s p ≡ kind.VERSION). v (m .kind ∙ y)), ne-eqb (kindAt s p) kind.BLOCK (λ (y : kindAt s p ≡ kind.BLOCK). b (m .kind ∙ y))))
 
 -- ---- an instruction at an offset

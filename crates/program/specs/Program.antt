@@ -7,17 +7,18 @@ use lib.IntN.{ℤ}
 use lib.ListN.{take}
 use lib.Dec.{eqb}
 use mir.Val.{toZ}
-use mir.Syntax.{w32}
+use mir.Syntax.{w32, w64}
 use Rattle.layout.specs.Kinds as kind
 use Rattle.layout.specs.Tests.{_and_, any}
 use Rattle.layout.specs.Records.{Rec, _!_, fields, choose}
+use Rattle.layout.specs.declared.Form.{Form}
 
 -- what a call gives: the type that is asked for and the register
 pub record Argument : Type 0 where
   pub type : ℕ
   pub register : ℕ
 
--- kinds 16 to 35, each with its fields in the paper's order; registers, names, blocks, functions, versions, marks, types and op by number
+-- kinds 17 to 36, LIT first, each with its fields in the paper's order; registers, names, blocks, functions, versions, marks, types and op by number
 pub data Instr : Type 0 where
   LIT : (d : ℕ) (i : ℤ) → Instr
   MOVE : (d a : ℕ) → Instr
@@ -66,18 +67,23 @@ pub record Version : Type 0 where
 abbrev pub Program : Type 0
 Program = List Version
 
--- the little-endian i32 at the field k
-abbrev pub signed : List ℕ → ℕ → ℤ
-signed b k = toZ w32 (b ! k + 256 * (b ! (k + 1) + 256 * (b ! (k + 2) + 256 * b ! (k + 3))))
+-- the little-endian u32 at the field k
+abbrev pub word : List ℕ → ℕ → ℕ
+word b k = b ! k + 256 * (b ! (k + 1) + 256 * (b ! (k + 2) + 256 * b ! (k + 3)))
+
+-- the number of a literal, from the field 1 on: little-endian, an i32 in the one form, an i64 in the other
+unfoldable pub numberIn : Form → List ℕ → ℤ
+numberIn Form.Narrow b = toZ w32 (word b 1)
+numberIn Form.Wide b = toZ w64 (word b 1 + 4294967296 * word b 5)
 
 -- n pairs (type, register) from the field k on
 unfoldable pub arguments : List ℕ → ℕ → ℕ → List Argument
 arguments b k zero = []
 arguments b k (suc n) = record { type = b ! k; register = b ! (k + 1) } ∷ arguments b (k + 2) n
 
--- the instruction that a kind and a body make: LIT, also where the kind is not known
-unfoldable pub instrOf : ℕ → List ℕ → Instr
-instrOf k b = choose k (LIT (b ! 0) (signed b 1)) (
+-- the instruction that a kind and a body make in a form: LIT, also where the kind is not known
+unfoldable pub instrBy : Form → ℕ → List ℕ → Instr
+instrBy form k b = choose k (LIT (b ! 0) (numberIn form b)) (
     (kind.MOVE, MOVE (b ! 0) (b ! 1)) ∷
     (kind.USE, USE (b ! 0) (b ! 1)) ∷
     (kind.DUP, DUP (b ! 0) (b ! 1)) ∷
@@ -99,8 +105,8 @@ instrOf k b = choose k (LIT (b ! 0) (signed b 1)) (
     (kind.SKIP, SKIP (b ! 0) (b ! 1)) ∷ [])
 
 -- Image: the instruction that a record makes
-abbrev pub lineOf : Rec → Line
-lineOf r = record { at = r .at; does = instrOf (r .kind) (r .body) }
+abbrev pub lineBy : Form → Rec → Line
+lineBy form r = record { at = r .at; does = instrBy form (r .kind) (r .body) }
 
 -- Image: the block that a BLOCK and its instructions make
 abbrev pub blockOf : Rec → List Line → Block
@@ -129,20 +135,39 @@ abbrev pub nowhere : View
 nowhere = record { code = []; blocks = []; versions = [] }
 
 -- what lies ahead of a record, by what lies ahead of its end: a version is followed by its blocks in order, each by its instructions
-unfoldable pub put : Rec → View → View
-put r w =
+unfoldable pub putBy : Form → Rec → View → View
+putBy form r w =
     cond (eqb (r .kind) kind.VERSION) (record { code = []; blocks = []; versions = versionOf r (w .blocks) ∷ w .versions })
     (cond (eqb (r .kind) kind.BLOCK) (record { code = []; blocks = blockOf r (w .code) ∷ w .blocks; versions = w .versions })
-    (record { code = lineOf r ∷ w .code; blocks = w .blocks; versions = w .versions }))
+    (record { code = lineBy form r ∷ w .code; blocks = w .blocks; versions = w .versions }))
 
 -- what lies ahead of a list of records, up to one that is not whole
-unfoldable pub view : List Rec → View
-view [] = nowhere
-view (r ∷ rs) = cond (eqb (r .size) 0) nowhere (put r (view rs))
+unfoldable pub viewBy : Form → List Rec → View
+viewBy form [] = nowhere
+viewBy form (r ∷ rs) = cond (eqb (r .size) 0) nowhere (putBy form r (viewBy form rs))
 
 -- Image: the program of its records
+abbrev pub programBy : Form → List Rec → Program
+programBy form rs = viewBy form rs .versions
+
+-- ---- in the form in force, that of 64 bits
+
+abbrev pub instrOf : ℕ → List ℕ → Instr
+instrOf k b = instrBy Form.Wide k b
+
+abbrev pub lineOf : Rec → Line
+lineOf r = lineBy Form.Wide r
+
+abbrev pub put : Rec → View → View
+put r w = putBy Form.Wide r w
+
+abbrev pub view : List Rec → View
+view rs = viewBy Form.Wide rs
+
 abbrev pub program : List Rec → Program
-program rs = view rs .versions
+program rs = programBy Form.Wide rs
+
+-- ---- look-up
 
 -- the version w of the function f
 unfoldable pub findVersion : Program → ℕ → ℕ → Option Version

@@ -1,10 +1,11 @@
 //! Instructions: their decoded forms and operands.
 ghost use mathlib.Core.Path.{_≡_};
-ghost use Prim.Native.Nat.{_<_, _^_};
+ghost use Prim.Native.Nat.{_<_};
 ghost use mir.Val.{toZ};
-ghost use mir.Syntax.{w32};
+ghost use mir.Syntax.{w64};
 ghost use Rattle.layout.specs.Records.{bodyAt, _!_};
-ghost use Rattle.program.specs.Program.{signed};
+ghost use Rattle.layout.specs.declared.Form.{Form};
+ghost use Rattle.program.specs.Program.{numberIn, word};
 ghost use Rattle.program.specs.Places.{instrAt};
 ghost use Rattle.program.specs.Shapes.{shapeOf, listedRegisters, listedTypes};
 use crate::Instruction;
@@ -19,25 +20,32 @@ fn small(image: &[u8], p: usize, k: usize) -> u8
     layout::field(image, p, k) as u8
 }
 
-/// The 32 bits `u` read as a signed number.
-fn signed_of(u: usize) -> i32
-    requires { ⌜ u < 2 ^ 32 ⌝ }
-    ensures { λ r. ⌜ r ≡ toZ w32 u ⌝ }
+/// The 64 bits `u` read as a signed number.
+fn signed_of(u: u64) -> i64
+    ensures { λ r. ⌜ r ≡ toZ w64 u ⌝ }
 {
-    if u < 2147483648 {
-        u as i32
+    if u < 9223372036854775808 {
+        u as i64
     } else {
-        -1 - ((4294967295 - u) as i32)
+        -1 - ((18446744073709551615 - u) as i64)
     }
 }
 
-/// The literal of the LIT at `p`.
-fn literal(image: &[u8], p: usize) -> i32
-    ensures { λ r. ⌜ r ≡ signed (bodyAt (now (image .entry)) p) 1 ⌝ }
+/// The four bytes from the field `k` on of the record at `p`, as a number.
+fn word(image: &[u8], p: usize, k: usize) -> u64
+    requires { ⌜ k < 256 ⌝ }
+    ensures { λ r. ⌜ (r ≡ word (bodyAt (now (image .entry)) p) k) × (r < 4294967296) ⌝ }
 {
-    let low = layout::field(image, p, 1) + 256 * layout::field(image, p, 2);
-    let high = layout::field(image, p, 3) + 256 * layout::field(image, p, 4);
-    signed_of(low + 65536 * high)
+    let low = layout::field(image, p, k) + 256 * layout::field(image, p, k + 1);
+    let high = layout::field(image, p, k + 2) + 256 * layout::field(image, p, k + 3);
+    (low + 65536 * high) as u64
+}
+
+/// The number of the LIT at `p`, from its eight bytes.
+fn literal(image: &[u8], p: usize) -> i64
+    ensures { λ r. ⌜ r ≡ numberIn Form.Wide (bodyAt (now (image .entry)) p) ⌝ }
+{
+    signed_of(word(image, p, 1) + 4294967296 * word(image, p, 5))
 }
 
 /// The form of the instruction whose record stands at `p`; a record of another kind has that of a LIT.

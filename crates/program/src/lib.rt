@@ -10,7 +10,7 @@ pub mod question7;
 pub enum Instruction {
     Lit {
         d: u8,
-        i: i32,
+        i: i64,
     },
     Move {
         d: u8,

@@ -14,7 +14,7 @@ use Rattle.program.specs.Program.{FORCE, Program, Version}
 use Rattle.machine.specs.Try.{got, stuck, _>>_, endUnless}
 use Rattle.machine.specs.States.{assign, pending}
 use Rattle.machine.specs.Calls.{force, opened}
-use Rattle.machine.specs.Steps.{execute}
+use Rattle.machine.specs.Steps.{executeTo}
 use Rattle.machine.specs.declared.End.{End}
 use Rattle.machine.specs.declared.Opener.{Opener}
 use Rattle.memory.specs.Memory.{Memory, activationIn, cacheOf, framesOf, openerOf, stateOf, valueOf}
@@ -58,17 +58,17 @@ module _ (codes : List ℕ) (numbers : List ℤ) (stack promises : List ℕ) (ca
   memoryOf M = withForced M codes numbers stack promises caches depth
 
   pub force-stuck : promiseIn codes k a ≡ stuck → Forces Forced.Stuck codes codes numbers numbers stack stack promises caches depth k d a
-  unfolding Forces ForcedTo executed execute withForced withOpen withPromises withCells
+  unfolding Forces ForcedTo executed executeTo withForced withOpen withPromises withCells
   force-stuck e = λ P W M long live few. (bound-stuck _ (promise-in (M .owners) codes numbers k a ∙ e), refl, refl, refl)
 
   pub force-outside : {p : ℕ} → promiseIn codes k a ≡ got p → 64 ≤ p → Forces Forced.Stuck codes codes numbers numbers stack stack promises caches depth k d a
-  unfolding Forces ForcedTo executed execute withForced withOpen withPromises withCells
+  unfolding Forces ForcedTo executed executeTo withForced withOpen withPromises withCells
   force-outside {p} e h = λ P W M long live few. (bound-got _ (promise-in (M .owners) codes numbers k a ∙ e) ∙ bound-stuck _ (promise-outside (memoryOf M) p h), refl, refl, refl)
 
   module _ (p : ℕ) (e : promiseIn codes k a ≡ got p) (h : p < 64) where
     reached : (P : Program) (W : Version) (M : Memory) → executed P W (memoryOf M) k (FORCE d a)
         ≡ force (stateOf (memoryOf M)) k d p (memory.promiseIn promises caches p) (cacheOf (promises ! (3 * p + 2)) (getD caches p (pos 0)))
-    unfolding executed execute withForced withOpen withPromises withCells memory.promiseIn
+    unfolding executed executeTo withForced withOpen withPromises withCells memory.promiseIn
     reached P W M = bound-got _ (promise-in (M .owners) codes numbers k a ∙ e) ∙ bound-got _ (promise-at (memoryOf M) p h)
 
     cached : (M : Memory) → (promises ! (3 * p + 2) ≡ 0 → ⊥) → force (stateOf (memoryOf M)) k d p (memory.promiseIn promises caches p) (cacheOf (promises ! (3 * p + 2)) (getD caches p (pos 0)))

@@ -19,7 +19,7 @@ use Rattle.program.proofs.Lookups.{block-found, block-missing}
 use Rattle.machine.specs.Begin.{programOf}
 use Rattle.machine.specs.Try.{_>>=_, _>>_, at, orStuck}
 use Rattle.machine.specs.States.{assign, free, freePromise, held, isPromise, promiseCounts, withPromise}
-use Rattle.machine.specs.Steps.{execute}
+use Rattle.machine.specs.Steps.{executeTo}
 use Rattle.machine.specs.declared.Cache.{Cache}
 use Rattle.machine.specs.declared.End.{End}
 use Rattle.machine.specs.declared.Promise.{Promise}
@@ -136,13 +136,13 @@ module _ (image codes : List ℕ) (numbers : List ℤ) (stack promises : List �
   before M = withProm M codes numbers stack promises calls depth
 
   pub prom-missing : {r : Found} {j : ℕ} → r ≡ blockPlace image v j → j ≡ block → r ≡ Nothing → Proms Did.Stuck image codes codes numbers numbers stack promises promises calls depth k v d block
-  unfolding Proms Works Does executed execute at orStuck _>>_
+  unfolding Proms Works Does executed executeTo at orStuck _>>_
   prom-missing e j h = λ M long live few. ((rw (block-missing image v block (sym (e ∙ ap (blockPlace image v) j) ∙ h)), refl), long)
 
   module _ {r : Found} {q j : ℕ} (e : r ≡ blockPlace image v j) (same : j ≡ block) (h : r ≡ At q) where
     there : (M : Memory) → executed (programOf image) (versionAt image v) (before M) k (PROM d block)
         ≡ (freePromise (stateOf (before M)) >>= λ n. assign (withPromise (stateOf (before M)) n (record { frame = k; block = block; cache = Cache.Unforced })) k d (Value.Promise n))
-    unfolding executed execute at orStuck _>>_
+    unfolding executed executeTo at orStuck _>>_
     there M = rw (block-found image v block q (sym (e ∙ ap (blockPlace image v) same) ∙ h))
 
     module _ (w : Found) (f : Frees w codes stack calls depth) where

@@ -15,7 +15,7 @@ use Rattle.layout.specs.declared.Found.the-variants.{Nothing, At}
 use Rattle.program.specs.Program.{STORE, PEEK, POKE}
 use Rattle.machine.specs.Try.{Try, got, stuck, _>>=_}
 use Rattle.machine.specs.States.{assign, name, plain, store}
-use Rattle.machine.specs.Steps.{execute}
+use Rattle.machine.specs.Steps.{executeTo}
 use Rattle.machine.specs.declared.State.{State}
 use Rattle.machine.specs.declared.Value.{Value}
 use Rattle.memory.specs.Memory.{Memory, cellIn, frameIn, stateOf}
@@ -70,7 +70,7 @@ module _ (codes : List ℕ) (numbers : List ℤ) (k a f x : ℕ) where
 -- ---- STORE
 
 pub stored : (r : Did) (codes codes′ : List ℕ) (numbers numbers′ : List ℤ) (k x a : ℕ) → Named r codes codes′ numbers numbers′ k a k x → Changed r codes codes′ numbers numbers′ k (STORE x a)
-unfolding Changed Named Works executed execute withCells
+unfolding Changed Named Works executed executeTo withCells
 stored r codes codes′ numbers numbers′ k x a h = λ P W M long live few. h M long live
 
 -- ---- a frame that is not there
@@ -99,7 +99,7 @@ module _ (codes : List ℕ) (numbers : List ℤ) (promises : List ℕ) (calls k 
   memoryOf M = withCells (withDelayed M promises calls) codes numbers
 
   pub poke-stuck : (e : ℕ) {r : Found} → FrameOf codes promises calls k a r → r ≡ Nothing → Pokes Did.Stuck codes codes numbers numbers promises calls k a x e
-  unfolding Pokes Works Does executed execute withDelayed withLive withOpen withPromises withCells memory.promiseIn
+  unfolding Pokes Works Does executed executeTo withDelayed withLive withOpen withPromises withCells memory.promiseIn
   poke-stuck e (none n p) h = λ P W M long live few. ((bound-stuck _ (promise-in (M .owners) codes numbers k a ∙ p), refl), long)
   poke-stuck e (outside q n p b) h = λ P W M long live few. ((bound-got _ (promise-in (M .owners) codes numbers k a ∙ p) ∙ bound-stuck _ (promise-outside (memoryOf M) q b), refl), long)
   poke-stuck e (ended q n p b c) h = λ P W M long live few. (
@@ -122,7 +122,7 @@ module _ (codes : List ℕ) (numbers : List ℤ) (promises : List ℕ) (calls k 
 
   pub poked : (e : ℕ) {r : Found} {f : ℕ} (did : Did) (codes′ : List ℕ) (numbers′ : List ℤ) → FrameOf codes promises calls k a r → r ≡ At f → Named did codes codes′ numbers numbers′ k e f x
       → Pokes did codes codes′ numbers numbers′ promises calls k a x e
-  unfolding Pokes Named Works executed execute withDelayed withLive withOpen withPromises withCells memory.promiseIn
+  unfolding Pokes Named Works executed executeTo withDelayed withLive withOpen withPromises withCells memory.promiseIn
   poked e did codes′ numbers′ (none n p) h g = let z : _≡_ {A = ℕ} 0 1 = cc in absurd (omega arith)
   poked e did codes′ numbers′ (outside q n p b) h g = let z : _≡_ {A = ℕ} 0 1 = cc in absurd (omega arith)
   poked e did codes′ numbers′ (ended q n p b c) h g = let z : _≡_ {A = ℕ} 0 1 = cc in absurd (omega arith)
@@ -135,7 +135,7 @@ module _ (codes : List ℕ) (numbers : List ℤ) (promises : List ℕ) (calls k 
       (subst (λ t. Does did (memoryOf M) (withCells (withDelayed M promises calls) codes′ numbers′) t) (sym s) (w .0), w .1)
 
   pub peek-stuck : {r : Found} → FrameOf codes promises calls k a r → r ≡ Nothing → Peeks Gives.Stuck codes numbers promises calls k a x
-  unfolding Peeks Feeds executed execute givesOf _>>=_ withDelayed withLive withOpen withPromises withCells memory.promiseIn endOf
+  unfolding Peeks Feeds executed executeTo givesOf _>>=_ withDelayed withLive withOpen withPromises withCells memory.promiseIn endOf
   peek-stuck (none n p) h = λ P W M d long live few. bound-stuck _ (promise-in (M .owners) codes numbers k a ∙ p)
   peek-stuck (outside q n p b) h = λ P W M d long live few. bound-got _ (promise-in (M .owners) codes numbers k a ∙ p) ∙ bound-stuck _ (promise-outside (memoryOf M) q b)
   peek-stuck (ended q n p b c) h = λ P W M d long live few.
@@ -145,7 +145,7 @@ module _ (codes : List ℕ) (numbers : List ℤ) (promises : List ℕ) (calls k 
   peek-stuck (live q n p b c l) h = let z : _≡_ {A = ℕ} 0 1 = cc in absurd (omega arith)
 
   pub peeked : {r : Found} {f : ℕ} (g : Gives) → FrameOf codes promises calls k a r → r ≡ At f → givesOf g ≡ namedIn codes numbers f x → Peeks g codes numbers promises calls k a x
-  unfolding Peeks Feeds executed execute withDelayed withLive withOpen withPromises withCells memory.promiseIn
+  unfolding Peeks Feeds executed executeTo withDelayed withLive withOpen withPromises withCells memory.promiseIn
   peeked g (none n p) h e = let z : _≡_ {A = ℕ} 0 1 = cc in absurd (omega arith)
   peeked g (outside q n p b) h e = let z : _≡_ {A = ℕ} 0 1 = cc in absurd (omega arith)
   peeked g (ended q n p b c) h e = let z : _≡_ {A = ℕ} 0 1 = cc in absurd (omega arith)

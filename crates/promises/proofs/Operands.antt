@@ -14,7 +14,7 @@ use Rattle.layout.proofs.Bools.{and-both}
 use Rattle.program.specs.Program.{USE}
 use Rattle.machine.specs.Try.{got, stuck}
 use Rattle.machine.specs.States.{assign}
-use Rattle.machine.specs.Steps.{execute}
+use Rattle.machine.specs.Steps.{executeTo}
 use Rattle.machine.specs.declared.Value.{Value}
 use Rattle.memory.specs.Memory.{stateOf, valueOf}
 use Rattle.memory.specs.Parts.{Does, withCells}
@@ -65,11 +65,11 @@ length-written xs i n d x = go (ltb d n)
 
 module _ (codes : List ℕ) (numbers : List ℤ) (k d a : ℕ) where
   pub use-stuck : vectorIn codes k a ≡ stuck → Changed Did.Stuck codes codes numbers numbers k (USE d a)
-  unfolding Changed Works Does executed execute withCells
+  unfolding Changed Works Does executed executeTo withCells
   use-stuck e = λ P W M long live few. ((bound-stuck _ (vector-in (M .owners) codes numbers k a ∙ e), refl), long)
 
   pub use-outside : {v : ℕ} → vectorIn codes k a ≡ got v → 16 ≤ d → Changed Did.Stuck codes codes numbers numbers k (USE d a)
-  unfolding Changed Works Does executed execute withCells valueOf
+  unfolding Changed Works Does executed executeTo withCells valueOf
   use-outside {v} e h = λ P W M long live few.
       let N = withCells M codes numbers in (
         (
@@ -83,7 +83,7 @@ module _ (codes : List ℕ) (numbers : List ℤ) (k d a : ℕ) where
 
   pub used : {v : ℕ} (y z : ℤ) {c codes′ : List ℕ} {n numbers′ : List ℤ} → vectorIn codes k a ≡ got v → d < 16 → c ≡ written codes (24 * k) 16 a 0 → codes′ ≡ written c (24 * k) 16 d (256 + v)
       → n ≡ written numbers (24 * k) 16 a y → numbers′ ≡ written n (24 * k) 16 d z → Changed Did.On codes codes′ numbers numbers′ k (USE d a)
-  unfolding Changed Works Does executed execute withCells valueOf
+  unfolding Changed Works Does executed executeTo withCells valueOf
   used {v} y z {c} {codes′} {n} {numbers′} e h p p′ q q′ = λ P W M long live few.
       let b = vector-held codes k a v e in
       let p1 : c ≡ set codes (24 * k + a) 0 = p ∙ written-in codes (24 * k) 16 a 0 (b .0) in

@@ -25,7 +25,7 @@ pub enum Forced {
 
 /// USE: the register `d` of the frame `k` gets the vector of its register `a`, which is emptied.
 /// Part of the loop, which keeps `k` below 32: a test would cost each step.
-pub fn use_up(codes: &mut [u16; 768], numbers: &mut [i32; 768], k: usize, d: u8, a: u8) -> Did
+pub fn use_up(codes: &mut [u16; 768], numbers: &mut [i64; 768], k: usize, d: u8, a: u8) -> Did
     requires { ⌜ k < 32 ⌝ }
     ensures { λ r. ⌜ Changed r (now (codes .entry)) (now (codes .exit)) (now (numbers .entry)) (now (numbers .exit)) k (USE d a) ⌝ }
 {
@@ -43,7 +43,7 @@ pub fn use_up(codes: &mut [u16; 768], numbers: &mut [i32; 768], k: usize, d: u8,
 /// The name `x` of the frame `f` gets the value of the register `a` of the frame `k`.
 fn set_name(
     codes: &mut [u16; 768],
-    numbers: &mut [i32; 768],
+    numbers: &mut [i64; 768],
     k: usize,
     a: u8,
     f: usize,
@@ -66,7 +66,7 @@ fn set_name(
 
 /// STORE: the name `x` of the frame `k` gets the value of its register `a`.
 /// Part of the loop, which keeps `k` below 32: a test would cost each step.
-pub fn store(codes: &mut [u16; 768], numbers: &mut [i32; 768], k: usize, x: u8, a: u8) -> Did
+pub fn store(codes: &mut [u16; 768], numbers: &mut [i64; 768], k: usize, x: u8, a: u8) -> Did
     requires { ⌜ k < 32 ⌝ }
     ensures { λ r. ⌜ Changed r (now (codes .entry)) (now (codes .exit)) (now (numbers .entry)) (now (numbers .exit)) k (STORE x a) ⌝ }
 {
@@ -98,7 +98,7 @@ fn frame_of(codes: &[u16; 768], promises: &[u8; 192], calls: usize, k: usize, a:
 /// Part of the loop, which keeps `k` below 32: a test would cost each step.
 pub fn poke(
     codes: &mut [u16; 768],
-    numbers: &mut [i32; 768],
+    numbers: &mut [i64; 768],
     promises: &[u8; 192],
     calls: usize,
     k: usize,
@@ -119,7 +119,7 @@ pub fn poke(
 /// Part of the loop, which keeps `k` below 32: a test would cost each step.
 pub fn peek(
     codes: &[u16; 768],
-    numbers: &[i32; 768],
+    numbers: &[i64; 768],
     promises: &[u8; 192],
     calls: usize,
     k: usize,
@@ -184,10 +184,10 @@ fn cached(put: bool) -> Forced
 /// Part of the loop, which keeps `k` below 32: a test would cost each step.
 pub fn force(
     codes: &mut [u16; 768],
-    numbers: &mut [i32; 768],
+    numbers: &mut [i64; 768],
     stack: &mut [u8; 192],
     promises: &[u8; 192],
-    caches: &[i32; 64],
+    caches: &[i64; 64],
     depth: usize,
     k: usize,
     d: u8,
@@ -248,7 +248,7 @@ pub fn prom(
     image: &[u8],
     table: &[u16; 1152],
     codes: &mut [u16; 768],
-    numbers: &mut [i32; 768],
+    numbers: &mut [i64; 768],
     stack: &[u8; 192],
     promises: &mut [u8; 192],
     calls: usize,

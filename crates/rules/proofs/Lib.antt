@@ -5,6 +5,7 @@ pub mod Follows
 pub mod Needs
 pub mod Prefixes
 pub mod Rules
+pub mod Shapes
 pub mod Touches
 pub mod Walked
 pub mod Ways

@@ -9,7 +9,7 @@ use native.Mathlib.Omega.{arith}
 use lib.IntN.{ℤ}
 use lib.ListN.{length}
 use Rattle.program.specs.Program.{Program}
-use Rattle.machine.specs.Runs.{stepOf, lastStep, continued, runFrom, budgetIn, longEnough, budgetOf}
+use Rattle.machine.specs.Runs.{stepOf, lastStep, continued, runFrom, runFromTo, budgetIn, budgetInTo, longEnough, budgetOf, budgetOfTo}
 use Rattle.machine.specs.declared.Answer.{Answer}
 use Rattle.machine.specs.declared.End.{End}
 use Rattle.machine.specs.declared.Ran.{Ran}
@@ -59,7 +59,7 @@ not-refused q p h = let z : _≡_ {A = ℕ} 0 1 = cc in omega arith
 
 -- where a step is tried, a smaller run stops
 tried-stops : (P : Program) (m n : ℕ) (s b : State) → List·Memᴰ b (triedUnder P m s) → Stops (λ j. runFrom P j s n) m b
-unfolding triedUnder runFrom onward continued
+unfolding triedUnder runFromTo onward continued
 tried-stops P zero n s b h = absurd (List·Memᴰ·not-nil h)
 tried-stops P (suc m) n s b h = go (λ t. tried-stops P m (n + 1) t b) (List·Memᴰ·cases-cons h)
   where
@@ -76,7 +76,7 @@ tried-stops P (suc m) n s b h = go (λ t. tried-stops P m (n + 1) t b) (List·Me
 
 -- where a smaller run stops, a step is tried
 stops-tried : (P : Program) (m j n : ℕ) (s : State) → j < m → runFrom P j s n .answer ≡ Answer.Steps → List·Memᴰ (runFrom P j s n .state) (triedUnder P m s)
-unfolding triedUnder runFrom onward continued
+unfolding triedUnder runFromTo onward continued
 stops-tried P zero j n s l h = absurd (not-suc-le-zero l)
 stops-tried P (suc m) zero n s l h = List·Memᴰ·head refl
 stops-tried P (suc m) (suc j) n s l h = List·Memᴰ·tail (go (λ t. stops-tried P m j (n + 1) t (le-of-suc-le-suc l)) (stepOf P s .state) (stepOf P s .said) h)
@@ -99,7 +99,7 @@ one-step End.Promises = refl
 
 -- as many as the steps from n on
 tried-length : (P : Program) (m n : ℕ) (s : State) → n + length (triedUnder P m s) ≡ runFrom P m s n .steps + untaken (runFrom P m s n .answer)
-unfolding triedUnder runFrom onward continued untaken
+unfolding triedUnder runFromTo onward continued untaken
 tried-length P zero n s = refl
 tried-length P (suc m) n s = go (stepOf P s .state) (stepOf P s .said) (λ t. tried-length P m (n + 1) t)
   where
@@ -118,7 +118,7 @@ last-step t Said.Stuck n more h = refl
 
 -- one more step behind those of a run
 run-linked : (P : Program) (j n : ℕ) (s : State) → runFrom P j s n .answer ≡ Answer.Steps → runFrom P (suc j) s n .state ≡ stepOf P (runFrom P j s n .state) .state
-unfolding runFrom continued
+unfolding runFromTo continued
 run-linked P zero n s h = last-step (stepOf P s .state) (stepOf P s .said) n (λ t. runFrom P zero t (n + 1)) (λ u. refl)
 run-linked P (suc j) n s h = go (stepOf P s .state) (stepOf P s .said) (λ t. run-linked P j (n + 1) t) h
   where
@@ -133,45 +133,45 @@ run-linked P (suc j) n s h = go (stepOf P s .state) (stepOf P s .said) (λ t. ru
 module _ (P : Program) (s : State) (buffer : List ℤ) where
   -- a budget that is not refused
   in-where : (st : Status) (m : ℕ) (b : State) → List·Memᴰ b (triedIn P s m st) ↔ Stops (λ j. budgetIn P s j st) m b
-  unfolding triedIn budgetIn
+  unfolding triedIn budgetInTo
   in-where Status.Running m b = (tried-stops P m 0 s b, λ t. rw (sym (t .3)) (stops-tried P m (t .0) 0 s (t .1) (t .2)))
   in-where (Status.Ended e) m b = (λ l. absurd (List·Memᴰ·not-nil l), λ t. absurd (not-ended e (t .2)))
 
   -- THE LAW: where a budget tries its steps
   pub tried-where : (m : ℕ) (b : State) → TriedWhere P s m buffer b
-  unfolding triedBy budgetOf
+  unfolding triedBy budgetOfTo
   tried-where m b = go (longEnough buffer) refl
     where
       go : (l : Bool) → longEnough buffer ≡ l → TriedWhere P s m buffer b
-      go true e = rw (e, triedBy, budgetOf) (in-where (s .status) m b)
-      go false e = rw (e, triedBy, budgetOf) (λ l. absurd (List·Memᴰ·not-nil l), λ t. absurd (not-refused 13 0 (t .2)))
+      go true e = rw (e, triedBy, budgetOfTo) (in-where (s .status) m b)
+      go false e = rw (e, triedBy, budgetOfTo) (λ l. absurd (List·Memᴰ·not-nil l), λ t. absurd (not-refused 13 0 (t .2)))
 
   -- one more step of a budget that is not refused
   in-linked : (st : Status) (j : ℕ) → budgetIn P s j st .answer ≡ Answer.Steps → budgetIn P s (suc j) st .state ≡ stepOf P (budgetIn P s j st .state) .state
-  unfolding budgetIn
+  unfolding budgetInTo
   in-linked Status.Running j h = run-linked P j 0 s h
   in-linked (Status.Ended e) j h = absurd (not-ended e h)
 
   -- THE LAW: how they follow one another
   pub tried-linked : (j : ℕ) → Linked P s j buffer
-  unfolding budgetOf
+  unfolding budgetOfTo
   tried-linked j = go (longEnough buffer) refl
     where
       go : (l : Bool) → longEnough buffer ≡ l → Linked P s j buffer
-      go true e = rw (e, budgetOf) (in-linked (s .status) j)
-      go false e = rw (e, budgetOf) (λ h. absurd (not-refused 13 0 h))
+      go true e = rw (e, budgetOfTo) (in-linked (s .status) j)
+      go false e = rw (e, budgetOfTo) (λ h. absurd (not-refused 13 0 h))
 
   -- how many they are, on a run that goes on
   in-count : (st : Status) (n : ℕ) → st ≡ Status.Running → length (triedIn P s n st) ≡ budgetIn P s n st .steps + untaken (budgetIn P s n st .answer)
-  unfolding triedIn budgetIn
+  unfolding triedIn budgetInTo
   in-count Status.Running n run = omega (arith, tried-length P n 0 s)
   in-count (Status.Ended e) n run = let z : _≡_ {A = ℕ} 0 1 = cc in absurd (omega arith)
 
   -- THE LAW: how many they are
   pub tried-count : (n : ℕ) → s .status ≡ Status.Running → TriedCount P s n buffer
-  unfolding triedBy budgetOf untaken
+  unfolding triedBy budgetOfTo untaken
   tried-count n run = go (longEnough buffer) refl
     where
       go : (l : Bool) → longEnough buffer ≡ l → TriedCount P s n buffer
-      go true e = rw (e, triedBy, budgetOf) (in-count (s .status) n run)
-      go false e = rw (e, triedBy, budgetOf) refl
+      go true e = rw (e, triedBy, budgetOfTo) (in-count (s .status) n run)
+      go false e = rw (e, triedBy, budgetOfTo) refl

@@ -17,7 +17,7 @@ use Rattle.machine.specs.Values.{index, isZero}
 use Rattle.machine.specs.Values as values
 use Rattle.machine.specs.States.{ACTIVATIONS, place, itemsOf, newVector, liveFrames, liveActivations, value, integer, vector, promise, plain, name, kindIn, freeVector, freePromise, pending, withStack, withVector, withPromise, withFrame, withRegister, withName, assign, store}
 use Rattle.machine.specs.Calls.{opened, passed, emptyIf, emptied, force, skipped}
-use Rattle.machine.specs.Steps.{alone, execute}
+use Rattle.machine.specs.Steps.{alone, execute, executeTo}
 use Rattle.machine.specs.declared.Activation.{Activation}
 use Rattle.machine.specs.declared.Cache.{Cache}
 use Rattle.machine.specs.declared.End.{End}
@@ -211,7 +211,7 @@ skip-keeps false s n = record { count = refl; status = refl; frames = λ k. refl
 
 -- no other instruction than CALL and DISPATCH changes the calls
 pub execute-keeps : (P : Program) (s : State) (k : ℕ) (f : Frame) (W : Version) (i : Instr) → isCall i ≡ false → Gives (Keeps s) (execute P s k f W i)
-unfolding execute isCall Gives
+unfolding executeTo isCall Gives
 execute-keeps P s k f W (LIT d i) n = assign-keeps s k d _
 execute-keeps P s k f W (MOVE d a) n =
     gives-then _ (value f a) _ (λ v _. gives-then _ (kindIn P s v) _ (λ m _. gives-then _ (at (W .types) d) _ (λ t _. gives-next _ (stuckUnless (within m (kindOf t))) _ (λ _ _. assign-keeps s k d v))))

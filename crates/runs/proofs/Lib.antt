@@ -6,3 +6,9 @@ pub mod History
 pub mod Splits
 pub mod Numbers
 pub mod Searches
+pub mod Alike
+pub mod Wider
+pub mod WiderRuns
+pub mod Widened
+pub mod SixtyFour
+pub mod Longer

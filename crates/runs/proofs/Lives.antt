@@ -23,8 +23,8 @@ use Rattle.checker.specs.declared.Verdict.{Verdict}
 use Rattle.machine.specs.Try.{Try, got, stuck, stop, stuckUnless, orStuck, at, put, each}
 use Rattle.machine.specs.States.{over, itemsOf, liveFrames, anInteger, value, kindIn, withStack, withPromise, withEnd}
 use Rattle.machine.specs.Calls.{opened, passed, matching, emptied, frameFor, enter, dispatches, lowest, picked, closed, done, back, finish}
-use Rattle.machine.specs.Steps.{registersOf, execute, Here, here, Position, instruction, blockEnd, outside, positionOf, proceed, advance}
-use Rattle.machine.specs.Runs.{saying, settled, stepIn, stepOf, longEnough}
+use Rattle.machine.specs.Steps.{registersOf, execute, Here, here, Position, instruction, blockEnd, outside, positionOf, proceed, advance, proceedTo, advanceTo, executeTo}
+use Rattle.machine.specs.Runs.{saying, settled, stepIn, stepInTo, stepOfTo, longEnough}
 use Rattle.machine.specs.Begin.{Given, arguments, valuesOf, vectorsOf, firstState, refused, question11, question12, question13, enteredOf, beginAfter, beginOf, programOf}
 use Rattle.machine.specs.declared.Activation.{Activation}
 use Rattle.machine.specs.declared.Cache.{Cache}
@@ -176,7 +176,7 @@ entered-on s t a f w h = (inl (h .0), record { count = h .1 .count; new = h .1 .
 
 -- CALL
 call-lives : (P : Program) (s : State) (a : Activation) (fr : Frame) (W : Version) (d f w : ℕ) (rs : List ℕ) → Gives (LivesOn s a (instruction (CALL d f w rs))) (execute P (passed s a) (a .frame) fr W (CALL d f w rs))
-unfolding execute
+unfolding executeTo
 call-lives P s a fr W d f w rs =
     gives-then _ (orStuck (findVersion P f w)) _ (λ X e. gives-then _ (each (value fr) rs) _ (λ vs _. gives-then _ (each (kindIn P (passed s a)) vs) _ (λ ks _. gives-next _ (stuckUnless (matching ks (parameterTypes X))) _ (λ _ _.
     gives-weaken (EntersOn (passed s a) f w) _ (enter (passed s a) (a .frame) d X rs vs) (named-enters P (passed s a) (a .frame) d f w X rs vs (or-stuck (findVersion P f w) X e))
@@ -185,7 +185,7 @@ call-lives P s a fr W d f w rs =
 -- DISPATCH
 dispatch-lives : (P : Program) (s : State) (a : Activation) (fr : Frame) (W : Version) (d f mark ret : ℕ) (pairs : List Argument)
     → Gives (LivesOn s a (instruction (DISPATCH d f mark ret pairs))) (execute P (passed s a) (a .frame) fr W (DISPATCH d f mark ret pairs))
-unfolding execute picked
+unfolding executeTo picked
 dispatch-lives P s a fr W d f mark ret pairs =
     gives-then _ (each (value fr) (registersOf pairs)) _ (λ vs _. gives-then _ (each (kindIn P (passed s a)) vs) _ (λ ks _. gives-then _ (picked P f mark ret pairs ks) _ (λ X e.
     let l = lowest-found P f (dispatches mark ret pairs ks) VERSIONS 0 X e in
@@ -227,14 +227,14 @@ end-lives P s a W v (Opener.Force p) e = gives-weaken (Keeps s) _ (finish P s a 
 
 -- by where it stands
 proceed-lives : (P : Program) (s : State) (h : Here) (x : Position) → Gives (LivesOn s (h .activation) x) (proceed P s h x)
-unfolding proceed Gives
+unfolding proceedTo Gives
 proceed-lives P s h (instruction i) = execute-lives P s (h .activation) (h .frame) (h .version) i
 proceed-lives P s h blockEnd = gives-then _ (value (h .frame) (h .block .result)) _ (λ v _. end-lives P s (h .activation) (h .version) v (h .activation .opener) refl)
 proceed-lives P s h outside = tt
 
 -- what a step comes to
 advance-gives : (P : Program) (s : State) → Gives (λ (t : State). GoesOn s t × Lives P s t) (advance P s)
-unfolding advance
+unfolding advanceTo
 advance-gives P s = gives-then _ (here P s) _ (λ h e. gives-weaken (LivesOn s (h .activation) (positionOf h)) _ (proceed P s h (positionOf h)) (proceed-lives P s h (positionOf h)) (λ t l. (l .0, record { place = h; stands = e; happens = l .1 })))
 
 -- THE LAW: of what a step comes to
@@ -275,7 +275,7 @@ module _ (P : Program) (s : State) (run : s .status ≡ Status.Running) where
 
 -- THE LAW: of every step
 pub moves : (P : Program) (s : State) → Moves P s
-unfolding stepOf stepIn idle
+unfolding stepOfTo stepInTo idle
 moves P s = record { moved = moved (s .status) refl; unmoved = unmoved (s .status) refl }
   where
     moved : (st : Status) → s .status ≡ st → idle st (stepIn P s st .said) ≡ false → Lives P s (stepIn P s st .state)

@@ -21,7 +21,7 @@ use Rattle.checker.specs.Verdicts.{verdictOf}
 use Rattle.checker.specs.declared.Verdict.the-variants.{Accepted}
 use Rattle.checker.proofs.Accepted.{passed as passed-all}
 use Rattle.machine.specs.Begin.{programOf}
-use Rattle.program.specs.Program.{Program, Version, View, findVersion, put, view, nowhere, versionOf, blockOf, lineOf}
+use Rattle.program.specs.Program.{Program, Version, View, findVersion, putBy, view, viewBy, nowhere, versionOf, blockOf, lineOf}
 use Rattle.runs.specs.Searches.{ofFunction}
 
 -- ---- the numbers follow on each other
@@ -44,7 +44,7 @@ Ordered t (W ∷ P) = (t (W .function) (W .version) ≡ true) × Ordered (after 
 
 -- question 5 of records is that of their versions
 ordered : (o : Option Rec) (rs : List Rec) → scan following lastVersion nothing o rs ≡ Nothing → Ordered (λ f w. follows o f w) (view rs .versions)
-unfolding scan view put Ordered after _and_ follows
+unfolding scan viewBy putBy Ordered after _and_ follows
 ordered o [] e = tt
 ordered o (r ∷ rs) e = go (eqb (r .size) 0) (ltb 0 (r .size)) (eqb (r .kind) kind.VERSION) (eqb (r .kind) kind.BLOCK) (ordered o rs) (ordered (some r) rs) e
   where

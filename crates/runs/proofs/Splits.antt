@@ -11,7 +11,7 @@ use Rattle.program.specs.Program.{Program}
 use Rattle.machine.specs.Try.{Try, got, stuck, stop}
 use Rattle.machine.specs.States.{withEnd}
 use Rattle.machine.specs.Steps.{advance}
-use Rattle.machine.specs.Runs.{saying, settled, stepIn, stepOf, lastStep, continued, runFrom, budgetIn, longEnough, budgetOf}
+use Rattle.machine.specs.Runs.{saying, settled, stepIn, stepInTo, stepOf, stepOfTo, lastStep, continued, runFrom, runFromTo, budgetIn, budgetInTo, longEnough, budgetOf, budgetOfTo}
 use Rattle.machine.specs.declared.Answer.{Answer}
 use Rattle.machine.specs.declared.End.{End}
 use Rattle.machine.specs.declared.Ran.{Ran}
@@ -64,7 +64,7 @@ settled-stuck s (stop e) h = let z : _≡_ {A = ℕ} 0 1 = cc in absurd (omega a
 module _ (P : Program) (s : State) where
   -- it goes on
   pub step-goes : stepOf P s .said ≡ Said.GoesOn → stepOf P s .state .status ≡ Status.Running
-  unfolding stepOf stepIn
+  unfolding stepOfTo stepInTo
   step-goes = go (s .status)
     where
       go : (st : Status) → stepIn P s st .said ≡ Said.GoesOn → stepIn P s st .state .status ≡ Status.Running
@@ -73,7 +73,7 @@ module _ (P : Program) (s : State) where
 
   -- it has ended
   pub step-ended : (e : End) → stepOf P s .said ≡ Said.Ended e → stepOf P s .state .status ≡ Status.Ended e
-  unfolding stepOf stepIn
+  unfolding stepOfTo stepInTo
   step-ended e = go (s .status) refl
     where
       go : (st : Status) → s .status ≡ st → stepIn P s st .said ≡ Said.Ended e → stepIn P s st .state .status ≡ Status.Ended e
@@ -82,7 +82,7 @@ module _ (P : Program) (s : State) where
 
   -- stuck, it is what it was
   pub step-stuck : stepOf P s .said ≡ Said.Stuck → stepOf P s .state ≡ s
-  unfolding stepOf stepIn
+  unfolding stepOfTo stepInTo
   step-stuck = go (s .status)
     where
       go : (st : Status) → stepIn P s st .said ≡ Said.Stuck → stepIn P s st .state ≡ s
@@ -101,7 +101,7 @@ more-more k n r = ap (λ (x : ℕ). record { state = r .state; answer = r .answe
 
 -- a run counts on from where it starts
 pub run-counts : (P : Program) (m : ℕ) (s : State) (k : ℕ) → runFrom P m s k ≡ more k (runFrom P m s 0)
-unfolding runFrom continued
+unfolding runFromTo continued
 run-counts P zero s k = ap (λ (x : ℕ). record { state = s; answer = Answer.Steps; steps = x }) (omega arith)
 run-counts P (suc m) s k = go (stepOf P s .said) (λ t n. run-counts P m t n)
   where
@@ -122,29 +122,29 @@ further P n r = budgetIn P (r .state) n (r .state .status)
 
 -- a run that goes on, behind no step
 goes-further : (P : Program) (s : State) (n : ℕ) → s .status ≡ Status.Running → Joins (record { state = s; answer = Answer.Steps; steps = 0 }) (budgetIn P s n (s .status)) (runFrom P n s 0)
-unfolding budgetIn
+unfolding budgetInTo
 goes-further P s n h = rw h (record { state = refl; steps = omega arith; answer = λ _. refl })
 
 -- an ended one takes no step
 ended-further : (P : Program) (s : State) (n k : ℕ) (e : End) → s .status ≡ Status.Ended e → Joins (record { state = s; answer = Answer.Ended e; steps = k }) (budgetIn P s n (s .status)) (record { state = s; answer = Answer.Ended e; steps = k })
-unfolding budgetIn
+unfolding budgetInTo
 ended-further P s n k e h = rw h (record { state = refl; steps = omega arith; answer = λ _. refl })
 
 -- a stuck one is stuck again
 stuck-again : (P : Program) (s : State) (n : ℕ) → stepOf P s .said ≡ Said.Stuck → (runFrom P n s 0 .state ≡ s) × (runFrom P n s 0 .steps ≡ 0)
-unfolding runFrom continued
+unfolding runFromTo continued
 stuck-again P s zero h = (refl, refl)
 stuck-again P s (suc n) h = rw h (step-stuck P s h, refl)
 
 -- and takes no step
 stuck-further : (P : Program) (s : State) (n : ℕ) → s .status ≡ Status.Running → stepOf P s .said ≡ Said.Stuck → Joins (record { state = s; answer = Answer.Stuck; steps = 0 }) (budgetIn P s n (s .status)) (record { state = s; answer = Answer.Stuck; steps = 0 })
-unfolding budgetIn
+unfolding budgetInTo
 stuck-further P s n h e = let t = stuck-again P s n e in
     subst (λ (st : Status). Joins (record { state = s; answer = Answer.Stuck; steps = 0 }) (budgetIn P s n st) (record { state = s; answer = Answer.Stuck; steps = 0 })) (sym h) (record { state = t .0; steps = omega (arith, t .1); answer = λ f. absurd (f refl) })
 
 -- a run of m steps and a further budget, by what the first step says
 run-splits : (P : Program) (n m : ℕ) (s : State) → s .status ≡ Status.Running → Joins (runFrom P m s 0) (further P n (runFrom P m s 0)) (runFrom P (m + n) s 0)
-unfolding runFrom continued
+unfolding runFromTo continued
 run-splits P n zero s h = rw (zero-add n) (goes-further P s n h)
 run-splits P n (suc m) s h = rw (suc-add m n) (go (stepOf P s .said) refl (λ t g. run-splits P n m t g))
   where
@@ -163,12 +163,12 @@ run-splits P n (suc m) s h = rw (suc-add m n) (go (stepOf P s .said) refl (λ t 
 
 -- a buffer that is long enough is not refused
 budget-long : (P : Program) (s : State) (n : ℕ) (buffer : List ℤ) → longEnough buffer ≡ true → budgetOf P s n buffer ≡ budgetIn P s n (s .status)
-unfolding budgetOf
-budget-long P s n buffer h = rw (h, budgetOf) refl
+unfolding budgetOfTo
+budget-long P s n buffer h = rw (h, budgetOfTo) refl
 
 -- THE LAW: a budget of m and then one of n, and one of m + n
 pub budget-splits : BudgetSplits
-unfolding BudgetSplits budgetIn
+unfolding BudgetSplits budgetInTo
 budget-splits P s m n b1 b2 b3 h1 h2 h3 = rw (budget-long P s m b1 h1, budget-long P s (m + n) b3 h3, budget-long P (budgetIn P s m (s .status) .state) n b2 h2) (go (s .status) refl)
   where
     go : (st : Status) → s .status ≡ st → Joins (budgetIn P s m st) (further P n (budgetIn P s m st)) (budgetIn P s (m + n) st)

@@ -14,10 +14,10 @@ use Rattle.layout.specs.Tests.{_and_, found}
 use Rattle.program.specs.Program.{Instr, LIT, MOVE, USE, DUP, VEC, LEN, GET, SET, ARITH, SELECT, CAST, NAMED, STORE, PROM, FORCE, PEEK, POKE, CALL, DISPATCH, SKIP, Version, Program, findVersion, parameterTypes}
 use Rattle.rules.specs.Types.{kindOf, isOwned, within}
 use Rattle.machine.specs.Try.{Try, got, stuck, stop, _>>=_, _>>_, stuckUnless, endUnless, orStuck, at, put, each}
-use Rattle.machine.specs.Values.{ranged, isZero, divided, arith, index}
+use Rattle.machine.specs.Values.{RANGE, ranged, isZero, divided, arith, index, rangedTo, dividedTo, arithTo}
 use Rattle.machine.specs.States.{ACTIVATIONS, place, itemsOf, liveFrames, liveActivations, register, named, full, anInteger, aVector, aPromise, noPromise, isSet, value, integer, vector, promise, plain, name, kindIn, vectorCounts, free, freeVector, freePromise, pending, withVector, withPromise, withRegister, withName, assign, store}
 use Rattle.machine.specs.Calls.{opened, passed, matching, emptyIf, emptied, frameFor, enter, lowest, picked, force, skipped, done, back, finish}
-use Rattle.machine.specs.Steps.{alone, registersOf, execute, Here, here, Position, instruction, blockEnd, outside, positionOf, proceed, advance}
+use Rattle.machine.specs.Steps.{alone, registersOf, execute, executeTo, Here, here, Position, instruction, blockEnd, outside, positionOf, proceed, proceedTo, advance, advanceTo}
 use Rattle.machine.specs.declared.Activation.{Activation}
 use Rattle.machine.specs.declared.Cache.{Cache}
 use Rattle.machine.specs.declared.End.{End}
@@ -211,12 +211,12 @@ free-promise-halts s = free-halts End.Promises _ _ 0 refl
 
 -- the range
 ranged-halts : (z : ℤ) → Halts (ranged z)
-unfolding ranged Halts
-ranged-halts z = next _ _ (undef-halts (ltb (mag z) 2147483648)) tt
+unfolding rangedTo Halts
+ranged-halts z = next _ _ (undef-halts (ltb (mag z) RANGE)) tt
 
 -- division
 divided-halts : (x y : ℤ) → Halts (divided x y)
-unfolding divided
+unfolding dividedTo
 divided-halts x y = next _ _ (undef-halts (not (isZero y))) (ranged-halts _)
 
 -- an index
@@ -232,7 +232,7 @@ cond-halts false t u h k = k
 
 -- ARITH
 arith-halts : (op : ℕ) (x y : ℤ) → Halts (arith op x y)
-unfolding arith choose Halts
+unfolding arithTo choose Halts
 arith-halts op x y = cond-halts (eqb op 0) _ _ (ranged-halts _) (cond-halts (eqb op 1) _ _ (ranged-halts _) (cond-halts (eqb op 2) _ _ (ranged-halts _) (cond-halts (eqb op 3) _ _ (divided-halts x y) (cond-halts (eqb op 4) _ _ tt tt))))
 
 -- ---- writing
@@ -296,7 +296,7 @@ skip-halts false s n = tt
 
 -- every instruction
 execute-halts : (P : Program) (s : State) (k : ℕ) (f : Frame) (W : Version) (i : Instr) → Halts (execute P s k f W i)
-unfolding execute alone picked Halts
+unfolding executeTo alone picked Halts
 execute-halts P s k f W (LIT d i) = assign-halts s k d _
 execute-halts P s k f W (MOVE d a) = bind _ _ (value-halts f a) (λ v. bind _ _ (kind-halts P s v) (λ m. bind _ _ (at-halts (W .types) d) (λ t. next _ _ (test-halts (within m (kindOf t))) (assign-halts s k d v))))
 execute-halts P s k f W (USE d a) = bind _ _ (vector-halts f a) (λ v. bind _ _ (assign-halts s k a Value.Empty) (λ t. assign-halts t k d (Value.Vector v)))
@@ -355,12 +355,12 @@ here-halts P s = bind _ _ (at-halts (liveActivations s) (s .depth - 1)) (λ a. b
 
 -- by what stands there
 proceed-halts : (P : Program) (s : State) (h : Here) (x : Position) → Halts (proceed P s h x)
-unfolding proceed Halts
+unfolding proceedTo Halts
 proceed-halts P s h (instruction i) = execute-halts P (passed s (h .activation)) (h .activation .frame) (h .frame) (h .version) i
 proceed-halts P s h blockEnd = bind _ _ (value-halts (h .frame) (h .block .result)) (λ v. finish-halts P s (h .activation) (h .version) v (h .activation .opener))
 proceed-halts P s h outside = tt
 
 -- THE LAW: no step stops with DONE
 pub advance-halts : (P : Program) (s : State) → Halts (advance P s)
-unfolding advance
+unfolding advanceTo
 advance-halts P s = bind _ _ (here-halts P s) (λ h. proceed-halts P s h (positionOf h))

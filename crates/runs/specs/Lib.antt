@@ -1,3 +1,5 @@
 pub mod Lives
 pub mod Splits
 pub mod Searches
+pub mod Alike
+pub mod Wider

@@ -15,7 +15,7 @@ use Rattle.layout.specs.Tests.{_and_}
 use Rattle.layout.proofs.Bools.{and-on, and-off}
 use Rattle.layout.proofs.Rows.{Rows, choose-each}
 use Rattle.program.specs.Places.{instrAt, isLine}
-use Rattle.program.specs.Program.{Argument, Instr, LIT, MOVE, USE, DUP, VEC, LEN, GET, SET, ARITH, SELECT, CAST, NAMED, STORE, PROM, FORCE, PEEK, POKE, CALL, DISPATCH, SKIP, Program, arguments, instrOf}
+use Rattle.program.specs.Program.{Argument, Instr, LIT, MOVE, USE, DUP, VEC, LEN, GET, SET, ARITH, SELECT, CAST, NAMED, STORE, PROM, FORCE, PEEK, POKE, CALL, DISPATCH, SKIP, Program, arguments, instrBy}
 use Rattle.program.proofs.Forms.{length-arguments}
 use Rattle.machine.specs.Begin.{programOf}
 use Rattle.machine.specs.Calls.{searched, versionsOf}
@@ -58,12 +58,12 @@ module _ (s : List ℕ) (M : Memory) (p : Spot) (q : Standing s M p) where
 
 -- any other than a DISPATCH
 pub no-looks : (s owners codes promises : List ℕ) (calls k at : ℕ) {x : ℕ} → x ≡ kindAt s at → (x ≡ kind.DISPATCH → ⊥) → Looks s Search.Elsewhere owners codes promises calls k at
-unfolding Looks searchBy instrAt instrOf Rows
+unfolding Looks searchBy instrAt instrBy Rows
 no-looks s owners codes promises calls k at {x} e other = λ M stack depth. rw (← e) (choose-each (λ (j : Instr). Search.Elsewhere ≡ searchBy (programOf s) (stateOf (withThese M owners codes stack promises calls depth)) (frameIn owners codes (M .numbers) k) j) x _ _ refl
     (λ h. refl, (λ h. refl, (λ h. refl, (λ h. refl, (λ h. refl, (λ h. refl, (λ h. refl, (λ h. refl, (λ h. refl, (λ h. refl, (λ h. refl, (λ h. refl, (λ h. refl, (λ h. refl, (λ h. refl, (λ h. refl, (λ h. refl, (λ h. absurd (other h), (λ h. refl, tt))))))))))))))))))))
 
 is-dispatch : (s : List ℕ) (at : ℕ) {x : ℕ} → x ≡ kindAt s at → x ≡ kind.DISPATCH → instrAt s at ≡ DISPATCH (bodyAt s at ! 0) (bodyAt s at ! 1) (bodyAt s at ! 2) (bodyAt s at ! 3) (arguments (bodyAt s at) 5 (bodyAt s at ! 4))
-unfolding instrAt instrOf choose
+unfolding instrAt instrBy choose
 is-dispatch s at e d = simp (sym e ∙ d)
 
 got-last : {A : Type 0} (t : Try A) → (t >>= λ x. got x) ≡ t

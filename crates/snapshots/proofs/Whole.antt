@@ -4,7 +4,7 @@ use mathlib.Core.Path.{_≡_, sym, _∙_}
 use Prim.Native.Nat.{ℕ}
 use lib.IntN.{ℤ}
 use mir.Facts.{toZ-ofZ}
-use mir.Syntax.{w32}
+use mir.Syntax.{w64}
 use mir.Val.{SFits, toZ, ofZ}
 use Rattle.machine.specs.declared.Activation.{Activation}
 use Rattle.machine.specs.declared.End.{End}
@@ -29,14 +29,14 @@ ends-again End.Deep h = rw h
 ends-again End.Vectors h = rw h
 ends-again End.Promises h = rw h
 
-pub status-is : (s : ℕ) (z : ℤ) (n : ℕ) (u : Status) → SFits w32 z → u ≡ statusOf s (toZ w32 (ofZ w32 z)) n → u ≡ statusOf s z n
+pub status-is : (s : ℕ) (z : ℤ) (n : ℕ) (u : Status) → SFits w64 z → u ≡ statusOf s (toZ w64 (ofZ w64 z)) n → u ≡ statusOf s z n
 status-is s z n u f e = rw (← toZ-ofZ f) e
 
 -- a status that was read is the one that stands there
-pub status-at : (s : ℕ) (z : ℤ) (n : ℕ) {u v : Status} → SFits w32 z → u ≡ statusOf s (toZ w32 (ofZ w32 z)) n → u ≡ v → statusOf s z n ≡ v
+pub status-at : (s : ℕ) (z : ℤ) (n : ℕ) {u v : Status} → SFits w64 z → u ≡ statusOf s (toZ w64 (ofZ w64 z)) n → u ≡ v → statusOf s z n ≡ v
 status-at s z n f e h = sym (status-is s z n _ f e) ∙ h
 
-pub status-same : (s : ℕ) (z : ℤ) (n : ℕ) (u : Status) → SFits w32 z → statusOf s z n ≡ u → statusOf s (toZ w32 (ofZ w32 z)) n ≡ u
+pub status-same : (s : ℕ) (z : ℤ) (n : ℕ) (u : Status) → SFits w64 z → statusOf s z n ≡ u → statusOf s (toZ w64 (ofZ w64 z)) n ≡ u
 status-same s z n u f e = rw (toZ-ofZ f) e
 
 module _ (S : Snapshot) where

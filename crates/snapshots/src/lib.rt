@@ -13,10 +13,10 @@ use machine::Status;
 /// `length` items of `result`, 3 for UNDEF, 4 for DEEP, 5 for VECTORS and 6 for PROMISES; any other number stands for 0.
 #[repr(C)]
 pub struct Snapshot {
-    pub numbers: [i32; 768],
-    pub items: [i32; 1024],
-    pub caches: [i32; 64],
-    pub result: [i32; 16],
+    pub numbers: [i64; 768],
+    pub items: [i64; 1024],
+    pub caches: [i64; 64],
+    pub result: [i64; 16],
     pub codes: [u16; 768],
     pub owners: [u8; 64],
     pub stack: [u8; 192],
@@ -26,18 +26,18 @@ pub struct Snapshot {
     pub depth: u8,
     pub status: u8,
     pub length: u8,
-    pub value: i32,
+    pub value: i64,
 }
 
 /// A status as numbers.
 pub struct Ending {
     pub status: u8,
     pub length: u8,
-    pub value: i32,
+    pub value: i64,
 }
 
 /// The status of the number `s`, with an integer and a length beside it.
-pub fn status(s: u8, z: i32, n: u8) -> Status
+pub fn status(s: u8, z: i64, n: u8) -> Status
     ensures { λ r. ⌜ r ≡ statusOf s z n ⌝ }
 {
     if s == 1 {
@@ -155,12 +155,12 @@ pub fn snapshot_of(state: State) -> Snapshot
     let status = state.status;
     let mut owners = [0u8; 64];
     let mut codes = [0u16; 768];
-    let mut numbers = [0i32; 768];
+    let mut numbers = [0i64; 768];
     let mut stack = [0u8; 192];
     let mut lengths = [0u8; 64];
-    let mut items = [0i32; 1024];
+    let mut items = [0i64; 1024];
     let mut promises = [0u8; 192];
-    let mut caches = [0i32; 64];
+    let mut caches = [0i64; 64];
     frames::load_frames(frames, &mut owners, &mut codes, &mut numbers);
     stack::load_activations(activations, &mut stack);
     heap::load_vectors(vectors, &mut lengths, &mut items);

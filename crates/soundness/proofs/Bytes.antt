@@ -1,31 +1,29 @@
 -- The bytes of a version make an image of that version alone: so the same bytes make the same version.
-use mathlib.Core.Path.{_≡_, refl, sym, ap, _∙_, subst}
-use mathlib.Core.Logic.{_⊎_, inl, inr}
-use mathlib.Core.List.{List, [], _∷_}
-use mathlib.Core.Option.{Option, none, some}
-use mathlib.Core.Bool.{Bool, true, false, cond, _||_, false≢true}
-use Prim.Native.Nat.{ℕ, zero, suc, _+_, _-_, _*_, _≤_, _<_}
+use mathlib.Core.Path.{_≡_, refl, sym, ap, ap₂, _∙_, subst}
+use mathlib.Core.List.{List, [], _∷_, map}
+use mathlib.Core.Option.{none, some}
+use mathlib.Core.Bool.{Bool, true, false, cond, _||_}
+use Prim.Native.Nat.{ℕ, zero, suc, _+_, _-_, _≤_, _<_}
 use native.Mathlib.Nat.{sub-zero, add-zero}
 use native.Mathlib.Decide.{decLt, ℕ-discrete}
 use native.Mathlib.Omega.{arith}
 use lib.ListN.{length, drop, take, length-drop}
-use lib.Seq.{length-take-le, take-nil, drop-nil, getD-take, getD-drop, take-take, drop-drop}
+use lib.Seq.{length-take-le, take-nil, getD-take, getD-drop, take-take, drop-drop}
 use lib.Dec.{eqb, ltb}
-use borrow.Author.Tests.{ltb-true, ltb-false, lt-ltb, le-ltb, eqb-true, ne-eqb}
+use borrow.Author.Tests.{ltb-true, ltb-false, ne-eqb}
 use Rattle.layout.specs.Kinds as kind
 use Rattle.layout.specs.Tests.{_and_}
-use Rattle.layout.specs.Records.{_!_, u16At, sizeAt, kindAt, bodyAt, recAt, rest, records, fields}
+use Rattle.layout.specs.Records.{_!_, Rec, u16At, sizeAt, kindAt, bodyAt, recAt, rest, records, fields}
 use Rattle.layout.specs.Scan.{scan}
 use Rattle.layout.specs.Questions.{question2}
-use Rattle.layout.specs.declared.Found.{Found}
-use Rattle.layout.specs.declared.Found.the-variants.{Nothing, At}
+use Rattle.layout.specs.declared.Found.the-variants.{Nothing}
 use Rattle.layout.proofs.Bools.{and-both}
-use Rattle.layout.proofs.Walk.{rest-cons, size-at, whole-length, size-room}
-use Rattle.program.specs.Program.{Line, Block, Version, Program, View, lineOf, nowhere, program, findVersion, view}
+use Rattle.layout.proofs.Walk.{rest-cons, size-at, whole-length}
+use Rattle.program.specs.Program.{Line, Block, Version, Program, View, blockOf, lineOf, versionOf, nowhere, program, findVersion}
 use Rattle.program.specs.Places.{viewAt, past, versionAt, blockAt}
 use Rattle.program.proofs.Laid.{passed}
 use Rattle.program.proofs.Views.{view-end, Whole, at-version, at-block, at-line}
-use Rattle.soundness.specs.Alike.{SameCode, SameBlock, SameBlocks, Alike}
+use Rattle.runs.specs.Alike.{bareLine, bareBlock, Alike}
 use Rattle.machine.specs.Changes.{startOf, slice, bytesIn}
 
 -- ---- lists
@@ -165,20 +163,32 @@ ahead-fuel s (suc m) p f h q = ahead-step s p h (see s p q) (λ p′ l l′ q′
 ahead-in : (s : List ℕ) (p : ℕ) → p ≤ length s → question2 (rest s p) ≡ Nothing → AheadIn s p
 ahead-in s p h q = ahead-fuel s (length s - p) p (omega arith) h q
 
+-- ---- records with the same body make the same, but for offsets
+
+block-alike : (r q : Rec) (ls ms : List Line) → r .body ≡ q .body → map bareLine ls ≡ map bareLine ms → bareBlock (blockOf r ls) ≡ bareBlock (blockOf q ms)
+block-alike r q ls ms e f =
+    ap (λ (b : List ℕ). record { at = 0; mark = b ! 0; result = b ! 1; code = map bareLine ls }) e ∙ ap (λ (c : List Line). record { at = 0; mark = q .body ! 0; result = q .body ! 1; code = c }) f
+
+version-alike : (r q : Rec) (xs ys : List Block) → r .body ≡ q .body → map bareBlock xs ≡ map bareBlock ys → Alike (versionOf r xs) (versionOf q ys)
+unfolding Alike
+version-alike r q xs ys e f = ap (λ (b : List ℕ). with-body b (map bareBlock xs)) e ∙ ap (with-body (q .body)) f
+  where
+    with-body : List ℕ → List Block → Version
+    with-body b blocks = record { at = 0; function = b ! 0; version = b ! 1; parameters = b ! 2; types = fields b 6 (b ! 3); return = b ! 4; blocks = blocks }
+
 -- ---- a version's part holds its blocks and instructions, and no other version
 
 record Shown (s : List ℕ) (a e i : ℕ) : Type 0 where
-  code : SameCode (viewAt s (a + i) .code) (viewAt (slice s a e) i .code)
-  blocks : SameBlocks (viewAt s (a + i) .blocks) (viewAt (slice s a e) i .blocks)
+  code : map bareLine (viewAt s (a + i) .code) ≡ map bareLine (viewAt (slice s a e) i .code)
+  blocks : map bareBlock (viewAt s (a + i) .blocks) ≡ map bareBlock (viewAt (slice s a e) i .blocks)
   alone : viewAt (slice s a e) i .versions ≡ []
 
 module _ (s : List ℕ) (a e : ℕ) (ae : a ≤ e) (es : e ≤ length s) where
   -- at its end
   shown-end : (i : ℕ) → a + i ≡ e → viewAt s (a + i) .code ≡ [] → viewAt s (a + i) .blocks ≡ [] → Shown s a e i
-  unfolding SameCode SameBlocks
   shown-end i h c b =
       let v = view-end (slice s a e) i (rw (part-length s a e ae es) (omega arith)) in
-      record { code = rw (c, v) tt; blocks = rw (b, v) tt; alone = rw v refl }
+      record { code = rw (c, v) refl; blocks = rw (b, v) refl; alone = rw v refl }
 
   -- what lies behind a record of it that is no VERSION
   record Behind (i : ℕ) : Type 0 where
@@ -186,8 +196,8 @@ module _ (s : List ℕ) (a e : ℕ) (ae : a ≤ e) (es : e ≤ length s) where
     whole : 0 < sizeAt (slice s a e) i
     kinds : kindAt (slice s a e) i ≡ kindAt s (a + i)
     body : bodyAt (slice s a e) i ≡ bodyAt s (a + i)
-    code : SameCode (viewAt s (past s (a + i)) .code) (viewAt (slice s a e) (past (slice s a e) i) .code)
-    blocks : SameBlocks (viewAt s (past s (a + i)) .blocks) (viewAt (slice s a e) (past (slice s a e) i) .blocks)
+    code : map bareLine (viewAt s (past s (a + i)) .code) ≡ map bareLine (viewAt (slice s a e) (past (slice s a e) i) .code)
+    blocks : map bareBlock (viewAt s (past s (a + i)) .blocks) ≡ map bareBlock (viewAt (slice s a e) (past (slice s a e) i) .blocks)
     alone : viewAt (slice s a e) (past (slice s a e) i) .versions ≡ []
 
   behind : (i : ℕ) → a + i < length s → 0 < sizeAt s (a + i) → question2 (rest s (past s (a + i))) ≡ Nothing → ahead s (past s (a + i)) ≡ e
@@ -210,21 +220,20 @@ module _ (s : List ℕ) (a e : ℕ) (ae : a ≤ e) (es : e ≤ length s) where
       }
 
   shown-block : (i : ℕ) → kindAt s (a + i) ≡ kind.BLOCK → viewAt s (a + i) ≡ record { code = []; blocks = blockAt s (a + i) ∷ viewAt s (past s (a + i)) .blocks; versions = viewAt s (past s (a + i)) .versions } → Behind i → Shown s a e i
-  unfolding SameCode SameBlocks blockAt
+  unfolding blockAt
   shown-block i k v n =
       let u = at-block (whole-here (slice s a e) i (n .inside) (n .whole)) (n .kinds ∙ k) in
       record {
-        code = rw (v, u) tt;
-        blocks = rw (v, u) (record { mark = ap (λ (l : List ℕ). l ! 0) (sym (n .body)); result = ap (λ (l : List ℕ). l ! 1) (sym (n .body)); code = n .code }, n .blocks);
+        code = rw (v, u) refl;
+        blocks = rw (v, u) (ap₂ (λ (x : Block) (xs : List Block). x ∷ xs) (block-alike (recAt s (a + i)) (recAt (slice s a e) i) (viewAt s (past s (a + i)) .code) (viewAt (slice s a e) (past (slice s a e) i) .code) (sym (n .body)) (n .code)) (n .blocks));
         alone = rw u (n .alone);
       }
 
   shown-line : (i : ℕ) → (kindAt s (a + i) ≡ kind.VERSION → ⊥) → (kindAt s (a + i) ≡ kind.BLOCK → ⊥) → viewAt s (a + i) ≡ record { code = lineOf (recAt s (a + i)) ∷ viewAt s (past s (a + i)) .code; blocks = viewAt s (past s (a + i)) .blocks; versions = viewAt s (past s (a + i)) .versions } → Behind i → Shown s a e i
-  unfolding SameCode
   shown-line i k b v n =
       let u = at-line (whole-here (slice s a e) i (n .inside) (n .whole)) (λ z. k (sym (n .kinds) ∙ z)) (λ z. b (sym (n .kinds) ∙ z)) in
       record {
-        code = rw (v, u) (rw (n .kinds, n .body) refl, n .code);
+        code = rw (v, u) (rw (n .kinds, n .body) (ap (λ (c : List Line). bareLine (lineOf (recAt s (a + i))) ∷ c) (n .code)));
         blocks = rw (v, u) (n .blocks);
         alone = rw u (n .alone);
       }
@@ -261,14 +270,7 @@ own-version s p l w q k =
     record {
       version = versionAt (slice s p e) 0;
       only = ap (λ (x : View). x .versions) u ∙ ap (λ (l : Program). versionAt (slice s p e) 0 ∷ l) (n .alone);
-      alike = record {
-        function = ap (λ (l : List ℕ). l ! 0) (sym body);
-        version = ap (λ (l : List ℕ). l ! 1) (sym body);
-        parameters = ap (λ (l : List ℕ). l ! 2) (sym body);
-        types = ap (λ (l : List ℕ). fields l 6 (l ! 3)) (sym body);
-        return = ap (λ (l : List ℕ). l ! 4) (sym body);
-        blocks = rw z at (n .blocks);
-      };
+      alike = version-alike (recAt s p) (recAt (slice s p e) 0) (viewAt s (past s p) .blocks) (viewAt (slice s p e) (past (slice s p e) 0) .blocks) (sym body) (rw z at (n .blocks));
     }
 
 at-own : (s : List ℕ) (p : ℕ) → versionAt s p .at ≡ p

@@ -29,7 +29,7 @@ use Rattle.machine.specs.Try.{got, orStuck, each}
 use Rattle.machine.specs.States as states
 use Rattle.machine.proofs.Matching.{matching-all, matching-at, same-length, same-at, same-freed, same-beside}
 use Rattle.machine.specs.Calls.{matching, sameOwnerships, dispatches, lowest, picked}
-use Rattle.machine.specs.Steps.{execute, registersOf}
+use Rattle.machine.specs.Steps.{execute, registersOf, executeTo}
 use Rattle.machine.specs.declared.Activation.{Activation}
 use Rattle.machine.specs.declared.State.{State}
 use Rattle.soundness.proofs.Cells.{frameAt, cellAt}
@@ -262,7 +262,7 @@ module _ (P : Program) (sure : Sure P) (s : State) (a : Activation) (rest : List
         (all-registers (λ (r : ℕ). registerExists Y r) (given C rs) rs (b .1) (and-both _ _ (and-both _ _ found-exists .1) .0)) (and-both _ _ found-exists .0) found-fits (b .0) (rw (b .1) matches) refl (within-same _) mark-le)
 
     call-opens : Good (Inv P) (execute P s (a .frame) (frameAt (s .frames) (a .frame)) (versionAt P (s .frames) (a .frame)) (CALL d g w rs))
-    unfolding execute orStuck
+    unfolding executeTo orStuck
     call-opens =
         good-got (Inv P) _ C _ (rw e refl) (good-got (Inv P) _ _ _ (values-got P sure s a rest l W (CALL d g w rs) is rs there-at) (good-got (Inv P) _ _ _ (kinds-got P sure s a rest l W (CALL d g w rs) is rs there-at)
         (good-test (Inv P) _ _ matches (enters P sure s a rest l W C rs d call-rules))))
@@ -332,7 +332,7 @@ module _ (P : Program) (sure : Sure P) (s : State) (a : Activation) (rest : List
       call-enters P sure s a rest l W (DISPATCH d g mark ret pairs) is C pairs d ret refl (h .0) (pairs-exist .1) (pairs-exist .0) (fits-i P sure s a rest l W _ is) (x .0) (u .1) (eqb-true _ _ (y .0)) (z .0) (omega (arith, mark-within, leb-true (markOf C) mark (u .0)))
 
   pub dispatch-step : Stepped P sure s a rest l W (DISPATCH d g mark ret pairs)
-  unfolding execute picked
+  unfolding executeTo picked
   dispatch-step =
       good-got (Inv P) _ _ _ (values-got P sure s a rest l W (DISPATCH d g mark ret pairs) is (registersOf pairs) pairs-there) (good-got (Inv P) _ _ _ (kinds-got P sure s a rest l W (DISPATCH d g mark ret pairs) is (registersOf pairs) pairs-there)
       (good-then (Inv P) _ _ _ (lowest-ok P g _ VERSIONS 0) (λ C h. enters P sure s a rest l W C (registersOf pairs) d (dispatch-rules C h))))

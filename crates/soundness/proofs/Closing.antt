@@ -20,7 +20,7 @@ use Rattle.rules.specs.Fits.{typeOf}
 use Rattle.machine.specs.Try.{Try, got, stuck, stop, _>>=_, orStuck, at}
 use Rattle.machine.specs.States.{register, named, withEnd}
 use Rattle.machine.specs.Steps.{advance}
-use Rattle.machine.specs.Runs.{saying, settled, stepIn, stepOf, continued, runFrom, budgetIn, longEnough, budgetOf}
+use Rattle.machine.specs.Runs.{saying, settled, stepIn, stepInTo, stepOf, stepOfTo, continued, runFrom, runFromTo, budgetIn, budgetInTo, longEnough, budgetOf, budgetOfTo}
 use Rattle.machine.specs.Events.{onward, triedUnder, triedIn, triedBy}
 use Rattle.machine.specs.declared.End.{End}
 use Rattle.machine.specs.declared.Frame.{Frame}
@@ -58,7 +58,7 @@ module _ (P : Program) (safe : StepSafe P) where
 
   -- the single step
   pub step-keeps : (s : State) → Inv P s → Inv P (stepOf P s .state)
-  unfolding stepOf stepIn
+  unfolding stepOfTo stepInTo
   step-keeps s inv = go (s .status) refl
     where
       go : (st : Status) → s .status ≡ st → Inv P (stepIn P s st .state)
@@ -73,24 +73,24 @@ module _ (P : Program) (safe : StepSafe P) where
 
   -- steps under a budget
   pub run-keeps : (m : ℕ) (s : State) (n : ℕ) → Inv P s → Inv P (runFrom P m s n .state)
-  unfolding runFrom
+  unfolding runFromTo
   run-keeps zero s n inv = inv
   run-keeps (suc m) s n inv = continued-keeps (stepOf P s .state) (stepOf P s .said) n (λ t. runFrom P m t (n + 1)) (step-keeps s inv) (λ t i. run-keeps m t (n + 1) i)
 
   -- a budget that is not refused
   budget-in-keeps : (s : State) (n : ℕ) (st : Status) → Inv P s → Inv P (budgetIn P s n st .state)
-  unfolding budgetIn
+  unfolding budgetInTo
   budget-in-keeps s n Status.Running inv = run-keeps n s 0 inv
   budget-in-keeps s n (Status.Ended e) inv = inv
 
   -- any budget
   pub budget-keeps : (s : State) (n : ℕ) (buffer : List ℤ) → Inv P s → Inv P (budgetOf P s n buffer .state)
-  unfolding budgetOf
+  unfolding budgetOfTo
   budget-keeps s n buffer inv = go (longEnough buffer) refl
     where
       go : (b : Bool) → longEnough buffer ≡ b → Inv P (budgetOf P s n buffer .state)
-      go true e = rw (e, budgetOf) (budget-in-keeps s n (s .status) inv)
-      go false e = rw (e, budgetOf) inv
+      go true e = rw (e, budgetOfTo) (budget-in-keeps s n (s .status) inv)
+      go false e = rw (e, budgetOfTo) inv
 
 -- ---- every state in which a step was tried has the invariant
 
@@ -151,7 +151,7 @@ module _ (P : Program) (safe : StepSafe P) where
 
   -- so no step of a state with the invariant is
   pub step-unstuck : (s : State) → Inv P s → stepOf P s .said ≢ Said.Stuck
-  unfolding stepOf stepIn
+  unfolding stepOfTo stepInTo
   step-unstuck s inv = go (s .status) refl
     where
       go : (st : Status) → s .status ≡ st → stepIn P s st .said ≢ Said.Stuck

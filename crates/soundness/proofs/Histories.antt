@@ -8,7 +8,7 @@ use Rattle.checker.specs.declared.Verdict.{Verdict}
 use Rattle.checker.proofs.Accepted.{checked}
 use Rattle.machine.specs.Begin.{refused, beginAfter, beginOf, programOf}
 use Rattle.machine.specs.Changes.{changeOf}
-use Rattle.machine.specs.Events.{Run, Event, single, budget, change, programIn, inState, inForce, handle, after, triedBy, tried, history}
+use Rattle.machine.specs.Events.{Run, Event, single, budget, change, programIn, inState, inForce, handle, handleTo, after, afterTo, triedBy, tried, history}
 use Rattle.machine.specs.declared.Changed.{Changed}
 use Rattle.machine.specs.declared.Entry.{Entry}
 use Rattle.machine.specs.declared.State.{State}
@@ -51,13 +51,13 @@ changed new r o Changed.Taken e =
 changed new r o (Changed.Refused q p) e = o
 
 pub handle-keeps : (e : Event) (r : Run) → Sound r → Sound (handle e r .run)
-unfolding handle
+unfolding handleTo
 handle-keeps single r o = moved r o _ (step-keeps (programIn r) (safe-of r o) (r .state) (o .inv))
 handle-keeps (budget n buffer) r o = moved r o _ (budget-keeps (programIn r) (safe-of r o) (r .state) n buffer (o .inv))
 handle-keeps (change new) r o = changed new r o (changeOf (r .image) new (r .state)) refl
 
 pub after-keeps : (es : List Event) (r : Run) → Sound r → Sound (after es r)
-unfolding after
+unfolding afterTo
 after-keeps [] r o = o
 after-keeps (e ∷ es) r o = after-keeps es (handle e r .run) (handle-keeps e r o)
 

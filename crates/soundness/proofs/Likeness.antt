@@ -22,8 +22,7 @@ use Rattle.rules.proofs.Calm.{blank}
 use Rattle.rules.proofs.Touches.{touched-by, promises-by}
 use Rattle.rules.proofs.Walked.{walked-at, walked-missing}
 use Rattle.layout.proofs.Lists.{get-none}
-use Rattle.soundness.specs.Alike.{SameCode, SameBlocks}
-use Rattle.soundness.proofs.Same.{code-take, code-length, block-there}
+use Rattle.soundness.proofs.Same.{SameCode, SameBlocks, code-take, code-length, block-there}
 
 -- they read, assign and capture the same
 pub record Like (a b : Action) : Type 0 where

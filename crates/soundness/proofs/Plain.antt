@@ -21,9 +21,9 @@ use Rattle.rules.specs.Fits.{typeOf, plain, fits}
 use Rattle.rules.specs.Actions.{touch, reads_empties_assigns_}
 use Rattle.rules.proofs.Rules.{move-shared}
 use Rattle.machine.specs.Try.{got, at}
-use Rattle.machine.specs.Values.{ranged, divided, arith as arithmetic, index}
+use Rattle.machine.specs.Values.{ranged, divided, arith as arithmetic, arithTo, index, rangedTo, dividedTo}
 use Rattle.machine.specs.States.{VECTORS, newVector, assign}
-use Rattle.machine.specs.Steps.{execute}
+use Rattle.machine.specs.Steps.{execute, executeTo}
 use Rattle.machine.specs.declared.Activation.{Activation}
 use Rattle.machine.specs.declared.State.{State}
 use Rattle.machine.specs.declared.Value.{Value}
@@ -43,19 +43,19 @@ pub no-vector : (z : ℤ) (v : ℕ) → Value.Integer z ≡ Value.Vector v → �
 no-vector z v e = let q : _≡_ {A = ℕ} 0 1 = cc in omega arith
 
 any-result : (z : ℤ) → Good (λ (_ : ℤ). Unit {0}) (ranged z)
-unfolding ranged
+unfolding rangedTo
 any-result z = good-end (λ (_ : ℤ). Unit {0}) _ _ (got z) (λ _. done)
   where
     done : Good (λ (_ : ℤ). Unit {0}) (got z)
     done = good (λ (_ : ℤ). Unit {0}) (got z) z refl tt
 
 any-quotient : (x y : ℤ) → Good (λ (_ : ℤ). Unit {0}) (divided x y)
-unfolding divided
+unfolding dividedTo
 any-quotient x y = good-end (λ (_ : ℤ). Unit {0}) _ _ (ranged _) (λ _. any-result _)
 
 -- an operation that exists is not stuck
 pub arith-ok : (op : ℕ) (x y : ℤ) → ltb op OPERATIONS ≡ true → Good (λ (_ : ℤ). Unit {0}) (arithmetic op x y)
-unfolding arithmetic choose
+unfolding arithTo choose
 arith-ok op x y h = go op (ltb-true op OPERATIONS h)
   where
     go : (op : ℕ) → op < 5 → Good (λ (_ : ℤ). Unit {0}) (arithmetic op x y)
@@ -93,11 +93,11 @@ module _ (P : Program) (sure : Sure P) (s : State) (a : Activation) (rest : List
         (shared-lone P sure s a rest l W k c (a .frame) d hk hs (rw (type-is P sure s a rest l W d (place-in P sure s a rest l W d ed)) hd))
 
   pub lit : (d : ℕ) (z : ℤ) → l .does ≡ LIT d z → Stepped (LIT d z)
-  unfolding execute fits exists touch
+  unfolding executeTo fits exists touch
   lit d z is = gives-integer (LIT d z) is [] d refl (exists-i P sure s a rest l W _ is) (fits-i P sure s a rest l W _ is) z
 
   pub move : (d r : ℕ) → l .does ≡ MOVE d r → Stepped (MOVE d r)
-  unfolding execute fits exists touch
+  unfolding executeTo fits exists touch
   move d r is =
       let x = and-both _ _ (exists-i P sure s a rest l W _ is) in
       let t = move-shared P X (a .block) d r (fits-i P sure s a rest l W _ is) in
@@ -115,7 +115,7 @@ module _ (P : Program) (sure : Sure P) (s : State) (a : Activation) (rest : List
   vector-at v h = (getD (s .vectors) v (newVector []), at-in (s .vectors) v (newVector []) (omega (arith, W .vectors)))
 
   pub len : (d r : ℕ) → l .does ≡ LEN d r → Stepped (LEN d r)
-  unfolding execute fits exists touch
+  unfolding executeTo fits exists touch
   len d r is =
       let x = and-both _ _ (exists-i P sure s a rest l W _ is) in
       let t = and-both _ _ (fits-i P sure s a rest l W _ is) in
@@ -124,7 +124,7 @@ module _ (P : Program) (sure : Sure P) (s : State) (a : Activation) (rest : List
       good-got (Inv P) _ (v .0) _ (v .1) (good-got (Inv P) _ (w .0) _ (w .1) (gives-integer (LEN d r) is (r ∷ []) d refl (x .0) (t .1) _))
 
   pub get : (d r j : ℕ) → l .does ≡ GET d r j → Stepped (GET d r j)
-  unfolding execute fits exists touch
+  unfolding executeTo fits exists touch
   get d r j is =
       let x = and-both _ _ (exists-i P sure s a rest l W _ is) in
       let y = and-both _ _ (x .1) in
@@ -137,7 +137,7 @@ module _ (P : Program) (sure : Sure P) (s : State) (a : Activation) (rest : List
       (good-then (Inv P) (λ (_ : ℕ). Unit {0}) _ _ (index-ok (z .0) _) (λ n _. gives-integer (GET d r j) is (r ∷ j ∷ []) d refl (x .0) (u .1) _))))
 
   pub arith-step : (d op b c : ℕ) → l .does ≡ ARITH d op b c → Stepped (ARITH d op b c)
-  unfolding execute fits exists touch instrBounded
+  unfolding executeTo fits exists touch instrBounded
   arith-step d op b c is =
       let x = and-both _ _ (exists-i P sure s a rest l W _ is) in
       let y = and-both _ _ (x .1) in
@@ -149,7 +149,7 @@ module _ (P : Program) (sure : Sure P) (s : State) (a : Activation) (rest : List
       (good-then (Inv P) (λ (_ : ℤ). Unit {0}) _ _ (arith-ok op (m .0) (n .0) (bounded-i P sure s a rest l W _ is)) (λ z _. gives-integer (ARITH d op b c) is (b ∷ c ∷ []) d refl (x .0) (u .1) z)))
 
   pub select : (d b c e : ℕ) → l .does ≡ SELECT d b c e → Stepped (SELECT d b c e)
-  unfolding execute fits exists touch
+  unfolding executeTo fits exists touch
   select d b c e is =
       let x = and-both _ _ (exists-i P sure s a rest l W _ is) in
       let y = and-both _ _ (x .1) in
@@ -164,7 +164,7 @@ module _ (P : Program) (sure : Sure P) (s : State) (a : Activation) (rest : List
       good-got (Inv P) _ (m .0) _ (m .1) (good-got (Inv P) _ (n .0) _ (n .1) (good-got (Inv P) _ (o .0) _ (o .1) (gives-integer (SELECT d b c e) is rs d refl (x .0) (v .1) _)))
 
   pub cast : (d r : ℕ) → l .does ≡ CAST d r → Stepped (CAST d r)
-  unfolding execute fits exists touch
+  unfolding executeTo fits exists touch
   cast d r is =
       let x = and-both _ _ (exists-i P sure s a rest l W _ is) in
       let t = and-both _ _ (fits-i P sure s a rest l W _ is) in

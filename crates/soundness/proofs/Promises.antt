@@ -29,7 +29,7 @@ use Rattle.rules.proofs.Rules.{force-marked}
 use Rattle.machine.specs.Try.{at}
 use Rattle.machine.specs.States.{ACTIVATIONS, PROMISES, promiseCounts, freePromise, withPromise, withStack, assign}
 use Rattle.machine.specs.Calls.{opened, force}
-use Rattle.machine.specs.Steps.{execute}
+use Rattle.machine.specs.Steps.{executeTo}
 use Rattle.machine.specs.declared.Activation.{Activation}
 use Rattle.machine.specs.declared.Cache.{Cache}
 use Rattle.machine.specs.declared.Frame.{Frame}
@@ -161,7 +161,7 @@ made P sure s a rest l W d b is p h =
     (lone-unless P (s .frames) (s .calls) (a .frame) d (Value.Promise p) (λ v e. let z : _≡_ {A = ℕ} 0 1 = cc in omega arith))
 
 pub prom : (P : Program) (sure : Sure P) (s : State) (a : Activation) (rest : List Activation) (l : Line) (W : At P s a rest l) (d b : ℕ) → l .does ≡ PROM d b → Stepped P sure s a rest l W (PROM d b)
-unfolding execute freePromise
+unfolding executeTo freePromise
 prom P sure s a rest l W d b is =
     good-next (Inv P) _ (blockAt (versionAt P (s .frames) (a .frame)) b) _ (at-some _ b _ (block-there P sure s a rest l W d b is))
     (good-then (Inv P) _ _ _ (free-ok _ (promiseCounts s) PROMISES 0) (made P sure s a rest l W d b is))
@@ -225,7 +225,7 @@ module _ (P : Program) (sure : Sure P) (s : State) (a : Activation) (rest : List
   forces p q Cache.Unforced hp f = good-end (Inv P) _ _ _ (λ _. opens p q hp f)
 
   pub force-step : Stepped P sure s a rest l W (FORCE d r)
-  unfolding execute exists fits touch
+  unfolding executeTo exists fits touch
   force-step =
       let er = and-both _ _ (exists-i P sure s a rest l W _ is) .1 in
       let p = promise-got P sure s a rest l W _ is r er (full-at P sure s a rest l W _ is (r ∷ []) [] (d ∷ []) refl 0 r refl er) (and-both _ _ (fits-i P sure s a rest l W _ is) .0) in

@@ -10,13 +10,13 @@ use lib.IntN.{ℤ}
 use Rattle.layout.specs.declared.Found.{Found}
 use Rattle.layout.specs.declared.Found.the-variants.{Nothing, At}
 use Rattle.program.specs.Program.{Version, Program, findVersion, parameterTypes}
-use Rattle.checker.specs.Verdicts.{ask, verdictOf}
+use Rattle.checker.specs.Verdicts.{ask, verdictOf, verdictIn}
 use Rattle.checker.specs.declared.Verdict.{Verdict}
 use Rattle.machine.specs.States.{over}
-use Rattle.machine.specs.Runs.{stepOf, lastStep, continued, runFrom, budgetIn, longEnough, budgetOf, written, bufferOf}
-use Rattle.machine.specs.Begin.{Given, arguments, refused, question11, question12, question13, enteredOf, beginAfter, beginOf, programOf, runAfter, runOf}
+use Rattle.machine.specs.Runs.{stepOf, lastStep, continued, runFrom, runFromTo, budgetIn, budgetInTo, longEnough, budgetOf, budgetOfTo, written, bufferOf}
+use Rattle.machine.specs.Begin.{Given, arguments, refused, question11, question12, question13, enteredOf, beginAfter, beginOf, programOf, runAfter, runAfterTo, runOfTo}
 use Rattle.machine.specs.Changes.{answer15, changedBy, changeAfter, changeOf}
-use Rattle.machine.specs.Events.{Run, Event, single, budget, change, programIn, handle, replies}
+use Rattle.machine.specs.Events.{Run, Event, single, budget, change, programIn, handle, handleTo, replies, repliesTo}
 use Rattle.machine.specs.declared.Answer.{Answer}
 use Rattle.machine.specs.declared.Begun.{Begun}
 use Rattle.machine.specs.declared.End.{End}
@@ -46,7 +46,7 @@ ask-numbered n (At p) more h l o m = (h, l, o)
 
 -- so do all questions to an image
 verdict-numbered : (image : List ℕ) → Numbered (verdictOf image)
-unfolding verdictOf Numbered
+unfolding verdictIn Numbered
 verdict-numbered image =
     ask-numbered 1 _ _ (omega arith) (omega arith) (λ x y. omega arith) (ask-numbered 2 _ _ (omega arith) (omega arith) (λ x y. omega arith) (ask-numbered 3 _ _ (omega arith) (omega arith) (λ x y. omega arith) (ask-numbered 4 _ _ (omega arith) (omega arith) (λ x y. omega arith) (ask-numbered 5 _ _ (omega arith) (omega arith) (λ x y. omega arith)
     (ask-numbered 6 _ _ (omega arith) (omega arith) (λ x y. omega arith) (ask-numbered 7 _ _ (omega arith) (omega arith) (λ x y. omega arith) (ask-numbered 14 _ _ (omega arith) (omega arith) (λ x y. omega arith) (ask-numbered 8 _ _ (omega arith) (omega arith) (λ x y. omega arith) (ask-numbered 9 _ _ (omega arith) (omega arith) (λ x y. omega arith) (ask-numbered 10 _ _ (omega arith) (omega arith) (λ x y. omega arith) tt))))))))))
@@ -141,7 +141,7 @@ took-more k m r t = record { answer = t .answer; inside = omega (arith, t .insid
 
 -- a run of a safe program, by what its first step says
 run-took : (P : Program) → StepSafe P → (m : ℕ) (s : State) (k : ℕ) → Inv P s → Took k m (runFrom P m s k)
-unfolding runFrom continued
+unfolding runFromTo continued
 run-took P safe zero s k inv = took-steps k s
 run-took P safe (suc m) s k inv = go (stepOf P s .said) refl (run-took P safe m (stepOf P s .state) (k + 1) (step-keeps P safe s inv))
   where
@@ -162,7 +162,7 @@ refused-told n buffer s q p h = record { answer = isRefused q p h; inside = omeg
 
 -- and any budget on a state with the invariant
 pub budget-told : (P : Program) → StepSafe P → (s : State) (n : ℕ) (buffer : List ℤ) → Inv P s → Told n buffer (budgetOf P s n buffer)
-unfolding budgetOf budgetIn
+unfolding budgetOfTo budgetInTo
 budget-told P safe s n buffer inv = long (longEnough buffer) refl
   where
     inner : (st : Status) → Told n buffer (budgetIn P s n st)
@@ -170,12 +170,12 @@ budget-told P safe s n buffer inv = long (longEnough buffer) refl
     inner (Status.Ended e) = took-told n buffer _ (took-end 0 n 0 s e (omega arith))
 
     long : (b : Bool) → longEnough buffer ≡ b → Told n buffer (budgetOf P s n buffer)
-    long true e = rw (e, budgetOf) (inner (s .status))
-    long false e = rw (e, budgetOf) (refused-told n buffer s 13 0 (late 13 (omega arith) (omega arith)))
+    long true e = rw (e, budgetOfTo) (inner (s .status))
+    long false e = rw (e, budgetOfTo) (refused-told n buffer s 13 0 (late 13 (omega arith) (omega arith)))
 
 -- and only 13 refuses it
 refused-13 : (P : Program) → StepSafe P → (s : State) (n : ℕ) (buffer : List ℤ) → Inv P s → (q p : ℕ) → budgetOf P s n buffer .answer ≡ Answer.Refused q p → (q ≡ 13) × (p ≡ 0)
-unfolding budgetOf budgetIn
+unfolding budgetOfTo budgetInTo
 refused-13 P safe s n buffer inv q p = long (longEnough buffer) refl
   where
     inner : (st : Status) → budgetIn P s n st .answer ≡ Answer.Refused q p → (q ≡ 13) × (p ≡ 0)
@@ -183,12 +183,12 @@ refused-13 P safe s n buffer inv q p = long (longEnough buffer) refl
     inner (Status.Ended x) e = let z : _≡_ {A = ℕ} 0 1 = cc in absurd (omega arith)
 
     long : (b : Bool) → longEnough buffer ≡ b → budgetOf P s n buffer .answer ≡ Answer.Refused q p → (q ≡ 13) × (p ≡ 0)
-    long true e = rw (e, budgetOf) (inner (s .status))
-    long false e = rw (e, budgetOf) (λ h. (cc, cc))
+    long true e = rw (e, budgetOfTo) (inner (s .status))
+    long false e = rw (e, budgetOfTo) (λ h. (cc, cc))
 
 -- THE LAW: every run from the start has a result
 pub results : Results
-unfolding Results runOf runAfter Entered
+unfolding Results runOfTo runAfterTo Entered
 results image f v words n buffer = go (beginOf image f v words buffer .entry) refl (begin-entered image f v words buffer)
   where
     s : State
@@ -214,13 +214,13 @@ outcome old new s = go (verdictOf new) (verdict-numbered new)
     go (Verdict.Accepted n) m = by15 (answer15 old new s)
 
 listed : (e : Event) (r : Run) → Sound r → Listed e (handle e r .reply)
-unfolding handle
+unfolding handleTo
 listed single r o = steps _ (step-unstuck (programIn r) (safe-of r o) (r .state) (o .inv))
 listed (budget n buffer) r o = gives n buffer (budgetOf (programIn r) (r .state) n buffer) (budget-told (programIn r) (safe-of r o) (r .state) n buffer (o .inv)) (refused-13 (programIn r) (safe-of r o) (r .state) n buffer (o .inv))
 listed (change new) r o = changes new _ (outcome (r .image) new (r .state))
 
 all-listed : (es : List Event) (r : Run) → Sound r → AllListed es (replies es r)
-unfolding replies
+unfolding repliesTo
 all-listed [] r o = end
 all-listed (e ∷ es) r o = next e _ es _ (listed e r o) (all-listed es (handle e r .run) (handle-keeps e r o))
 

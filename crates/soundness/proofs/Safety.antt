@@ -8,7 +8,7 @@ use lib.ListN.{getElem?, length-set}
 use Rattle.program.specs.Program.{Instr, LIT, MOVE, USE, DUP, VEC, LEN, GET, SET, ARITH, SELECT, CAST, NAMED, STORE, PROM, FORCE, PEEK, POKE, CALL, DISPATCH, SKIP, Line, Program}
 use Rattle.machine.specs.States.{withStack}
 use Rattle.machine.specs.Calls.{passed}
-use Rattle.machine.specs.Steps.{position, proceed}
+use Rattle.machine.specs.Steps.{position, proceed, proceedTo}
 use Rattle.machine.specs.declared.Activation.{Activation}
 use Rattle.machine.specs.declared.State.{State}
 use Rattle.machine.specs.declared.Status.{Status}
@@ -71,7 +71,7 @@ module _ (P : Program) (sure : Sure P) (s : State) (inv : Inv P s) (run : s .sta
       }
 
   steps : Standing (blockAt (versionAt P (s .frames) (topOf s h .frame)) (topOf s h .block) .code) (topOf s h .next) → Good (Inv P) (proceed P s (hereOf P s h) (position (blockAt (versionAt P (s .frames) (topOf s h .frame)) (topOf s h .block) .code) (topOf s h .next)))
-  unfolding proceed passed withStack
+  unfolding proceedTo passed withStack
   steps (at-line l e p) = rw p (executes P sure (passed s (topOf s h)) (topOf s h) (stackOf (s .activations) h) l (at-instruction l e) (l .does) refl)
   steps (at-end e n p) =
       let t = at-top P s inv run h d in

@@ -1,12 +1,69 @@
 -- Lists of the same instructions and of the same blocks, by number.
 use mathlib.Core.Path.{_≡_, refl, ap}
-use mathlib.Core.List.{List, [], _∷_}
+use mathlib.Core.List.{List, [], _∷_, map}
 use mathlib.Core.Option.{none, some}
 use Prim.Native.Nat.{ℕ, zero, suc}
 use native.Mathlib.Omega.{arith}
 use lib.ListN.{length, take, getElem?}
-use Rattle.program.specs.Program.{Line, Block}
-use Rattle.soundness.specs.Alike.{SameCode, SameBlock, SameBlocks}
+use Rattle.program.specs.Program.{Line, Block, Version}
+use Rattle.runs.specs.Alike.{bareLine, bareBlock, Alike}
+
+-- the same instructions
+unfoldable pub SameCode : List Line → List Line → Type 0
+SameCode [] [] = Unit {0}
+SameCode [] (m ∷ ms) = ⊥
+SameCode (l ∷ ls) [] = ⊥
+SameCode (l ∷ ls) (m ∷ ms) = (l .does ≡ m .does) × SameCode ls ms
+
+-- the same block
+pub record SameBlock (x y : Block) : Type 0 where
+  pub mark : x .mark ≡ y .mark
+  pub result : x .result ≡ y .result
+  pub code : SameCode (x .code) (y .code)
+
+-- the same blocks, in order
+unfoldable pub SameBlocks : List Block → List Block → Type 0
+SameBlocks [] [] = Unit {0}
+SameBlocks [] (y ∷ ys) = ⊥
+SameBlocks (x ∷ xs) [] = ⊥
+SameBlocks (x ∷ xs) (y ∷ ys) = SameBlock x y × SameBlocks xs ys
+
+-- ---- versions that are alike
+
+code-same : (ls ms : List Line) → map bareLine ls ≡ map bareLine ms → SameCode ls ms
+unfolding SameCode
+code-same [] [] h = tt
+code-same [] (m ∷ ms) h = let z : _≡_ {A = ℕ} 0 1 = cc in absurd (omega arith)
+code-same (l ∷ ls) [] h = let z : _≡_ {A = ℕ} 0 1 = cc in absurd (omega arith)
+code-same (l ∷ ls) (m ∷ ms) h =
+    let x : bareLine l ≡ bareLine m = cc in
+    let y : map bareLine ls ≡ map bareLine ms = cc in
+    (ap (λ (i : Line). i .does) x, code-same ls ms y)
+
+blocks-same : (xs ys : List Block) → map bareBlock xs ≡ map bareBlock ys → SameBlocks xs ys
+unfolding SameBlocks
+blocks-same [] [] h = tt
+blocks-same [] (y ∷ ys) h = let z : _≡_ {A = ℕ} 0 1 = cc in absurd (omega arith)
+blocks-same (x ∷ xs) [] h = let z : _≡_ {A = ℕ} 0 1 = cc in absurd (omega arith)
+blocks-same (x ∷ xs) (y ∷ ys) h =
+    let e : bareBlock x ≡ bareBlock y = cc in
+    let f : map bareBlock xs ≡ map bareBlock ys = cc in
+    (record { mark = ap (λ (b : Block). b .mark) e; result = ap (λ (b : Block). b .result) e; code = code-same (x .code) (y .code) (ap (λ (b : Block). b .code) e) }, blocks-same xs ys f)
+
+module _ (v w : Version) (h : Alike v w) where
+  pub same-types : v .types ≡ w .types
+  unfolding Alike
+  same-types = ap (λ (u : Version). u .types) h
+
+  pub same-return : v .return ≡ w .return
+  unfolding Alike
+  same-return = ap (λ (u : Version). u .return) h
+
+  pub same-blocks : SameBlocks (v .blocks) (w .blocks)
+  unfolding Alike
+  same-blocks = blocks-same (v .blocks) (w .blocks) (ap (λ (u : Version). u .blocks) h)
+
+-- ---- by number
 
 -- up to an instruction
 pub code-take : (i : ℕ) (ls ms : List Line) → SameCode ls ms → SameCode (take i ls) (take i ms)

@@ -26,7 +26,7 @@ use Rattle.machine.specs.Try.{Try, got, at}
 use Rattle.machine.specs.Values.{isZero}
 use Rattle.machine.specs.States.{liveActivations, withStack}
 use Rattle.machine.specs.Calls.{skipped}
-use Rattle.machine.specs.Steps.{execute}
+use Rattle.machine.specs.Steps.{executeTo}
 use Rattle.machine.specs.declared.Activation.{Activation}
 use Rattle.machine.specs.declared.State.{State}
 use Rattle.machine.proofs.Tries.{at-some}
@@ -126,7 +126,7 @@ module _ (P : Program) (sure : Sure P) (s : State) (a : Activation) (rest : List
   either-way false = good (Inv P) _ s refl next-inv
 
   pub skip-step : Stepped P sure s a rest l W (SKIP c n)
-  unfolding execute exists fits
+  unfolding executeTo exists fits
   skip-step =
       let e = exists-i P sure s a rest l W _ is in
       let z = integer-got P sure s a rest l W _ is c e (operand P sure s a rest l W c (ap (λ (x : Action). has (x .R) c) now-is ∙ has-those 16 (c ∷ []) 0 c (place-in P sure s a rest l W c e) refl)) (fits-i P sure s a rest l W _ is) in

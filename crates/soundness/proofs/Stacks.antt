@@ -14,7 +14,7 @@ use lib.Seq.{getD-set-same, getD-set-other}
 use Rattle.program.specs.Program.{Line, Program}
 use Rattle.machine.specs.Try.{got, _>>=_, orStuck, at}
 use Rattle.machine.specs.States.{liveActivations}
-use Rattle.machine.specs.Steps.{Here, here, instruction, blockEnd, position, positionOf, proceed, advance}
+use Rattle.machine.specs.Steps.{Here, here, instruction, blockEnd, position, positionOf, proceed, advance, advanceTo}
 use Rattle.machine.specs.declared.Activation.{Activation}
 use Rattle.machine.specs.declared.Opener.{Opener}
 use Rattle.machine.specs.declared.State.{State}
@@ -97,7 +97,7 @@ module _ (P : Program) (s : State) (inv : Inv P s) (run : s .status ≡ Status.R
 
   -- so the step proceeds from there
   pub advance-is : advance P s ≡ proceed P s (hereOf P s h) (positionOf (hereOf P s h))
-  unfolding advance _>>=_
+  unfolding advanceTo _>>=_
   advance-is = rw here-is refl
 
 -- ---- positions

@@ -13,7 +13,7 @@ use Rattle.layout.specs.Tests.{_and_, found}
 use Rattle.layout.specs.declared.Found.{Found}
 use Rattle.layout.specs.declared.Found.the-variants.{Nothing, At}
 use Rattle.layout.proofs.Bools.{and-both}
-use Rattle.program.specs.Program.{Line, Block, Version, findVersion}
+use Rattle.program.specs.Program.{Version, findVersion}
 use Rattle.program.specs.Search.{first}
 use Rattle.program.proofs.Held.{holds, find-numbers}
 use Rattle.checker.specs.Verdicts.{verdictOf}
@@ -29,61 +29,18 @@ use Rattle.soundness.specs.Claim.{Live}
 use Rattle.soundness.proofs.Cells.{Sized, noFrame, frameAt}
 use Rattle.layout.proofs.Lists.{get-take, get-some}
 use Rattle.soundness.proofs.Invariant.{orNone, versionAt, Inv}
-use Rattle.soundness.specs.Alike.{SameCode, SameBlocks, Alike}
+use Rattle.runs.specs.Alike.{bare, Alike}
 use Rattle.machine.specs.Changes.{bytesOf, sameBytes, isLive, sameIn, question15, allThere, missing, answer15, changedBy, changeAfter, changeOf}
 use Rattle.soundness.proofs.Bytes.{Own, own}
 use Rattle.soundness.proofs.Transfer.{Agree}
 
--- ---- alike is symmetric and transitive
-
-code-sym : (ls ms : List Line) → SameCode ls ms → SameCode ms ls
-unfolding SameCode
-code-sym [] [] h = tt
-code-sym [] (m ∷ ms) h = absurd h
-code-sym (l ∷ ls) [] h = absurd h
-code-sym (l ∷ ls) (m ∷ ms) h = (sym (h .0), code-sym ls ms (h .1))
-
-blocks-sym : (xs ys : List Block) → SameBlocks xs ys → SameBlocks ys xs
-unfolding SameBlocks
-blocks-sym [] [] h = tt
-blocks-sym [] (y ∷ ys) h = absurd h
-blocks-sym (x ∷ xs) [] h = absurd h
-blocks-sym (x ∷ xs) (y ∷ ys) h = (record { mark = sym (h .0 .mark); result = sym (h .0 .result); code = code-sym (x .code) (y .code) (h .0 .code) }, blocks-sym xs ys (h .1))
-
-code-trans : (ls ms ns : List Line) → SameCode ls ms → SameCode ms ns → SameCode ls ns
-unfolding SameCode
-code-trans [] [] ns h g = g
-code-trans [] (m ∷ ms) ns h g = absurd h
-code-trans (l ∷ ls) [] ns h g = absurd h
-code-trans (l ∷ ls) (m ∷ ms) [] h g = absurd g
-code-trans (l ∷ ls) (m ∷ ms) (n ∷ ns) h g = (h .0 ∙ g .0, code-trans ls ms ns (h .1) (g .1))
-
-blocks-trans : (xs ys zs : List Block) → SameBlocks xs ys → SameBlocks ys zs → SameBlocks xs zs
-unfolding SameBlocks
-blocks-trans [] [] zs h g = g
-blocks-trans [] (y ∷ ys) zs h g = absurd h
-blocks-trans (x ∷ xs) [] zs h g = absurd h
-blocks-trans (x ∷ xs) (y ∷ ys) [] h g = absurd g
-blocks-trans (x ∷ xs) (y ∷ ys) (z ∷ zs) h g =
-    (record { mark = h .0 .mark ∙ g .0 .mark; result = h .0 .result ∙ g .0 .result; code = code-trans (x .code) (y .code) (z .code) (h .0 .code) (g .0 .code) }, blocks-trans xs ys zs (h .1) (g .1))
-
--- both are like a third
-alike-both : (v w u : Version) → Alike v u → Alike w u → Alike v w
-alike-both v w u h g = record {
-  function = h .function ∙ sym (g .function);
-  version = h .version ∙ sym (g .version);
-  parameters = h .parameters ∙ sym (g .parameters);
-  types = h .types ∙ sym (g .types);
-  return = h .return ∙ sym (g .return);
-  blocks = blocks-trans (v .blocks) (u .blocks) (w .blocks) (h .blocks) (blocks-sym (w .blocks) (u .blocks) (g .blocks));
-}
-
 -- versions whose bytes are the same are alike
 own-alike : (v w : Version) (b : List ℕ) → Own v b → Own w b → Alike v w
+unfolding Alike
 own-alike v w b x y =
     let e : x .version ∷ [] ≡ y .version ∷ [] = sym (x .only) ∙ y .only in
     let h : x .version ≡ y .version = cc in
-    alike-both v w (y .version) (rw h at (x .alike)) (y .alike)
+    x .alike ∙ ap bare h ∙ sym (y .alike)
 
 -- ---- what question 15 found
 

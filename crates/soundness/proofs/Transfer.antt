@@ -27,8 +27,8 @@ use Rattle.machine.specs.declared.Value.{Value}
 use Rattle.soundness.proofs.Cells.{frameAt, cellAt}
 use Rattle.soundness.proofs.Stacks.{opened-live, below-le}
 use Rattle.soundness.proofs.Invariant.{Sure, versionAt, blockAt, promiseAt, cellType, typeAt, touches, Alive, kindAt, PromiseFits, Fits, Unshared, Heap, Pend, top, waits, Gets, Keeps, Stands, below, gives, awaited, Stack, Inv, noBlock}
-use Rattle.soundness.specs.Alike.{SameBlock, Alike}
-use Rattle.soundness.proofs.Same.{code-length, code-there, code-missing, block-there}
+use Rattle.runs.specs.Alike.{Alike}
+use Rattle.soundness.proofs.Same.{SameBlock, same-types, same-return, same-blocks, code-length, code-there, code-missing, block-there}
 use Rattle.soundness.proofs.Likeness.{Like, skips-same, like-blocks, like-instr, like-place}
 use Rattle.soundness.proofs.Defined.{defined}
 
@@ -39,13 +39,13 @@ module _ (P Q : Program) (v w : Version) (cp : Checked P v) (cq : Checked Q w) (
   block-same : (b : ℕ) (x : Block) → getElem? (v .blocks) b ≡ some x → (getElem? (w .blocks) b ≡ some (blockAt w b)) × SameBlock (blockAt v b) (blockAt w b)
   unfolding blockAt
   block-same b x e =
-      let t = block-there (v .blocks) (w .blocks) b x (same .blocks) e in
+      let t = block-there (v .blocks) (w .blocks) b x (same-blocks v w same) e in
       let p : getD (v .blocks) b noBlock ≡ x = get-in (v .blocks) b noBlock x e .1 in
       let q : getD (w .blocks) b noBlock ≡ t .0 = get-in (w .blocks) b noBlock (t .0) (t .1) .1 in
       (rw q (t .1), rw (p, q) (t .2))
 
   like : (b : ℕ) (a a′ : Action) → blockAction P v b ≡ some a → blockAction Q w b ≡ some a′ → Like a a′
-  like b = like-blocks P Q v w (promise-empties-nothing P v (cp .fit)) (promise-empties-nothing Q w (cq .fit)) (same .blocks) b
+  like b = like-blocks P Q v w (promise-empties-nothing P v (cp .fit)) (promise-empties-nothing Q w (cq .fit)) (same-blocks v w same) b
 
   -- what a block does under the second program
   pub record DoesToo (b : ℕ) (a : Action) : Type 0 where
@@ -73,7 +73,7 @@ module _ (P Q : Program) (v w : Version) (cp : Checked P v) (cq : Checked Q w) (
           let t = code-there (blockAt v b .code) (blockAt w b .code) i m (x .code) e in
           let h = reached d i in
           let n = met d i (t .0) (h .done) (t .1) (h .is-done) in
-          (t .0, n .now, t .1, n .is-now, t .2, like-instr P Q v w (promise-empties-nothing P v (cp .fit)) (promise-empties-nothing Q w (cq .fit)) (same .blocks) b (t .0 .does) (n .now) now′ (n .is-now) (ap (acts Q w b) (t .2) ∙ f))
+          (t .0, n .now, t .1, n .is-now, t .2, like-instr P Q v w (promise-empties-nothing P v (cp .fit)) (promise-empties-nothing Q w (cq .fit)) (same-blocks v w same) b (t .0 .does) (n .now) now′ (n .is-now) (ap (acts Q w b) (t .2) ∙ f))
 
       go : (i : ℕ) → Needed Q w b (blockAt w b) r i → Needed P v b (blockAt v b) r i
       go i (yielded _ e h) = yielded i (code-missing (blockAt v b .code) (blockAt w b .code) i (x .code) e) (ap (λ (k : ℕ). has (those 16 (k ∷ [])) r) (x .result) ∙ h)
@@ -98,17 +98,17 @@ module _ (P Q : Program) (v w : Version) (cp : Checked P v) (cq : Checked Q w) (
 
   type-same : (c : ℕ) → cellType v c ≡ cellType w c
   unfolding cellType
-  type-same c = rw (same .types) refl
+  type-same c = rw (same-types v w same) refl
 
   gives-same : (o : Opener) → gives v o ≡ gives w o
   unfolding gives
-  gives-same Opener.Call = same .return
+  gives-same Opener.Call = same-return v w same
   gives-same (Opener.Force p) = refl
 
   gets-same : (b : ℕ) (pend : Pend) → blockAt v b .mark ≡ blockAt w b .mark → Gets v (blockAt v b .mark) pend → Gets w (blockAt w b .mark) pend
   unfolding Gets fitsReturn fresh
   gets-same b top m g = tt
-  gets-same b (waits d t k) m g = (rw (same .types) at (g .0), rw (same .types) at (g .1), omega (arith, m, g .2))
+  gets-same b (waits d t k) m g = (rw (same-types v w same) at (g .0), rw (same-types v w same) at (g .1), omega (arith, m, g .2))
 
 -- ---- the frames of a state, whose live versions are alike
 
@@ -178,7 +178,7 @@ module _ (P Q : Program) (sp : Sure P) (sq : Sure Q) (K : ℕ → ℕ → Bool) 
       let d = does-too P Q v w (old f h) (new f h) s b (a .action) (a .does) in
       let x = block-same P Q v w (old f h) (new f h) s b _ (a .does .there) .1 in
       let t = reached (d .does) i in
-      let l = like-place P Q v w (promise-empties-nothing P v (old f h .fit)) (promise-empties-nothing Q w (new f h .fit)) (s .blocks) b i _ _ (x .code) (a .done) (t .done) (a .is-done) (t .is-done) in
+      let l = like-place P Q v w (promise-empties-nothing P v (old f h .fit)) (promise-empties-nothing Q w (new f h .fit)) (same-blocks v w s) b i _ _ (x .code) (a .done) (t .done) (a .is-done) (t .is-done) in
       record {
         action = d .action;
         does = d .does;

@@ -18,7 +18,7 @@ use Rattle.rules.specs.Fits.{typeOf, fresh, fits}
 use Rattle.rules.specs.Actions.{touch}
 use Rattle.rules.proofs.Rules.{use-in-body}
 use Rattle.machine.specs.States.{VECTORS, withStack, assign}
-use Rattle.machine.specs.Steps.{execute}
+use Rattle.machine.specs.Steps.{executeTo}
 use Rattle.machine.specs.declared.Activation.{Activation}
 use Rattle.machine.specs.declared.State.{State}
 use Rattle.machine.specs.declared.Value.{Value}
@@ -89,7 +89,7 @@ module _ (P : Program) (sure : Sure P) (s : State) (a : Activation) (rest : List
         (λ q h g. E₂ .grow (a .frame) q (live P sure s a rest l W) refl (full-still (s .frames) _ (a .frame) (isIn (r ∷ [])) one q (not-false _ (λ z. clash (empties q z) h)) g)))))
 
   pub use-step : Stepped P sure s a rest l W (USE d r)
-  unfolding execute fits exists touch
+  unfolding executeTo fits exists touch
   use-step =
       let x = and-both _ _ (exists-i P sure s a rest l W _ is) in
       let t = and-both _ _ (fits-i P sure s a rest l W _ is) in

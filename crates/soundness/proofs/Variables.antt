@@ -17,7 +17,7 @@ use Rattle.rules.specs.Actions.{touch, reads_empties_assigns_}
 use Rattle.machine.specs.Try.{_>>=_, at}
 use Rattle.machine.specs.States.{name, isSet, store}
 use Rattle.machine.specs.States as states
-use Rattle.machine.specs.Steps.{execute}
+use Rattle.machine.specs.Steps.{executeTo}
 use Rattle.machine.specs.declared.Activation.{Activation}
 use Rattle.machine.specs.declared.State.{State}
 use Rattle.machine.specs.declared.Value.{Value}
@@ -65,7 +65,7 @@ module _ (P : Program) (sure : Sure P) (s : State) (a : Activation) (rest : List
       (fits-within P (W .keep) (s .frames) (s .promises) (a .frame) 1 _ (rw name-kind (plain-kind X d 1 pd)) _ (fits-down P (W .keep) (s .frames) (s .promises) k (a .frame) 1 (inl name-kind) _ (name-fits k x hk))))
 
   pub named-step : (d x : ℕ) → l .does ≡ NAMED d x → Stepped P sure s a rest l W (NAMED d x)
-  unfolding execute fits exists touch
+  unfolding executeTo fits exists touch
   named-step d x is =
       let e = and-both _ _ (exists-i P sure s a rest l W _ is) in
       good-then (Inv P) _ _ _ (name-got (a .frame) x (live P sure s a rest l W) (e .1)) (gives-name (NAMED d x) is [] d refl (e .0) (fits-i P sure s a rest l W _ is) (a .frame) x (live P sure s a rest l W))
@@ -82,7 +82,7 @@ module _ (P : Program) (sure : Sure P) (s : State) (a : Activation) (rest : List
       (shared-lone P sure s a rest l W (a .frame) r k (REGISTERS + x) (live P sure s a rest l W) (rw (type-is P sure s a rest l W r (place-in P sure s a rest l W r er)) (and-both _ _ vr .0)) (name-is-shared k x)))
 
   pub store-step : (x r : ℕ) → l .does ≡ STORE x r → Stepped P sure s a rest l W (STORE x r)
-  unfolding execute fits exists touch
+  unfolding executeTo fits exists touch
   store-step x r is =
       let e = and-both _ _ (exists-i P sure s a rest l W _ is) in
       let t = fits-i P sure s a rest l W _ is in
@@ -90,7 +90,7 @@ module _ (P : Program) (sure : Sure P) (s : State) (a : Activation) (rest : List
       good-got (Inv P) _ _ _ (plain-got P sure s a rest l W _ is r (e .1) fr t) (stores (STORE x r) is (r ∷ []) refl r (e .1) fr t (a .frame) x (live P sure s a rest l W) (e .0))
 
   pub peek : (d r x : ℕ) → l .does ≡ PEEK d r x → Stepped P sure s a rest l W (PEEK d r x)
-  unfolding execute fits exists touch
+  unfolding executeTo fits exists touch
   peek d r x is =
       let e = and-both _ _ (exists-i P sure s a rest l W _ is) in
       let g = and-both _ _ (e .1) in
@@ -103,7 +103,7 @@ module _ (P : Program) (sure : Sure P) (s : State) (a : Activation) (rest : List
       (good-then (Inv P) _ _ _ (name-got (q .frame) x hq (g .1)) (gives-name (PEEK d r x) is (r ∷ []) d refl (e .0) (t .1) (q .frame) x hq))))
 
   pub poke : (r x c : ℕ) → l .does ≡ POKE r x c → Stepped P sure s a rest l W (POKE r x c)
-  unfolding execute fits exists touch
+  unfolding executeTo fits exists touch
   poke r x c is =
       let e = and-both _ _ (exists-i P sure s a rest l W _ is) in
       let g = and-both _ _ (e .1) in

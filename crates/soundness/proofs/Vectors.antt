@@ -18,7 +18,7 @@ use Rattle.rules.specs.Actions.{touch, reads_empties_assigns_}
 use Rattle.rules.proofs.Rules.{set-in-body}
 use Rattle.machine.specs.Try.{got, _>>=_, _>>_, stuckUnless, at}
 use Rattle.machine.specs.States.{ACTIVATIONS, VECTORS, newVector, freeVector, vectorCounts, withVector, withStack, assign}
-use Rattle.machine.specs.Steps.{alone, execute}
+use Rattle.machine.specs.Steps.{alone, executeTo}
 use Rattle.machine.specs.declared.Activation.{Activation}
 use Rattle.machine.specs.declared.Frame.{Frame}
 use Rattle.machine.specs.declared.Opener.{Opener}
@@ -84,7 +84,7 @@ module _ (P : Program) (sure : Sure P) (s : State) (a : Activation) (rest : List
       (λ v k c q hk g _. absurd (vector-free s (W .heap .sized) (W .heap .bound) n (h .0) k c hk (g ∙ sym q)))
 
   pub dup : (d r : ℕ) → l .does ≡ DUP d r → Stepped P sure s a rest l W (DUP d r)
-  unfolding execute fits exists touch freeVector
+  unfolding executeTo fits exists touch freeVector
   dup d r is =
       let x = and-both _ _ (exists-i P sure s a rest l W _ is) in
       let t = and-both _ _ (fits-i P sure s a rest l W _ is) in
@@ -94,7 +94,7 @@ module _ (P : Program) (sure : Sure P) (s : State) (a : Activation) (rest : List
       (good-then (Inv P) _ _ _ (free-ok _ (vectorCounts s) VECTORS 0) (gives-fresh (DUP d r) is (r ∷ []) d refl (x .0) (t .1) (w .0))))
 
   pub vec : (d : ℕ) (rs : List ℕ) → l .does ≡ VEC d rs → Stepped P sure s a rest l W (VEC d rs)
-  unfolding execute fits exists touch freeVector
+  unfolding executeTo fits exists touch freeVector
   vec d rs is =
       let x = and-both _ _ (exists-i P sure s a rest l W _ is) in
       let t = and-both _ _ (fits-i P sure s a rest l W _ is) in
@@ -137,7 +137,7 @@ module _ (P : Program) (sure : Sure P) (s : State) (a : Activation) (rest : List
   -- ---- SET
 
   pub set-step : (r j c : ℕ) → l .does ≡ SET r j c → Stepped P sure s a rest l W (SET r j c)
-  unfolding execute fits exists touch alone wrote withStack Gets
+  unfolding executeTo fits exists touch alone wrote withStack Gets
   set-step r j c is =
       let x = and-both _ _ (exists-i P sure s a rest l W _ is) in
       let y = and-both _ _ (x .1) in

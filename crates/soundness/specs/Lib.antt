@@ -1,4 +1,3 @@
-pub mod Alike
 pub mod Claim
 pub mod LastCall
 pub mod Results

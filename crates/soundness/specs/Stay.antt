@@ -11,7 +11,7 @@ use Rattle.machine.specs.Events.{Event, programIn, after}
 use Rattle.machine.specs.declared.Changed.{Changed}
 use Rattle.machine.specs.declared.Entry.{Entry}
 use Rattle.machine.specs.declared.Frame.{Frame}
-use Rattle.soundness.specs.Alike.{Alike}
+use Rattle.runs.specs.Alike.{Alike}
 use Rattle.soundness.specs.Claim.{Live, entered, begun}
 
 -- Where a change to the image `new` is taken, after any list of events of a begun run, each live call's version is in both images, and alike: all but the offsets of its records

@@ -10,7 +10,7 @@ use lib.ListN.{length}
 use lib.Dec.{ltb}
 use Rattle.program.specs.Program.{Program}
 use Rattle.machine.specs.Calls.{done}
-use Rattle.machine.specs.Runs.{continued, lastStep, runFrom, saying, settled, stepIn, stepOf}
+use Rattle.machine.specs.Runs.{continued, lastStep, runFrom, runFromTo, saying, settled, stepInTo, stepOfTo}
 use Rattle.machine.specs.States.{withEnd}
 use Rattle.machine.specs.Steps.{advance}
 use Rattle.machine.specs.Try.{got, stuck, stop, _>>=_, _>>_, at}
@@ -36,7 +36,7 @@ left budget n h =
 module _ (P : Program) (M : Memory) (budget n : ℕ) (h : n < budget) where
   -- one step of what is left
   one : runFrom P (budget - n) (stateOf M) n ≡ continued (settled (stateOf M) (advance P (stateOf M)) .state) (settled (stateOf M) (advance P (stateOf M)) .said) n (λ t. runFrom P (budget - (n + 1)) t (n + 1))
-  unfolding runFrom stepOf stepIn stateOf
+  unfolding runFromTo stepOfTo stepInTo stateOf
   one = rw (left budget n h)
 
   pub turn-on : (N : Memory) → advance P (stateOf M) ≡ got (stateOf N) → runFrom P (budget - n) (stateOf M) n ≡ runFrom P (budget - (n + 1)) (stateOf N) (n + 1)
@@ -61,7 +61,7 @@ module _ (P : Program) (M : Memory) (budget n : ℕ) (h : n < budget) where
 
 -- no budget is left
 pub turn-none : (P : Program) (M : Memory) (budget n : ℕ) → budget ≤ n → runFrom P (budget - n) (stateOf M) n ≡ ranOf Turn.On M n
-unfolding runFrom ranOf
+unfolding runFromTo ranOf
 turn-none P M budget n h =
     let e : budget - n ≡ 0 = omega arith in
     rw e

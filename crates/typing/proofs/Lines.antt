@@ -10,7 +10,7 @@ use borrow.Author.Tests.{ne-eqb}
 use Rattle.layout.specs.Kinds as kind
 use Rattle.layout.specs.Tests.{any}
 use Rattle.layout.proofs.Rows.{Rows, choose-each}
-use Rattle.program.specs.Program.{Instr, Line, Block, Version, Program, nowhere, instrOf}
+use Rattle.program.specs.Program.{Instr, Line, Block, Version, Program, nowhere, instrOf, instrBy}
 use Rattle.program.specs.Places.{viewAt, past, blockAt, instrAt}
 use Rattle.program.proofs.Views.{view-end, Whole, at-version, at-block, at-line}
 use Rattle.rules.specs.Effects.{reflective, covered}
@@ -51,7 +51,7 @@ module _ (f : Instr → Bool) {s : List ℕ} {p n k : ℕ} (m : Whole s p n k) w
 
 -- all other instructions are quiet
 pub is-quiet : (P : Program) (v : Version) (k : ℕ) (b : List ℕ) → (k ≡ kind.FORCE → ⊥) → (k ≡ kind.PEEK → ⊥) → (k ≡ kind.POKE → ⊥) → (k ≡ kind.CALL → ⊥) → (k ≡ kind.DISPATCH → ⊥) → reflective P v (instrOf k b) ≡ false
-unfolding reflective instrOf Rows
+unfolding reflective instrBy Rows
 is-quiet P v k b f pe po c d = choose-each (λ (i : Instr). reflective P v i ≡ false) k _ _ refl
     (λ e. refl, (λ e. refl, (λ e. refl, (λ e. refl, (λ e. refl, (λ e. refl, (λ e. refl, (λ e. refl, (λ e. refl, (λ e. refl, (λ e. refl, (λ e. refl, (λ e. refl, (λ e. absurd (f e), (λ e. absurd (pe e), (λ e. absurd (po e), (λ e. absurd (c e), (λ e. absurd (d e), (λ e. refl, tt)))))))))))))))))))
 

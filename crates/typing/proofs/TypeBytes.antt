@@ -12,7 +12,7 @@ use Rattle.layout.specs.Tests.{_and_, all, allFrom}
 use Rattle.layout.specs.Records.{every}
 use Rattle.layout.proofs.Fields.{length-every, all-map}
 use Rattle.layout.proofs.Rows.{Rows, choose-each}
-use Rattle.program.specs.Program.{Argument, Instr, arguments, instrOf}
+use Rattle.program.specs.Program.{Argument, Instr, arguments, instrOf, instrBy}
 use Rattle.program.proofs.Forms.{argument-types}
 use Rattle.rules.specs.Types.{parameterType}
 use Rattle.rules.specs.Questions.{typeAllowed, typesAllowed}
@@ -29,6 +29,6 @@ pair-types {m} b k n e = rw e (all-parameters n 0 (every b k 2 n) (rw (length-ev
 
 -- only a DISPATCH has type bytes
 pub no-types : (k : ℕ) (b : List ℕ) → (k ≡ kind.DISPATCH → ⊥) → typesAllowed (instrOf k b) ≡ true
-unfolding typesAllowed instrOf Rows
+unfolding typesAllowed instrBy Rows
 no-types k b h = choose-each (λ (i : Instr). typesAllowed i ≡ true) k _ _ refl
     (λ e. refl, (λ e. refl, (λ e. refl, (λ e. refl, (λ e. refl, (λ e. refl, (λ e. refl, (λ e. refl, (λ e. refl, (λ e. refl, (λ e. refl, (λ e. refl, (λ e. refl, (λ e. refl, (λ e. refl, (λ e. refl, (λ e. refl, (λ e. absurd (h e), (λ e. refl, tt)))))))))))))))))))

@@ -11,7 +11,7 @@ use borrow.Author.Tests.{ltb-true}
 use Rattle.program.specs.Program.{Program, Version, LEN, GET}
 use Rattle.machine.specs.Try.{Try, got, stuck, stop, _>>=_, _>>_, endUnless}
 use Rattle.machine.specs.States.{assign, integer, itemsOf, vector}
-use Rattle.machine.specs.Steps.{execute}
+use Rattle.machine.specs.Steps.{executeTo}
 use Rattle.machine.specs.Values.{index}
 use Rattle.machine.specs.declared.End.{End}
 use Rattle.machine.specs.declared.Value.{Value}
@@ -46,15 +46,15 @@ module _ (M : Memory) (k a : ℕ) where
 
 module _ (P : Program) (W : Version) (M : Memory) (k a : ℕ) where
   len-stuck : (d : ℕ) → cells.vectorIn (M .codes) k a ≡ stuck → executed P W M k (LEN d a) ≡ stuck
-  unfolding executed execute _>>=_
+  unfolding executed executeTo _>>=_
   len-stuck d e = to-vector M k a _ e
 
   len-outside : (d v : ℕ) → cells.vectorIn (M .codes) k a ≡ got v → 64 ≤ v → executed P W M k (LEN d a) ≡ stuck
-  unfolding executed execute _>>=_
+  unfolding executed executeTo _>>=_
   len-outside d v e h = to-vector M k a _ e ∙ bound-stuck _ (vector-outside M v h)
 
   len-done : (d v : ℕ) → cells.vectorIn (M .codes) k a ≡ got v → v < 64 → executed P W M k (LEN d a) ≡ assign (stateOf M) k d (Value.Integer (pos (shownOf (M .lengths) v)))
-  unfolding executed execute _>>=_
+  unfolding executed executeTo _>>=_
   len-done d v e h = to-vector M k a _ e ∙ bound-got _ (vector-at M v h) ∙ ap (λ n. assign (stateOf M) k d (Value.Integer (pos n))) (items-shown (M .lengths) (M .items) v)
 
 module _ (codes lengths : List ℕ) (k a : ℕ) where
@@ -85,25 +85,25 @@ index-below (negsuc i) n j e = let z : _≡_ {A = ℕ} 0 1 = cc in absurd (omega
 
 module _ (P : Program) (W : Version) (M : Memory) (k a i d : ℕ) where
   get-stuck : cells.vectorIn (M .codes) k a ≡ stuck → executed P W M k (GET d a i) ≡ stuck
-  unfolding executed execute _>>=_
+  unfolding executed executeTo _>>=_
   get-stuck e = to-vector M k a _ e
 
   module _ (v : ℕ) (e : cells.vectorIn (M .codes) k a ≡ got v) where
     get-outside : 64 ≤ v → executed P W M k (GET d a i) ≡ stuck
-    unfolding executed execute _>>=_
+    unfolding executed executeTo _>>=_
     get-outside h = to-vector M k a _ e ∙ bound-stuck _ (vector-outside M v h)
 
     get-other : v < 64 → cells.integerIn (M .codes) (M .numbers) k i ≡ stuck → executed P W M k (GET d a i) ≡ stuck
-    unfolding executed execute _>>=_
+    unfolding executed executeTo _>>=_
     get-other h f = to-vector M k a _ e ∙ bound-got _ (vector-at M v h) ∙ to-integer M k i _ f
 
     module _ (z : ℤ) (h : v < 64) (f : cells.integerIn (M .codes) (M .numbers) k i ≡ got z) where
       get-undef : index z (shownOf (M .lengths) v) ≡ stop End.Undef → executed P W M k (GET d a i) ≡ stop End.Undef
-      unfolding executed execute _>>=_
+      unfolding executed executeTo _>>=_
       get-undef g = to-vector M k a _ e ∙ bound-got _ (vector-at M v h) ∙ to-integer M k i _ f ∙ bound-stop _ (ap (index z) (items-shown (M .lengths) (M .items) v) ∙ g)
 
       get-done : (j : ℕ) → index z (shownOf (M .lengths) v) ≡ got j → executed P W M k (GET d a i) ≡ assign (stateOf M) k d (Value.Integer (getD (M .items) (16 * v + j) (pos 0)))
-      unfolding executed execute _>>=_
+      unfolding executed executeTo _>>=_
       get-done j g =
           to-vector M k a _ e ∙ bound-got _ (vector-at M v h) ∙ to-integer M k i _ f ∙ bound-got _ (ap (index z) (items-shown (M .lengths) (M .items) v) ∙ g)
           ∙ ap (λ x. assign (stateOf M) k d (Value.Integer x)) (item-shown (M .lengths) (M .items) v j (index-below z (shownOf (M .lengths) v) j g))

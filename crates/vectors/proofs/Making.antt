@@ -15,7 +15,7 @@ use Rattle.program.specs.Program.{Program, Version, DUP, VEC}
 use Rattle.program.specs.Shapes.{listedRegisters}
 use Rattle.machine.specs.Try.{Try, got, stuck, stop, at, each, _>>=_}
 use Rattle.machine.specs.States.{assign, freeVector, integer, liveFrames, newVector, withVector}
-use Rattle.machine.specs.Steps.{execute}
+use Rattle.machine.specs.Steps.{executeTo}
 use Rattle.machine.specs.declared.End.{End}
 use Rattle.machine.specs.declared.Value.{Value}
 use Rattle.machine.specs.declared.Vector.{Vector}
@@ -72,26 +72,26 @@ module _ (M : Memory) (k d n : ℕ) (long : Long M) (live : k < M .calls) (l : k
 
 module _ (P : Program) (W : Version) (M : Memory) (k d a : ℕ) where
   dup-stuck : cells.vectorIn (M .codes) k a ≡ stuck → executed P W M k (DUP d a) ≡ stuck
-  unfolding executed execute _>>=_
+  unfolding executed executeTo _>>=_
   dup-stuck e = to-vector M k a _ e
 
   module _ (v : ℕ) (e : cells.vectorIn (M .codes) k a ≡ got v) where
     dup-outside : 64 ≤ v → executed P W M k (DUP d a) ≡ stuck
-    unfolding executed execute _>>=_
+    unfolding executed executeTo _>>=_
     dup-outside h = to-vector M k a _ e ∙ bound-stuck _ (vector-outside M v h)
 
     dup-full : v < 64 → freeVector (stateOf M) ≡ stop End.Vectors → executed P W M k (DUP d a) ≡ stop End.Vectors
-    unfolding executed execute _>>=_
+    unfolding executed executeTo _>>=_
     dup-full h f = to-vector M k a _ e ∙ bound-got _ (vector-at M v h) ∙ bound-stop _ f
 
     module _ (n : ℕ) (h : v < 64) (f : freeVector (stateOf M) ≡ got n) (long : Long M) (live : k < M .calls) (l : k < 32) where
       dup-nowhere : 16 ≤ d → executed P W M k (DUP d a) ≡ stuck
-      unfolding executed execute _>>=_
+      unfolding executed executeTo _>>=_
       dup-nowhere b = to-vector M k a _ e ∙ bound-got _ (vector-at M v h) ∙ bound-got _ f ∙ assign-nowhere M k d n long live l _ _ b
 
       dup-done : (items : List ℤ) → Renewed (M .items) items n 16 (itemIn (M .items) v) → n < 64 → d < 16
           → executed P W M k (DUP d a) ≡ got (stateOf (withCells (withVectors M (set (M .lengths) n (M .lengths ! v)) items) (set (M .codes) (24 * k + d) (256 + n)) (M .numbers)))
-      unfolding executed execute _>>=_ vectorIn
+      unfolding executed executeTo _>>=_ vectorIn
       dup-done items r q b = to-vector M k a _ e ∙ bound-got _ (vector-at M v h) ∙ bound-got _ f ∙ assign-new M k d n long live l (M .lengths ! v) (itemIn (M .items) v) items r q b
 
 module _ (P : Program) (W : Version) (M : Memory) (k d : ℕ) (rs : List ℕ) where
@@ -99,17 +99,17 @@ module _ (P : Program) (W : Version) (M : Memory) (k d : ℕ) (rs : List ℕ) wh
   to-integers f e = ap (λ t. t >>= f) (each-same _ _ (λ r. integer-in (M .owners) (M .codes) (M .numbers) k r) rs ∙ e)
 
   vec-stuck : all (holdsInteger (M .codes) k) rs ≡ false → executed P W M k (VEC d rs) ≡ stuck
-  unfolding executed execute _>>=_
+  unfolding executed executeTo _>>=_
   vec-stuck e = to-integers _ (each-stuck (M .codes) (M .numbers) k rs e)
 
   module _ (e : all (holdsInteger (M .codes) k) rs ≡ true) where
     vec-full : freeVector (stateOf M) ≡ stop End.Vectors → executed P W M k (VEC d rs) ≡ stop End.Vectors
-    unfolding executed execute _>>=_
+    unfolding executed executeTo _>>=_
     vec-full f = to-integers _ (each-got (M .codes) (M .numbers) k rs e) ∙ bound-stop _ f
 
     module _ (v : ℕ) (f : freeVector (stateOf M) ≡ got v) (long : Long M) (live : k < M .calls) (l : k < 32) where
       vec-nowhere : 16 ≤ d → executed P W M k (VEC d rs) ≡ stuck
-      unfolding executed execute _>>=_
+      unfolding executed executeTo _>>=_
       vec-nowhere b = to-integers _ (each-got (M .codes) (M .numbers) k rs e) ∙ bound-got _ f ∙ assign-nowhere M k d v long live l _ _ b
 
       new-listed : (n : ℕ) → length rs ≡ n → newVector (numbersOf (M .numbers) k rs) ≡ record { length = n; items = upTo (listedItem rs (M .numbers) k n) 0 16 }
@@ -121,7 +121,7 @@ module _ (P : Program) (W : Version) (M : Memory) (k d : ℕ) (rs : List ℕ) wh
 
       vec-done : (n : ℕ) (items : List ℤ) → length rs ≡ n → Renewed (M .items) items v 16 (listedItem rs (M .numbers) k n) → v < 64 → d < 16
           → executed P W M k (VEC d rs) ≡ got (stateOf (withCells (withVectors M (set (M .lengths) v n) items) (set (M .codes) (24 * k + d) (256 + v)) (M .numbers)))
-      unfolding executed execute _>>=_
+      unfolding executed executeTo _>>=_
       vec-done n items s r q b =
           to-integers _ (each-got (M .codes) (M .numbers) k rs e) ∙ bound-got _ f ∙ ap (λ w. assign (withVector (stateOf M) v w) k d (Value.Vector v)) (new-listed n s)
           ∙ assign-new M k d v long live l n (listedItem rs (M .numbers) k n) items r q b

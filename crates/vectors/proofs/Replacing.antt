@@ -11,7 +11,7 @@ use borrow.Author.Tests.{eq-eqb, ne-eqb, ltb-true}
 use Rattle.layout.specs.Records.{_!_}
 use Rattle.program.specs.Program.{Program, Version, SET}
 use Rattle.machine.specs.Try.{Try, got, stuck, stop, _>>=_, _>>_, stuckUnless}
-use Rattle.machine.specs.Steps.{alone, execute}
+use Rattle.machine.specs.Steps.{alone, executeTo}
 use Rattle.machine.specs.Values.{index}
 use Rattle.machine.specs.declared.End.{End}
 use Rattle.memory.specs.Memory.{Long, Memory, stateOf, vectorIn}
@@ -86,38 +86,38 @@ module _ (M : Memory) (k a v : ℕ) (long : Long M) (live : k < M .calls) (l : k
 
 module _ (P : Program) (W : Version) (M : Memory) (k a i e : ℕ) where
   set-stuck : cells.vectorIn (M .codes) k a ≡ stuck → executed P W M k (SET a i e) ≡ stuck
-  unfolding executed execute _>>=_
+  unfolding executed executeTo _>>=_
   set-stuck p = to-vector M k a _ p
 
   module _ (v : ℕ) (p : cells.vectorIn (M .codes) k a ≡ got v) where
     set-outside : 64 ≤ v → executed P W M k (SET a i e) ≡ stuck
-    unfolding executed execute _>>=_
+    unfolding executed executeTo _>>=_
     set-outside h = to-vector M k a _ p ∙ bound-stuck _ (vector-outside M v h)
 
     module _ (h : v < 64) where
       set-index : cells.integerIn (M .codes) (M .numbers) k i ≡ stuck → executed P W M k (SET a i e) ≡ stuck
-      unfolding executed execute _>>=_
+      unfolding executed executeTo _>>=_
       set-index f = to-vector M k a _ p ∙ bound-got _ (vector-at M v h) ∙ to-integer M k i _ f
 
       module _ (z : ℤ) (f : cells.integerIn (M .codes) (M .numbers) k i ≡ got z) where
         set-value : cells.integerIn (M .codes) (M .numbers) k e ≡ stuck → executed P W M k (SET a i e) ≡ stuck
-        unfolding executed execute _>>=_
+        unfolding executed executeTo _>>=_
         set-value g = to-vector M k a _ p ∙ bound-got _ (vector-at M v h) ∙ to-integer M k i _ f ∙ to-integer M k e _ g
 
         module _ (x : ℤ) (g : cells.integerIn (M .codes) (M .numbers) k e ≡ got x) (long : Long M) (live : k < M .calls) (l : k < 32) where
           set-shared : (occurrences (M .codes) (liveCells (M .calls)) (256 + v) ≡ 1 → ⊥) → executed P W M k (SET a i e) ≡ stuck
-          unfolding executed execute _>>=_
+          unfolding executed executeTo _>>=_
           set-shared q = to-vector M k a _ p ∙ bound-got _ (vector-at M v h) ∙ to-integer M k i _ f ∙ to-integer M k e _ g ∙ then-stuck _ (alone-not M k a v long live l p q)
 
           module _ (q : occurrences (M .codes) (liveCells (M .calls)) (256 + v) ≡ 1) where
             set-undef : index z (shownOf (M .lengths) v) ≡ stop End.Undef → executed P W M k (SET a i e) ≡ stop End.Undef
-            unfolding executed execute _>>=_
+            unfolding executed executeTo _>>=_
             set-undef n =
                 to-vector M k a _ p ∙ bound-got _ (vector-at M v h) ∙ to-integer M k i _ f ∙ to-integer M k e _ g ∙ then-got _ (alone-is M k a v long live l p q)
                 ∙ bound-stop _ (ap (index z) (items-shown (M .lengths) (M .items) v) ∙ n)
 
             set-done : (j : ℕ) → index z (shownOf (M .lengths) v) ≡ got j → executed P W M k (SET a i e) ≡ got (stateOf (withVectors M (M .lengths) (set (M .items) (16 * v + j) x)))
-            unfolding executed execute _>>=_
+            unfolding executed executeTo _>>=_
             set-done j n =
                 to-vector M k a _ p ∙ bound-got _ (vector-at M v h) ∙ to-integer M k i _ f ∙ to-integer M k e _ g ∙ then-got _ (alone-is M k a v long live l p q)
                 ∙ bound-got _ (ap (index z) (items-shown (M .lengths) (M .items) v) ∙ n)

@@ -74,16 +74,16 @@ pub fn len(codes: &[u16; 768], lengths: &[u8; 64], k: usize, a: u8) -> Gives
         return Gives::Stuck;
     }
     let n = shown(lengths, v);
-    Gives::Cell(1, n as i32)
+    Gives::Cell(1, n as i64)
 }
 
 /// GET: what the item of the vector in the register `a` of the frame `k` is, by the index in its register `i`.
 /// Part of the loop, which keeps `k` below 32: a test would cost each step.
 pub fn get(
     codes: &[u16; 768],
-    numbers: &[i32; 768],
+    numbers: &[i64; 768],
     lengths: &[u8; 64],
-    items: &[i32; 1024],
+    items: &[i64; 1024],
     k: usize,
     a: u8,
     i: u8,
@@ -126,9 +126,9 @@ pub fn free_vector(codes: &[u16; 768], calls: usize) -> Found
 /// Part of the loop, which keeps `k` below 32: a test would cost each step.
 pub fn set(
     codes: &[u16; 768],
-    numbers: &[i32; 768],
+    numbers: &[i64; 768],
     lengths: &[u8; 64],
-    items: &mut [i32; 1024],
+    items: &mut [i64; 1024],
     calls: usize,
     k: usize,
     a: u8,
@@ -163,7 +163,7 @@ pub fn set(
 }
 
 /// Copies the items of the vector `v` to the vector `n`.
-fn copy_items(items: &mut [i32; 1024], v: usize, n: usize)
+fn copy_items(items: &mut [i64; 1024], v: usize, n: usize)
     requires { ⌜ (v < 64) × (n < 64) ⌝ }
     ensures { λ r. ⌜ Renewed (now (items .entry)) (now (items .exit)) n 16 (itemIn (now (items .entry)) v) ⌝ }
 {
@@ -179,7 +179,7 @@ fn copy_items(items: &mut [i32; 1024], v: usize, n: usize)
 pub fn dup(
     codes: &mut [u16; 768],
     lengths: &mut [u8; 64],
-    items: &mut [i32; 1024],
+    items: &mut [i64; 1024],
     calls: usize,
     k: usize,
     d: u8,
@@ -227,7 +227,7 @@ fn all_integers(image: &[u8], p: usize, codes: &[u16; 768], k: usize, n: usize) 
 }
 
 /// The item `j` of the vector that the VEC at `p` makes of `n` registers.
-fn item(image: &[u8], p: usize, numbers: &[i32; 768], k: usize, n: usize, j: usize) -> i32
+fn item(image: &[u8], p: usize, numbers: &[i64; 768], k: usize, n: usize, j: usize) -> i64
     requires { ⌜ k < 32 ⌝ }
     ensures { λ r. ⌜ r ≡ listedItem (listedRegisters (instrAt (now (image .entry)) p)) (now (numbers .entry)) k n j ⌝ }
 {
@@ -242,8 +242,8 @@ fn item(image: &[u8], p: usize, numbers: &[i32; 768], k: usize, n: usize, j: usi
 fn fill(
     image: &[u8],
     p: usize,
-    numbers: &[i32; 768],
-    items: &mut [i32; 1024],
+    numbers: &[i64; 768],
+    items: &mut [i64; 1024],
     k: usize,
     v: usize,
     n: usize,
@@ -264,9 +264,9 @@ pub fn vec(
     image: &[u8],
     p: usize,
     codes: &mut [u16; 768],
-    numbers: &[i32; 768],
+    numbers: &[i64; 768],
     lengths: &mut [u8; 64],
-    items: &mut [i32; 1024],
+    items: &mut [i64; 1024],
     calls: usize,
     k: usize,
     d: u8,

@@ -26,7 +26,7 @@ use sound.WpLaws.{FmC, fmOf, WpFn-mono}
 use denote.RattleType.{owns}
 use denote.Laws.{Is, shows}
 use denote.Plain.{uint-vals, uint-tells, uint-makes}
-use denote.Builtin.{i32, u32, u8}
+use denote.Builtin.{i64, u32, u8}
 use denote.Ref.{RefT, MutRef, ptr-vals, mut-tells}
 use denote.Slice.{sliceVal, slice-vals, ShrSlice, MutSlice, Room, finally, mut-slice-tells, shr-slice-tells, shr-slice-copy}
 use denote.Signature.{plain}
@@ -61,14 +61,14 @@ use Rattle.abi.proofs.fir_budget.Statement as stated
 use Rattle.abi.proofs.fir_budget.Code as code
 
 abbrev stayed : Stays (f.ended .signature .params) (f.ended .kept)
-stayed = (stay-none-slice (0 ∷ []) tt (plain (λ _. u8)) yes, (stay-ref (1 ∷ []) tt (plain (λ _. T.the-row)), (stay-none (λ _. u32) yes, (gave-slice (2 ∷ []) tt (plain (λ _. i32)), tt))))
+stayed = (stay-none-slice (0 ∷ []) tt (plain (λ _. u8)) yes, (stay-ref (1 ∷ []) tt (plain (λ _. T.the-row)), (stay-none (λ _. u32) yes, (gave-slice (2 ∷ []) tt (plain (λ _. i64)), tt))))
 
 -- the contract that the proof cites
 abbrev G : {M : Type 1} (𝓤 : URA M) (H : Heap 𝓤) (A : Atoms 𝓤) (at-mem : Memory → SProp 𝓤) (run : Routine → Fun 𝓤) → Contract 𝓤
 G 𝓤 H A at-mem run = tripleOf 𝓤 H A g.signature (g.spec 𝓤 H A at-mem run)
 
 module _ {M : Type 1} (𝓤 : URA M) (H : Heap 𝓤) (A : Atoms 𝓤) (W : Given 𝓤 H A) (at-mem : Memory → SProp 𝓤) (run : Routine → Fun 𝓤) (imκ κ buκ : Lft) (imq q buq : Share) (im : RefT (List ℕ)) (bud : ℕ) (bu : RefT (List ℤ)) (b o : ℕ) (γ : GName) (h : Snapshot)
-    (im-room : Room u8 (length (im .now))) (bu-room : Room i32 (length (bu .now))) (bud-fits : bud < 2 ^ 32) where
+    (im-room : Room u8 (length (im .now))) (bu-room : Room i64 (length (bu .now))) (bud-fits : bud < 2 ^ 32) where
   abbrev x : RefT (List ℕ) × (RefT Snapshot × (ℕ × (RefT (List ℤ) × Unit {0})))
   x = (im, (record { ptr = (b, o); name = γ; now = h }, (bud, (bu, tt))))
 
@@ -91,9 +91,9 @@ module _ {M : Type 1} (𝓤 : URA M) (H : Heap 𝓤) (A : Atoms 𝓤) (W : Given
   abbrev state : Snapshot → Item 𝓤
   state h′ = ‵ (MutRef (named 1) κ T.the-row .own (record { ptr = (b, o); name = γ; now = h′ }) (vptr b o ∷ []))
 
-  exits : (r : FirAnswer) (v : Val) (h′ : Snapshot) (zs : List ℤ) → Said r h′ zs → length zs ≡ length (bu .now) → ent 𝓤 (⋆ 𝓤 H A (‵ (R.the-row .own r (v ∷ [])) ∷ state h′ ∷ ‵ (flft imκ imq) ∷ ‵ (flft κ q) ∷ ‵ (flft buκ buq) ∷ ‵ (ShrSlice (named 0) imκ u8 .own im (slice-vals im)) ∷ ‵ (finally i32 (bu .name) zs) ∷ [])) (Post v)
+  exits : (r : FirAnswer) (v : Val) (h′ : Snapshot) (zs : List ℤ) → Said r h′ zs → length zs ≡ length (bu .now) → ent 𝓤 (⋆ 𝓤 H A (‵ (R.the-row .own r (v ∷ [])) ∷ state h′ ∷ ‵ (flft imκ imq) ∷ ‵ (flft κ q) ∷ ‵ (flft buκ buq) ∷ ‵ (ShrSlice (named 0) imκ u8 .own im (slice-vals im)) ∷ ‵ (finally i64 (bu .name) zs) ∷ [])) (Post v)
   exits r v h′ zs e l =
-      qed W (‵ (R.the-row .own r (v ∷ [])) ∷ state h′ ∷ ‵ (flft imκ imq) ∷ ‵ (flft κ q) ∷ ‵ (flft buκ buq) ∷ ‵ (ShrSlice (named 0) imκ u8 .own im (slice-vals im)) ∷ ‵ (finally i32 (bu .name) zs) ∷ []) ∵
+      qed W (‵ (R.the-row .own r (v ∷ [])) ∷ state h′ ∷ ‵ (flft imκ imq) ∷ ‵ (flft κ q) ∷ ‵ (flft buκ buq) ∷ ‵ (ShrSlice (named 0) imκ u8 .own im (slice-vals im)) ∷ ‵ (finally i64 (bu .name) zs) ∷ []) ∵
       suffices ! _ (ends-at 𝓤 H A f.ended stayed (f.clauses 𝓤 H A at-mem run) W Bound v r (tt, (h′, (tt, (zs, tt)))) (tt, (tt, (tt, (l, tt))))) $ says ! e $
       nothing ! $ move ! (5 ∷ 0 ∷ []) $ join ! $ move ! (4 ∷ 0 ∷ []) $ join ! $ move ! (3 ∷ 0 ∷ []) $ join ! $ frame ! $ nothing ! $ move ! (4 ∷ 0 ∷ []) $ fjoin ! $ owned ! u32 (Is u32) (uint-makes 𝓤 H A W w32) bud _ (refl, bud-fits) $ fjoin ! $ move ! (2 ∷ 0 ∷ []) $ fjoin ! $ move ! (2 ∷ 0 ∷ []) $ fjoin ! $ frame ! $ done !
 
@@ -113,16 +113,16 @@ module _ {M : Type 1} (𝓤 : URA M) (H : Heap 𝓤) (A : Atoms 𝓤) (W : Given
   abbrev kept : ℕ → Names members → Item 𝓤
   kept α γs = raw (Kept 𝓤 H A W b o (named 1) (named 2) κ (α ∷ []) q γ h γs)
 
-  goes-g : (α : ℕ) (γs : Names members) → ent 𝓤 (⋆ 𝓤 H A ((‵ (flft imκ imq) ⊛ ‵ (flft buκ buq) ⊛ ‵ (flft (α ∷ []) fullShare)) ∷ (‵ (ShrSlice (named 0) imκ u8 .own im (slice-vals im)) ⊛ ‵ (MutSlice (named 2) buκ i32 .own bu (slice-vals bu))) ∷ lent α γs ∷ [])) (G 𝓤 H A at-mem run .pre (to-g α γs))
+  goes-g : (α : ℕ) (γs : Names members) → ent 𝓤 (⋆ 𝓤 H A ((‵ (flft imκ imq) ⊛ ‵ (flft buκ buq) ⊛ ‵ (flft (α ∷ []) fullShare)) ∷ (‵ (ShrSlice (named 0) imκ u8 .own im (slice-vals im)) ⊛ ‵ (MutSlice (named 2) buκ i64 .own bu (slice-vals bu))) ∷ lent α γs ∷ [])) (G 𝓤 H A at-mem run .pre (to-g α γs))
   goes-g α γs =
-      qed W ((‵ (flft imκ imq) ⊛ ‵ (flft buκ buq) ⊛ ‵ (flft (α ∷ []) fullShare)) ∷ (‵ (ShrSlice (named 0) imκ u8 .own im (slice-vals im)) ⊛ ‵ (MutSlice (named 2) buκ i32 .own bu (slice-vals bu))) ∷ lent α γs ∷ []) ∵
+      qed W ((‵ (flft imκ imq) ⊛ ‵ (flft buκ buq) ⊛ ‵ (flft (α ∷ []) fullShare)) ∷ (‵ (ShrSlice (named 0) imκ u8 .own im (slice-vals im)) ⊛ ‵ (MutSlice (named 2) buκ i64 .own bu (slice-vals bu))) ∷ lent α γs ∷ []) ∵
       split ! $ move ! (1 ∷ []) $ split ! $ move ! (3 ∷ []) $ split ! $ nothing ! $ move ! (4 ∷ 0 ∷ []) $ join ! $ move ! (3 ∷ 0 ∷ []) $ join ! $ move ! (3 ∷ 0 ∷ []) $ join ! $ move ! (2 ∷ 3 ∷ []) $ fjoin ! $ owned ! u32 (Is u32) (uint-makes 𝓤 H A W w32) bud _ (refl, bud-fits) $ fjoin ! $ move ! (2 ∷ 0 ∷ []) $ fjoin ! $ move ! (1 ∷ 0 ∷ []) $ join ! $ frame ! $ done !
 
   module _ (C : Calls 𝓤 H) (Λ : Loops 𝓤 H) (fm : FmC 𝓤 H (W .laws) C) (known : Triple 𝓤 (C #g) (G 𝓤 H A at-mem run)) where
     walk : ent 𝓤 (onEntry 𝓤 H A f.signature (imκ, (κ, (buκ, tt))) (imq, (q, (buq, tt))) x at) (WpFn 𝓤 H C Λ code.function (sliceVal (im .ptr) (length (im .now)) ∷ vptr b o ∷ vint w32 bud ∷ sliceVal (bu .ptr) (length (bu .now)) ∷ []) Post)
     unfolding snapshotOf
     walk =
-        qed W ((‵ (flft imκ imq) ⊛ ‵ (flft κ q) ⊛ ‵ (flft buκ buq) ⊛ ‵ ftrue) ∷ ‵ (owns (ShrSlice (named 0) imκ u8 ∷ MutRef (named 1) κ T.the-row ∷ u32 ∷ MutSlice (named 2) buκ i32 ∷ []) x at) ∷ []) ∵
+        qed W ((‵ (flft imκ imq) ⊛ ‵ (flft κ q) ⊛ ‵ (flft buκ buq) ⊛ ‵ ftrue) ∷ ‵ (owns (ShrSlice (named 0) imκ u8 ∷ MutRef (named 1) κ T.the-row ∷ u32 ∷ MutSlice (named 2) buκ i64 ∷ []) x at) ∷ []) ∵
         -- what the parameters own is taken apart; what is only read is had twice
         move ! (1 ∷ []) $ fsplit ! $ use1 W (im-owned ⊛ im-owned) (shr-slice-copy 𝓤 H A W (named 0) imκ u8 .twice im (slice-vals im)) $ split ! $ move ! (2 ∷ []) $ fsplit ! $ move ! (1 ∷ []) $ fsplit ! $ move ! (1 ∷ []) $ fsplit ! $ move ! (6 ∷ []) $ split ! $ move ! (1 ∷ []) $ split ! $ move ! (1 ∷ []) $ split ! $ keep ! (7 ∷ 2 ∷ 3 ∷ 0 ∷ 8 ∷ 9 ∷ 4 ∷ []) $
         -- [the state; state's token; image's token; buffer's token; image; image2; buffer]
@@ -160,11 +160,11 @@ module _ {M : Type 1} (𝓤 : URA M) (H : Heap 𝓤) (A : Atoms 𝓤) (W : Given
 module _ {M : Type 1} (𝓤 : URA M) (H : Heap 𝓤) (A : Atoms 𝓤) (W : Given 𝓤 H A) (at-mem : Memory → SProp 𝓤) (run : Routine → Fun 𝓤) where
   walks : (C : Calls 𝓤 H) (Λ : Loops 𝓤 H) → FmC 𝓤 H (W .laws) C → Triple 𝓤 (C #g) (G 𝓤 H A at-mem run) → Walks 𝓤 H A f.ended stayed (WpFn 𝓤 H C Λ code.function) (f.clauses 𝓤 H A at-mem run)
   walks C Λ fm known = walked 𝓤 H A f.ended stayed (f.clauses 𝓤 H A at-mem run) (WpFn 𝓤 H C Λ code.function) (λ κs. (slice-vals, (ptr-vals, (uint-vals w32, (slice-vals, tt)))))
-      (λ κs. (shr-slice-tells (named 0) (κs .0) u8, (mut-tells (named 1) (κs .1 .0) T.the-row, (uint-tells w32, (mut-slice-tells (named 2) (κs .1 .1 .0) i32, tt)))))
+      (λ κs. (shr-slice-tells (named 0) (κs .0) u8, (mut-tells (named 1) (κs .1 .0) T.the-row, (uint-tells w32, (mut-slice-tells (named 2) (κs .1 .1 .0) i64, tt)))))
       (λ κs qs bounds a _ are. via 𝓤 _ (fst∗ 𝓤 _ (emp 𝓤)) (walk 𝓤 H A W at-mem run (κs .0) (κs .1 .0) (κs .1 .1 .0) (qs .0) (qs .1 .0) (qs .1 .1 .0) (a .0) (a .1 .1 .0) (a .1 .1 .1 .0) (a .1 .0 .ptr .0) (a .1 .0 .ptr .1) (a .1 .0 .name) (a .1 .0 .now) (are .0 .0 .1) (are .1 .1 .1 .0 .0 .1) (are .1 .1 .0 .1) C Λ fm known))
 
   goes : AllGo 𝓤 H A W 3 (f.signature .params) (f.ended .kept) stayed
-  goes = (goes-none-slice 𝓤 H A W 3 (0 ∷ []) tt (plain (λ _. u8)) yes, (goes-ref 𝓤 H A W 3 1 tt (plain (λ _. T.the-row)), (goes-none 𝓤 H A W 3 (λ _. u32) yes (λ κs x f. refl), (goes-gave-slice 𝓤 H A W 3 2 tt (plain (λ _. i32)), tt))))
+  goes = (goes-none-slice 𝓤 H A W 3 (0 ∷ []) tt (plain (λ _. u8)) yes, (goes-ref 𝓤 H A W 3 1 tt (plain (λ _. T.the-row)), (goes-none 𝓤 H A W 3 (λ _. u32) yes (λ κs x f. refl), (goes-gave-slice 𝓤 H A W 3 2 tt (plain (λ _. i64)), tt))))
 
 meets : {M : Type 1} (𝓤 : URA M) (H : Heap 𝓤) (A : Atoms 𝓤) (W : Given 𝓤 H A) (at-mem : Memory → SProp 𝓤) (run : Routine → Fun 𝓤) (𝓣 : Tables 𝓤 H) → Triple 𝓤 (𝓣 .C #g) (G 𝓤 H A at-mem run)
     → Meets 𝓤 H A f.signature (WpFn 𝓤 H (𝓣 .C) (𝓣 .Λ) code.function) (f.spec 𝓤 H A at-mem run)

@@ -46,7 +46,7 @@ use Rattle.abi.specs.Answers.{changedNumbers}
 use Rattle.abi.specs.declared.answers.FirEntry.{FirEntry}
 use Rattle.abi.proofs.answers.FirEntry as R
 use Rattle.abi.proofs.answers.FirEntry.Laws as R′
-use Rattle.abi.proofs.Seen.{sees-calls, sees-owners, owners-from, calls-from}
+use Rattle.abi.proofs.Seen.{sees-calls, sees-owners, owners-place, calls-place}
 use Rattle.abi.proofs.parts.change as g
 use Rattle.abi.proofs.parts.change.Symbol as g-def
 use Rattle.abi.proofs.parts.change.Symbol.{name as #g}
@@ -104,23 +104,23 @@ module _ {M : Type 1} (𝓤 : URA M) (H : Heap 𝓤) (A : Atoms 𝓤) (W : Given
 
   -- the references to the fields, under their names
   abbrev owners : GName → RefT (List ℕ)
-  owners δ = record { ptr = (b, o + owners-from); name = δ; now = h .owners }
+  owners δ = record { ptr = (b, o + owners-place); name = δ; now = h .owners }
 
   abbrev calls : GName → RefT ℕ
-  calls δ = record { ptr = (b, o + calls-from); name = δ; now = h .calls }
+  calls δ = record { ptr = (b, o + calls-place); name = δ; now = h .calls }
 
   abbrev owners-owned : GName → Item 𝓤
-  owners-owned δ = ‵ (ShrRef (named 2) κ (Array u8 64) .own (owners δ) (vptr b (o + owners-from) ∷ []))
+  owners-owned δ = ‵ (ShrRef (named 2) κ (Array u8 64) .own (owners δ) (vptr b (o + owners-place) ∷ []))
 
   abbrev calls-owned : GName → Item 𝓤
-  calls-owned δ = ‵ (ShrRef (named 2) κ u8 .own (calls δ) (vptr b (o + calls-from) ∷ []))
+  calls-owned δ = ‵ (ShrRef (named 2) κ u8 .own (calls δ) (vptr b (o + calls-place) ∷ []))
 
   -- what the triple of `parts::change` binds outside, and what it asks
   abbrev y : GName → GName → Args g.signature κs
   y γ₁ γ₂ = (ol, (ne, (owners γ₁, (calls γ₂, tt))))
 
   abbrev to-g : GName → GName → G 𝓤 H A at-mem run .Ghost
-  to-g γ₁ γ₂ = ((κs, (olq, (neq, (q, tt))), tt, y γ₁ γ₂, (slice-vals ol, (slice-vals ne, (vptr b (o + owners-from) ∷ [], (vptr b (o + calls-from) ∷ [], tt))))), tt)
+  to-g γ₁ γ₂ = ((κs, (olq, (neq, (q, tt))), tt, y γ₁ γ₂, (slice-vals ol, (slice-vals ne, (vptr b (o + owners-place) ∷ [], (vptr b (o + calls-place) ∷ [], tt))))), tt)
 
   abbrev tokens : Item 𝓤
   tokens = ‵ (flft olκ olq) ⊛ ‵ (flft neκ neq) ⊛ ‵ (flft κ q)

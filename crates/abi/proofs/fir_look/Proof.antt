@@ -22,7 +22,7 @@ use denote.RattleType.{owns}
 use denote.Array.{Array}
 use denote.Laws.{Is, shows}
 use denote.Plain.{uint-vals, uint-tells, uint-makes}
-use denote.Builtin.{u8, u16, i32, usize}
+use denote.Builtin.{u8, u16, i64, usize}
 use denote.Ref.{RefT, ShrRef, ptr-vals, shr-tells, shr-copy}
 use denote.Signature.{plain}
 use denote.Steps.{owned, peeks, heard, nothing}
@@ -43,7 +43,7 @@ use Rattle.abi.specs.declared.answers.FirValue.{FirValue}
 use Rattle.abi.proofs.answers.FirValue as R
 use Rattle.abi.proofs.answers.FirValue.Laws as R′
 use Rattle.abi.proofs.Looking.{look-is}
-use Rattle.abi.proofs.Seen.{sees-calls, sees-codes, sees-numbers, numbers-from, codes-from, calls-from}
+use Rattle.abi.proofs.Seen.{sees-calls, sees-codes, sees-numbers, numbers-place, codes-place, calls-place}
 use Rattle.abi.proofs.parts.look as g
 use Rattle.abi.proofs.parts.look.Symbol as g-def
 use Rattle.abi.proofs.parts.look.Symbol.{name as #g}
@@ -85,29 +85,29 @@ module _ {M : Type 1} (𝓤 : URA M) (H : Heap 𝓤) (A : Atoms 𝓤) (W : Given
 
   -- the references to the fields, under their names
   abbrev codes : GName → RefT (List ℕ)
-  codes δ = record { ptr = (b, o + codes-from); name = δ; now = h .codes }
+  codes δ = record { ptr = (b, o + codes-place); name = δ; now = h .codes }
 
   abbrev numbers : GName → RefT (List ℤ)
-  numbers δ = record { ptr = (b, o + numbers-from); name = δ; now = h .numbers }
+  numbers δ = record { ptr = (b, o + numbers-place); name = δ; now = h .numbers }
 
   abbrev calls : GName → RefT ℕ
-  calls δ = record { ptr = (b, o + calls-from); name = δ; now = h .calls }
+  calls δ = record { ptr = (b, o + calls-place); name = δ; now = h .calls }
 
   abbrev codes-owned : GName → Item 𝓤
-  codes-owned δ = ‵ (ShrRef (named 0) κ (Array u16 768) .own (codes δ) (vptr b (o + codes-from) ∷ []))
+  codes-owned δ = ‵ (ShrRef (named 0) κ (Array u16 768) .own (codes δ) (vptr b (o + codes-place) ∷ []))
 
   abbrev numbers-owned : GName → Item 𝓤
-  numbers-owned δ = ‵ (ShrRef (named 0) κ (Array i32 768) .own (numbers δ) (vptr b (o + numbers-from) ∷ []))
+  numbers-owned δ = ‵ (ShrRef (named 0) κ (Array i64 768) .own (numbers δ) (vptr b (o + numbers-place) ∷ []))
 
   abbrev calls-owned : GName → Item 𝓤
-  calls-owned δ = ‵ (ShrRef (named 0) κ u8 .own (calls δ) (vptr b (o + calls-from) ∷ []))
+  calls-owned δ = ‵ (ShrRef (named 0) κ u8 .own (calls δ) (vptr b (o + calls-place) ∷ []))
 
   -- what the triple of `parts::look` binds outside, and what it asks
   abbrev y : GName → GName → GName → Args g.signature (κ, tt)
   y γ₁ γ₂ γ₃ = (codes γ₁, (numbers γ₂, (calls γ₃, (k, (i, tt)))))
 
   abbrev to-g : GName → GName → GName → G 𝓤 H A at-mem run .Ghost
-  to-g γ₁ γ₂ γ₃ = (((κ, tt), (q, tt), tt, y γ₁ γ₂ γ₃, (vptr b (o + codes-from) ∷ [], (vptr b (o + numbers-from) ∷ [], (vptr b (o + calls-from) ∷ [], (vint w64 k ∷ [], (vint w64 i ∷ [], tt)))))), tt)
+  to-g γ₁ γ₂ γ₃ = (((κ, tt), (q, tt), tt, y γ₁ γ₂ γ₃, (vptr b (o + codes-place) ∷ [], (vptr b (o + numbers-place) ∷ [], (vptr b (o + calls-place) ∷ [], (vint w64 k ∷ [], (vint w64 i ∷ [], tt)))))), tt)
 
   goes-g : (γ₁ γ₂ γ₃ : GName) → ent 𝓤 (⋆ 𝓤 H A ((‵ (flft κ q) ⊛ calls-owned γ₃) ∷ numbers-owned γ₂ ∷ codes-owned γ₁ ∷ [])) (G 𝓤 H A at-mem run .pre (to-g γ₁ γ₂ γ₃))
   goes-g γ₁ γ₂ γ₃ =

@@ -50,7 +50,7 @@ use Rattle.abi.specs.Looks.{Searches}
 use Rattle.abi.specs.declared.answers.FirSearched.{FirSearched}
 use Rattle.abi.proofs.answers.FirSearched as R
 use Rattle.abi.proofs.answers.FirSearched.Laws as R′
-use Rattle.abi.proofs.Seen.{calls-from, codes-from, depth-from, owners-from, promises-from, stack-from, sees-calls, sees-codes, sees-depth, sees-owners, sees-promises, sees-stack}
+use Rattle.abi.proofs.Seen.{calls-place, codes-place, depth-place, owners-place, promises-place, stack-place, sees-calls, sees-codes, sees-depth, sees-owners, sees-promises, sees-stack}
 use Rattle.abi.proofs.parts.search as g
 use Rattle.abi.proofs.parts.search.Symbol as g-def
 use Rattle.abi.proofs.parts.search.Symbol.{name as #g}
@@ -108,47 +108,47 @@ module _ {M : Type 1} (𝓤 : URA M) (H : Heap 𝓤) (A : Atoms 𝓤) (W : Given
 
   -- the references to the fields, under their names
   abbrev owners : GName → RefT (List ℕ)
-  owners δ = record { ptr = (b, o + owners-from); name = δ; now = h .owners }
+  owners δ = record { ptr = (b, o + owners-place); name = δ; now = h .owners }
 
   abbrev codes : GName → RefT (List ℕ)
-  codes δ = record { ptr = (b, o + codes-from); name = δ; now = h .codes }
+  codes δ = record { ptr = (b, o + codes-place); name = δ; now = h .codes }
 
   abbrev stack : GName → RefT (List ℕ)
-  stack δ = record { ptr = (b, o + stack-from); name = δ; now = h .stack }
+  stack δ = record { ptr = (b, o + stack-place); name = δ; now = h .stack }
 
   abbrev promises : GName → RefT (List ℕ)
-  promises δ = record { ptr = (b, o + promises-from); name = δ; now = h .promises }
+  promises δ = record { ptr = (b, o + promises-place); name = δ; now = h .promises }
 
   abbrev calls : GName → RefT ℕ
-  calls δ = record { ptr = (b, o + calls-from); name = δ; now = h .calls }
+  calls δ = record { ptr = (b, o + calls-place); name = δ; now = h .calls }
 
   abbrev depth : GName → RefT ℕ
-  depth δ = record { ptr = (b, o + depth-from); name = δ; now = h .depth }
+  depth δ = record { ptr = (b, o + depth-place); name = δ; now = h .depth }
 
   abbrev owners-owned : GName → Item 𝓤
-  owners-owned δ = ‵ (ShrRef (named 1) κ (Array u8 64) .own (owners δ) (vptr b (o + owners-from) ∷ []))
+  owners-owned δ = ‵ (ShrRef (named 1) κ (Array u8 64) .own (owners δ) (vptr b (o + owners-place) ∷ []))
 
   abbrev codes-owned : GName → Item 𝓤
-  codes-owned δ = ‵ (ShrRef (named 1) κ (Array u16 768) .own (codes δ) (vptr b (o + codes-from) ∷ []))
+  codes-owned δ = ‵ (ShrRef (named 1) κ (Array u16 768) .own (codes δ) (vptr b (o + codes-place) ∷ []))
 
   abbrev stack-owned : GName → Item 𝓤
-  stack-owned δ = ‵ (ShrRef (named 1) κ (Array u8 192) .own (stack δ) (vptr b (o + stack-from) ∷ []))
+  stack-owned δ = ‵ (ShrRef (named 1) κ (Array u8 192) .own (stack δ) (vptr b (o + stack-place) ∷ []))
 
   abbrev promises-owned : GName → Item 𝓤
-  promises-owned δ = ‵ (ShrRef (named 1) κ (Array u8 192) .own (promises δ) (vptr b (o + promises-from) ∷ []))
+  promises-owned δ = ‵ (ShrRef (named 1) κ (Array u8 192) .own (promises δ) (vptr b (o + promises-place) ∷ []))
 
   abbrev calls-owned : GName → Item 𝓤
-  calls-owned δ = ‵ (ShrRef (named 1) κ u8 .own (calls δ) (vptr b (o + calls-from) ∷ []))
+  calls-owned δ = ‵ (ShrRef (named 1) κ u8 .own (calls δ) (vptr b (o + calls-place) ∷ []))
 
   abbrev depth-owned : GName → Item 𝓤
-  depth-owned δ = ‵ (ShrRef (named 1) κ u8 .own (depth δ) (vptr b (o + depth-from) ∷ []))
+  depth-owned δ = ‵ (ShrRef (named 1) κ u8 .own (depth δ) (vptr b (o + depth-place) ∷ []))
 
   -- what the triple of `parts::search` binds outside, and what it asks
   abbrev y : GName → GName → GName → GName → GName → GName → Args g.signature κs
   y γ₁ γ₂ γ₃ γ₄ γ₅ γ₆ = (im, (owners γ₁, (codes γ₂, (stack γ₃, (promises γ₄, (calls γ₅, (depth γ₆, tt)))))))
 
   abbrev to-g : GName → GName → GName → GName → GName → GName → G 𝓤 H A at-mem run .Ghost
-  to-g γ₁ γ₂ γ₃ γ₄ γ₅ γ₆ = ((κs, (imq, (q, tt)), tt, y γ₁ γ₂ γ₃ γ₄ γ₅ γ₆, (slice-vals im, (vptr b (o + owners-from) ∷ [], (vptr b (o + codes-from) ∷ [], (vptr b (o + stack-from) ∷ [], (vptr b (o + promises-from) ∷ [], (vptr b (o + calls-from) ∷ [], (vptr b (o + depth-from) ∷ [], tt)))))))), tt)
+  to-g γ₁ γ₂ γ₃ γ₄ γ₅ γ₆ = ((κs, (imq, (q, tt)), tt, y γ₁ γ₂ γ₃ γ₄ γ₅ γ₆, (slice-vals im, (vptr b (o + owners-place) ∷ [], (vptr b (o + codes-place) ∷ [], (vptr b (o + stack-place) ∷ [], (vptr b (o + promises-place) ∷ [], (vptr b (o + calls-place) ∷ [], (vptr b (o + depth-place) ∷ [], tt)))))))), tt)
 
   abbrev tokens : Item 𝓤
   tokens = ‵ (flft imκ imq) ⊛ ‵ (flft κ q)

@@ -1,5 +1,6 @@
 -- `begin::begin`: the verdict, then question 11.
 use Rattle.begin.proofs.Answers.{refused-by, no-entry, entry-at, entry-bounded}
+use Rattle.layout.specs.declared.Form.{Form}
 use Rattle.checker.proofs.Offsets.{refused-low}
 use Rattle.begin.proofs.begin.Statement.{statement}
 use Rattle.begin.proofs.begin.Tie as tie
@@ -15,7 +16,7 @@ enum-known-q c = search needs
 
 cast-refused : tie.Need-cast-refused
 cast-refused c =
-    record { fits = omega (arith, refused-low _ _ _ (sym (c .before .before .before .verdict .ensures) ∙ c .before .q .given .1)) }
+    record { fits = omega (arith, refused-low Form.Wide _ _ _ (sym (c .before .before .before .verdict .ensures) ∙ c .before .q .given .1)) }
 
 refused-requires : tie.Need-refused-requires
 refused-requires c κs = search needs

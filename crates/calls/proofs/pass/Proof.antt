@@ -1,6 +1,6 @@
 -- `calls::pass`: after i turns the first i cells of the frame `to` are written, codes and integers alike.
 use mir.Facts.{toZ-ofZ}
-use mir.Syntax.{w32}
+use mir.Syntax.{w64}
 use mir.Val.{SFits}
 use mathlib.Core.Path.{_≡_, refl}
 use native.Mathlib.Omega.{arith}
@@ -100,7 +100,7 @@ loop-less c = search needs
 
 loop-again : tie.Need-loop-again Inv-loop μ-loop
 loop-again c =
-    let s : SFits w32 (getD (c .before .before .before .before .loop .numbers) (24 * c .before .before .before .before .before .before .before .before .before .args .k + (c .before .before .operand .result) % 16) (pos 0)) = search needs in
+    let s : SFits w64 (getD (c .before .before .before .before .loop .numbers) (24 * c .before .before .before .before .before .before .before .before .before .args .k + (c .before .before .operand .result) % 16) (pos 0)) = search needs in
     (omega (arith, (c .before .before .before .loop-test) .taken), passed-one _ _ _ _ _ _ ((c .before .before .before .before .loop) .inv .1) ((c .before .before .operand) .ensures), rw (toZ-ofZ s) (passed-one _ _ _ _ _ _ ((c .before .before .before .before .loop) .inv .2) ((c .before .before .operand) .ensures)))
 
 returns : tie.Need-returns Inv-loop μ-loop

@@ -5,7 +5,7 @@ use Rattle.memory.specs.Parts.{endOf, givesOf}
 use Rattle.memory.specs.Memory.{valueOf}
 use Rattle.machine.specs.Try.{_>>=_}
 use mir.Val.{SFits}
-use mir.Syntax.{w32}
+use mir.Syntax.{w64}
 use mir.Facts.{toZ-ofZ}
 use mathlib.Core.Path.{sym, ap, _∙_}
 use Rattle.machine.specs.declared.Value.{Value}
@@ -62,25 +62,25 @@ enum-told-4 c = search needs
 returns-3 : tie.Need-returns-3
 unfolding givesOf valueOf _>>=_ endOf
 returns-3 c =
-    let sx : SFits w32 ((c .before .before .before .before .before .before .before .before .before .x) .given .0 .0) = search needs in
-    let sy : SFits w32 ((c .before .before .before .before .before .y) .given .0 .0) = search needs in
+    let sx : SFits w64 ((c .before .before .before .before .before .before .before .before .before .x) .given .0 .0) = search needs in
+    let sy : SFits w64 ((c .before .before .before .before .before .y) .given .0 .0) = search needs in
     let e = rw (toZ-ofZ sx, toZ-ofZ sy) at ((c .before .before .before .arith) .ensures) in
-    let sz : SFits w32 ((c .before .z) .given .0 .0) = search needs in
+    let sz : SFits w64 ((c .before .z) .given .0 .0) = search needs in
     ap (λ (v : ℤ). got (Value.Integer v)) (toZ-ofZ sz) ∙ arith-done _ _ _ _ _ _ (whole-is ((c .before .before .before .before .before .before .before .before .before .before .before .integer) .ensures) ((c .before .before .before .before .before .before .before .before .before .x) .given .1)) (whole-is ((c .before .before .before .before .before .before .before .integer2) .ensures) ((c .before .before .before .before .before .y) .given .1)) (computed-got _ _ (sym e ∙ (c .before .z) .given .1))
 
 returns-4 : tie.Need-returns-4
 unfolding givesOf _>>=_ endOf
 returns-4 c =
-    let sx : SFits w32 ((c .before .before .before .before .before .before .before .before .x) .given .0 .0) = search needs in
-    let sy : SFits w32 ((c .before .before .before .before .y) .given .0 .0) = search needs in
+    let sx : SFits w64 ((c .before .before .before .before .before .before .before .before .x) .given .0 .0) = search needs in
+    let sy : SFits w64 ((c .before .before .before .before .y) .given .0 .0) = search needs in
     let e = rw (toZ-ofZ sx, toZ-ofZ sy) at ((c .before .before .arith) .ensures) in
     arith-done _ _ _ _ _ _ (whole-is ((c .before .before .before .before .before .before .before .before .before .before .integer) .ensures) ((c .before .before .before .before .before .before .before .before .x) .given .1)) (whole-is ((c .before .before .before .before .before .before .integer2) .ensures) ((c .before .before .before .before .y) .given .1)) (arith-undef _ _ _ (sym e ∙ (c .enum-told3) .given .1))
 
 returns-5 : tie.Need-returns-5
 unfolding givesOf _>>=_ endOf
 returns-5 c =
-    let sx : SFits w32 ((c .before .before .before .before .before .before .before .before .x) .given .0 .0) = search needs in
-    let sy : SFits w32 ((c .before .before .before .before .y) .given .0 .0) = search needs in
+    let sx : SFits w64 ((c .before .before .before .before .before .before .before .before .x) .given .0 .0) = search needs in
+    let sy : SFits w64 ((c .before .before .before .before .y) .given .0 .0) = search needs in
     let e = rw (toZ-ofZ sx, toZ-ofZ sy) at ((c .before .before .arith) .ensures) in
     arith-done _ _ _ _ _ _ (whole-is ((c .before .before .before .before .before .before .before .before .before .before .integer) .ensures) ((c .before .before .before .before .before .before .before .before .x) .given .1)) (whole-is ((c .before .before .before .before .before .before .integer2) .ensures) ((c .before .before .before .before .y) .given .1)) (computed-stuck _ (sym e ∙ (c .enum-told4) .given .1))
 

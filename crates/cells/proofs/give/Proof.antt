@@ -1,7 +1,7 @@
 -- `cells::give`: a cell is put where the register is there; all else is handed on.
 use Rattle.cells.proofs.Giving.{gave-cell, gave-outside, gave-stuck, gave-stop}
 use mir.Val.{SFits}
-use mir.Syntax.{w32}
+use mir.Syntax.{w64}
 use mir.Facts.{toZ-ofZ}
 use mathlib.Core.Path.{sym, _∙_}
 use borrow.Author.Needs.{needs}
@@ -25,13 +25,13 @@ enum-known-gives-2 c = search needs
 
 returns : tie.Need-returns
 returns c =
-    let s : SFits w32 ((c .before .before .before .before .before .gives) .given .0 .1 .0) = search needs in
+    let s : SFits w64 ((c .before .before .before .before .before .gives) .given .0 .1 .0) = search needs in
     let e = rw (toZ-ofZ s) at ((c .before .put) .ensures) in
     gave-cell _ _ _ _ (search needs) ((c .before .before .before .before .before .gives) .given .1) (sym ((c .if1) .taken) ∙ e .0) (e .1) (e .2)
 
 returns-2 : tie.Need-returns-2
 returns-2 c =
-    let s : SFits w32 ((c .before .before .before .before .before .gives) .given .0 .1 .0) = search needs in
+    let s : SFits w64 ((c .before .before .before .before .before .gives) .given .0 .1 .0) = search needs in
     let e = rw (toZ-ofZ s) at ((c .before .put) .ensures) in
     gave-outside _ _ _ _ (search needs) ((c .before .before .before .before .before .gives) .given .1) (sym ((c .if1) .left) ∙ e .0) (e .1) (e .2)
 

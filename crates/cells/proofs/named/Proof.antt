@@ -1,6 +1,6 @@
 -- `cells::named`: by the bound of the names, then by the code: a value, a promise, or unset.
 use mir.Val.{SFits}
-use mir.Syntax.{w32}
+use mir.Syntax.{w64}
 use lib.ListN.{getD}
 use lib.IntN.{pos}
 use Prim.Native.Nat.{_+_, _*_}
@@ -58,7 +58,7 @@ element-copy-out-t22 c = search needs
 returns-2 : tie.Need-returns-2
 unfolding givesOf namedIn setName endOf
 returns-2 c =
-    let s : SFits w32 (getD ((c .before .before .before .before .before) .args .numbers .now) (24 * (c .before .before .before .before .before) .args .k + (16 + (c .before .before .before .before .before) .args .x)) (pos 0)) = search needs in
+    let s : SFits w64 (getD ((c .before .before .before .before .before) .args .numbers .now) (24 * (c .before .before .before .before .before) .args .k + (16 + (c .before .before .before .before .before) .args .x)) (pos 0)) = search needs in
     rw (toZ-ofZ s, lt-ltb _ 8 ((c .before .before .before .before .if1) .left), sym ((c .before .before .is-plain) .ensures) ∙ (c .before .if2) .taken)
 
 is-promise-requires : tie.Need-is-promise-requires

@@ -3,7 +3,7 @@ use Rattle.cells.proofs.Given.{whole-is, whole-stuck, select-first, sel
 use Rattle.memory.specs.Parts.{endOf, givesOf}
 use Rattle.memory.specs.Memory.{valueOf}
 use mir.Val.{SFits}
-use mir.Syntax.{w32}
+use mir.Syntax.{w64}
 use mir.Facts.{toZ-ofZ}
 use mathlib.Core.Path.{ap, _∙_}
 use Rattle.machine.specs.declared.Value.{Value}
@@ -65,11 +65,11 @@ select-requires c κs = search needs
 returns-4 : tie.Need-returns-4
 unfolding givesOf valueOf endOf
 returns-4 c =
-    let sw : SFits w32 ((c .before .before .before .before .before .before .before .before .before .before .w) .given .0 .0) = search needs in
-    let sx : SFits w32 ((c .before .before .before .before .before .before .x) .given .0 .0) = search needs in
-    let sy : SFits w32 ((c .before .before .y) .given .0 .0) = search needs in
+    let sw : SFits w64 ((c .before .before .before .before .before .before .before .before .before .before .w) .given .0 .0) = search needs in
+    let sx : SFits w64 ((c .before .before .before .before .before .before .x) .given .0 .0) = search needs in
+    let sy : SFits w64 ((c .before .before .y) .given .0 .0) = search needs in
     let e = rw (toZ-ofZ sw, toZ-ofZ sx, toZ-ofZ sy) at ((c .select) .ensures) in
-    let sr : SFits w32 ((c .select) .result) = search needs in
+    let sr : SFits w64 ((c .select) .result) = search needs in
     ap (λ (v : ℤ). got (Value.Integer v)) (toZ-ofZ sr) ∙ select-done _ _ _ _ _ _ (whole-is ((c .before .before .before .before .before .before .before .before .before .before .before .before .integer) .ensures) ((c .before .before .before .before .before .before .before .before .before .before .w) .given .1)) (whole-is ((c .before .before .before .before .before .before .before .before .integer2) .ensures) ((c .before .before .before .before .before .before .x) .given .1)) (whole-is ((c .before .before .before .before .integer3) .ensures) ((c .before .before .y) .given .1)) e
 
 pub select-spec : {M : Type 1} → statement M

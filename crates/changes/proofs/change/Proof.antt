@@ -1,6 +1,7 @@
 -- `changes::change`: the verdict on the new image, then 15, whose offset lies within an accepted image.
 use Rattle.changes.proofs.change.Statement.{statement}
 use Rattle.changes.proofs.change.Tie as tie
+use Rattle.layout.specs.declared.Form.{Form}
 use Rattle.checker.proofs.Offsets.{refused-low}
 use Rattle.machine.proofs.Changes.{answer-low, change-refused, change-taken, change-differs}
 use borrow.Author.Needs.{needs}
@@ -15,7 +16,7 @@ enum-known-q c = search needs
 
 cast-t10 : tie.Need-cast-t10
 cast-t10 c =
-    record { fits = omega (arith, refused-low _ _ _ (sym ((c .before .before .before .verdict) .ensures) ∙ (c .before .q) .given .1)) }
+    record { fits = omega (arith, refused-low Form.Wide _ _ _ (sym ((c .before .before .before .verdict) .ensures) ∙ (c .before .q) .given .1)) }
 
 enum-told : tie.Need-enum-told
 enum-told c = search needs

@@ -5,7 +5,7 @@ use native.Mathlib.Omega.{arith}
 use borrow.Author.Tests.{not-true, not-false}
 use Rattle.ends.proofs.Finishes.{call-unkind, call-unfit, call-inner, call-old, call-done, call-back, call-unback}
 use mir.Val.{SFits}
-use mir.Syntax.{w32}
+use mir.Syntax.{w64}
 use mir.Facts.{toZ-ofZ}
 use lib.ListN.{getD}
 use lib.IntN.{pos}
@@ -83,7 +83,7 @@ finished-requires c κs = search needs
 returns-5 : tie.Need-returns-5
 unfolding Fewer
 returns-5 c =
-    let s : SFits w32 (getD ((c .before .before .before .before .before .before .before .before .before .before .before .before .before) .args .numbers .now) ((c .before .before .before .before .before .before .before .before .before .before .before .before .before) .args .i) (pos 0)) = search needs in
+    let s : SFits w64 (getD ((c .before .before .before .before .before .before .before .before .before .before .before .before .before) .args .numbers .now) ((c .before .before .before .before .before .before .before .before .before .before .before .before .before) .args .i) (pos 0)) = search needs in
     (call-done _ _ _ _ _ _ _ _ _ _ _ _ ((c .before .before .before .before .before .before .before .before .before .kind-of) .ensures) ((c .before .before .before .before .before .before .before .before .if1) .left) _ ((c .before .before .before .before .before .before .before .field) .ensures .0) (sym (not-false _ ((c .before .before .before .before .before .if2) .left)) ∙ (c .before .before .before .before .before .before .is-within) .ensures) ((c .before .before .before .if3) .left) ((c .before .before .if4) .left) _ ((c .before .if5) .taken) (toZ-ofZ s) ((c .finished) .ensures), fewer-finished _ _ _ ((c .finished) .ensures))
 
 sub-back : tie.Need-sub-back
@@ -104,13 +104,13 @@ back-requires c κs = search needs
 returns-6 : tie.Need-returns-6
 unfolding Fewer
 returns-6 c =
-    let s : SFits w32 (getD ((c .before .before .before .before .before .before .before .before .before .before .before .before .before .before .before .before .before) .args .numbers .now) ((c .before .before .before .before .before .before .before .before .before .before .before .before .before .before .before .before .before) .args .i) (pos 0)) = search needs in
+    let s : SFits w64 (getD ((c .before .before .before .before .before .before .before .before .before .before .before .before .before .before .before .before .before) .args .numbers .now) ((c .before .before .before .before .before .before .before .before .before .before .before .before .before .before .before .before .before) .args .i) (pos 0)) = search needs in
     (call-back _ _ _ _ _ _ _ _ _ _ _ _ ((c .before .before .before .before .before .before .before .before .before .before .before .before .before .kind-of) .ensures) ((c .before .before .before .before .before .before .before .before .before .before .before .before .if1) .left) _ ((c .before .before .before .before .before .before .before .before .before .before .before .field) .ensures .0) (sym (not-false _ ((c .before .before .before .before .before .before .before .before .before .if2) .left)) ∙ (c .before .before .before .before .before .before .before .before .before .before .is-within) .ensures) ((c .before .before .before .before .before .before .before .if3) .left) ((c .before .before .before .before .before .before .if4) .left) ((c .before .before .before .before .before .if5) .left) (search needs) _ _ _ (toZ-ofZ s) (rw ((c .if6) .taken) at ((c .before .back) .ensures)), omega (arith, (c .before .before .before .before .before .before .before .before .before .before .before .before .before .before .before .before .before) .pre .3))
 
 returns-7 : tie.Need-returns-7
 unfolding Fewer
 returns-7 c =
-    let s : SFits w32 (getD ((c .before .before .before .before .before .before .before .before .before .before .before .before .before .before .before .before .before) .args .numbers .now) ((c .before .before .before .before .before .before .before .before .before .before .before .before .before .before .before .before .before) .args .i) (pos 0)) = search needs in
+    let s : SFits w64 (getD ((c .before .before .before .before .before .before .before .before .before .before .before .before .before .before .before .before .before) .args .numbers .now) ((c .before .before .before .before .before .before .before .before .before .before .before .before .before .before .before .before .before) .args .i) (pos 0)) = search needs in
     (call-unback _ _ _ _ _ _ _ _ _ _ _ _ ((c .before .before .before .before .before .before .before .before .before .before .before .before .before .kind-of) .ensures) ((c .before .before .before .before .before .before .before .before .before .before .before .before .if1) .left) _ ((c .before .before .before .before .before .before .before .before .before .before .before .field) .ensures .0) (sym (not-false _ ((c .before .before .before .before .before .before .before .before .before .if2) .left)) ∙ (c .before .before .before .before .before .before .before .before .before .before .is-within) .ensures) ((c .before .before .before .before .before .before .before .if3) .left) ((c .before .before .before .before .before .before .if4) .left) ((c .before .before .before .before .before .if5) .left) (search needs) _ _ _ (toZ-ofZ s) (rw ((c .if6) .left) at ((c .before .back) .ensures)), tt)
 
 pub end-call-spec : {M : Type 1} → statement M

@@ -1,7 +1,7 @@
 -- `ends::end_force`: one test after the other; the integer is cached where it went back, else nothing is written.
 use Rattle.ends.proofs.Forces.{force-no, force-far, force-stuck, force-back}
 use mir.Val.{SFits}
-use mir.Syntax.{w32}
+use mir.Syntax.{w64}
 use mir.Facts.{toZ-ofZ}
 use lib.ListN.{getD}
 use lib.IntN.{pos}
@@ -81,12 +81,12 @@ element-set-from-z c = search needs
 
 returns-3 : tie.Need-returns-3
 returns-3 c =
-    let s : SFits w32 (getD ((c .before .before .before .before .before .before .before .before .before .before .before) .args .numbers .now) ((c .before .before .before .before .before .before .before .before .before .before .before) .args .i) (pos 0)) = search needs in
+    let s : SFits w64 (getD ((c .before .before .before .before .before .before .before .before .before .before .before) .args .numbers .now) ((c .before .before .before .before .before .before .before .before .before .before .before) .args .i) (pos 0)) = search needs in
     force-back _ _ _ _ _ _ _ _ ((c .before .before .before .before .before .before .before .before .before .if1) .left) _ ((c .before .before .before .before .before .before .wide) .ensures .0) ((c .before .before .before .before .before .if2) .left) _ (toZ-ofZ s) (search needs) _ _ (rw ((c .if3) .taken) at ((c .before .back) .ensures)) refl refl
 
 returns-4 : tie.Need-returns-4
 returns-4 c =
-    let s : SFits w32 (getD ((c .before .before .before .before .before .before .before .before .before .before .before) .args .numbers .now) ((c .before .before .before .before .before .before .before .before .before .before .before) .args .i) (pos 0)) = search needs in
+    let s : SFits w64 (getD ((c .before .before .before .before .before .before .before .before .before .before .before) .args .numbers .now) ((c .before .before .before .before .before .before .before .before .before .before .before) .args .i) (pos 0)) = search needs in
     force-stuck _ _ _ _ _ _ _ _ ((c .before .before .before .before .before .before .before .before .before .if1) .left) _ ((c .before .before .before .before .before .before .wide) .ensures .0) ((c .before .before .before .before .before .if2) .left) _ (toZ-ofZ s) (search needs) _ _ (rw ((c .if3) .left) at ((c .before .back) .ensures))
 
 pub end-force-spec : {M : Type 1} → statement M

@@ -1,6 +1,6 @@
 -- `engine::come_to`: each turn by its own branch.
 use mir.Facts.{toZ-ofZ}
-use mir.Syntax.{w32}
+use mir.Syntax.{w64}
 use mir.Val.{SFits}
 use Rattle.engine.proofs.Resuming.{out-on, out-stack, out-integer, out-vector, out-stuck, out-stop}
 use borrow.Author.Needs.{needs}
@@ -75,7 +75,7 @@ returns-2 c =
 
 returns-3 : tie.Need-returns-3
 returns-3 c =
-    let s : SFits w32 ((c .before .before .turn) .given .0 .0) = search needs in out-integer _ _ _ _ _ _ ((c .before .before .turn) .given .1) (rw (toZ-ofZ s) at ((c .ended) .ensures))
+    let s : SFits w64 ((c .before .before .turn) .given .0 .0) = search needs in out-integer _ _ _ _ _ _ ((c .before .before .turn) .given .1) (rw (toZ-ofZ s) at ((c .ended) .ensures))
 
 returns-4 : tie.Need-returns-4
 returns-4 c =

@@ -4,7 +4,7 @@ use Rattle.instructions.proofs.Forming.{instr-is, lists-is, pairs-is}
 use Rattle.instructions.specs.Forms.{formed, listsOf, pairs}
 use Rattle.memory.specs.declared.Gives.{Gives}
 use mir.Val.{SFits}
-use mir.Syntax.{w32}
+use mir.Syntax.{w64}
 use mir.Facts.{toZ-ofZ}
 use native.Mathlib.Omega.{arith}
 use mathlib.Core.Path.{ap}
@@ -267,7 +267,7 @@ skip-requires c κs = search needs
 returns : tie.Need-returns
 unfolding formed
 returns c =
-    let s : SFits w32 ((c .before .before .before .before .before .d) .given .0 .1 .0) = search needs in
+    let s : SFits w64 ((c .before .before .before .before .before .d) .given .0 .1 .0) = search needs in
     lit-arm _ _ _ _ _ _ _ _ _ _ _ _ _ _ _ _ _ _ _ _ _ (instr-is _ ((c .before .before .before .before .before .before .before .decode) .ensures) _ ((c .before .before .before .before .before .d) .given .1)) (ap (Gives.Cell 1) (toZ-ofZ s)) ((c .before .give) .ensures) ((c .turned) .ensures)
 
 returns-2 : tie.Need-returns-2

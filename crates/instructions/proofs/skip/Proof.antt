@@ -2,7 +2,7 @@
 use mathlib.Core.Path.{refl}
 use borrow.Author.Tests.{not-true, not-false}
 use native.Mathlib.Omega.{arith}
-use mir.Syntax.{w32}
+use mir.Syntax.{w64}
 use mir.Val.{SFits}
 use Rattle.machine.specs.Values.{isZero}
 use Rattle.integers.proofs.Signs.{told}
@@ -30,13 +30,13 @@ is-zero-requires c κs = search needs
 
 returns-2 : tie.Need-returns-2
 returns-2 c =
-    let fits : SFits w32 ((c .before .before .before .z) .given .0 .0) = search needs in
+    let fits : SFits w64 ((c .before .before .before .z) .given .0 .0) = search needs in
     let is = whole-is (c .before .before .before .before .before .integer .ensures) (c .before .before .before .z .given .1) in
     skip-left _ _ _ _ _ _ _ _ is (told isZero fits (c .before .is-zero .ensures) (not-true (c .before .is-zero .result) (c .if1 .taken)))
 
 returns-3 : tie.Need-returns-3
 returns-3 c =
-    let fits : SFits w32 ((c .before .before .before .before .z) .given .0 .0) = search needs in
+    let fits : SFits w64 ((c .before .before .before .before .z) .given .0 .0) = search needs in
     let is = whole-is (c .before .before .before .before .before .before .integer .ensures) (c .before .before .before .before .z .given .1) in
     let zero = told isZero fits (c .before .before .is-zero .ensures) (not-false (c .before .before .is-zero .result) (c .before .if1 .left)) in
     skip-none _ _ _ _ _ _ _ _ is zero (c .if2 .taken)
@@ -66,7 +66,7 @@ returns-4 : tie.Need-returns-4
 returns-4 c =
     let begun = c .before .before .before .before in
     let start = begun .before .before .before .before in
-    let fits : SFits w32 (start .z .given .0 .0) = search needs in
+    let fits : SFits w64 (start .z .given .0 .0) = search needs in
     let is = whole-is (start .before .before .integer .ensures) (start .z .given .1) in
     let zero = told isZero fits (begun .before .before .is-zero .ensures) (not-false (begun .before .before .is-zero .result) (begun .before .if1 .left)) in
     let far = c .if3 .taken in
@@ -82,7 +82,7 @@ returns-5 : tie.Need-returns-5
 returns-5 c =
     let begun = c .before .before .before .before in
     let start = begun .before .before .before .before in
-    let fits : SFits w32 (start .z .given .0 .0) = search needs in
+    let fits : SFits w64 (start .z .given .0 .0) = search needs in
     let is = whole-is (start .before .before .integer .ensures) (start .z .given .1) in
     let zero = told isZero fits (begun .before .before .is-zero .ensures) (not-false (begun .before .before .is-zero .result) (begun .before .if1 .left)) in
     let pre = start .before .before .before .pre in

@@ -1,27 +1,33 @@
--- `integers::add`: the i64 is the sum, which fits.
+-- `integers::add`: the sum in the width, where it is in range.
+use Rattle.integers.proofs.Answers.{in-range, out-of-range}
+use Rattle.integers.proofs.Ranges.{passing}
 use Rattle.integers.proofs.add.Statement.{statement}
 use Rattle.integers.proofs.add.Tie as tie
-use Rattle.integers.proofs.Signs.{widened, kept, sum-fits}
-use mir.Facts.{toZ-ofZ}
 use borrow.Author.Needs.{needs}
+use mathlib.Core.Path.{sym, _∙_}
+use mir.Facts.{toZ-ofZ}
 
-cast-ranged : tie.Need-cast-ranged
-cast-ranged c = widened (c .fits .x)
+sum-in-range-requires : tie.Need-sum-in-range-requires
+sum-in-range-requires c κs = search needs
 
-cast-ranged-2 : tie.Need-cast-ranged-2
-cast-ranged-2 c = widened (c .fits .y)
-
-add-ranged : tie.Need-add-ranged
-add-ranged c = rw (kept (c .fits .x), kept (c .fits .y)) (sum-fits (c .fits .x) (c .fits .y))
-
-ranged-requires : tie.Need-ranged-requires
-ranged-requires c κs = search needs
+add-t4 : tie.Need-add-t4
+add-t4 c =
+    let p = (c .before .before) .fits .x in
+    let q = (c .before .before) .fits .y in
+    rw (toZ-ofZ p, toZ-ofZ q) (passing _ (rw (toZ-ofZ p, toZ-ofZ q) at (sym ((c .before .sum-in-range) .ensures) ∙ (c .if1) .taken)))
 
 returns : tie.Need-returns
 returns c =
-    let x = c .before .fits .x in
-    let y = c .before .fits .y in
-    rw (kept x, kept y, toZ-ofZ (sum-fits x y)) at (c .ranged .ensures)
+    let p = (c .before .before) .fits .x in
+    let q = (c .before .before) .fits .y in
+    let is = rw (toZ-ofZ p, toZ-ofZ q) at (sym ((c .before .sum-in-range) .ensures) ∙ (c .if1) .taken) in
+    rw (toZ-ofZ p, toZ-ofZ q, toZ-ofZ (passing _ is)) (in-range _ is)
+
+returns-2 : tie.Need-returns-2
+returns-2 c =
+    let p = (c .before .before) .fits .x in
+    let q = (c .before .before) .fits .y in
+    out-of-range _ (rw (toZ-ofZ p, toZ-ofZ q) at (sym ((c .before .sum-in-range) .ensures) ∙ (c .if1) .left))
 
 pub add-spec : {M : Type 1} → statement M
-add-spec = tie.close (tie.spec cast-ranged cast-ranged-2 add-ranged ranged-requires returns)
+add-spec = tie.close (tie.spec sum-in-range-requires add-t4 returns returns-2)

@@ -2,7 +2,7 @@
 use Rattle.integers.proofs.arith.Statement.{statement}
 use Rattle.integers.proofs.arith.Tie as tie
 use Rattle.layout.specs.Records.{choose}
-use Rattle.machine.specs.Values.{arith}
+use Rattle.machine.specs.Values.{arithTo}
 use Rattle.integers.specs.Computed.{computedOf}
 use mir.Facts.{toZ-ofZ}
 use borrow.Author.Needs.{needs}
@@ -24,37 +24,37 @@ less-requires : tie.Need-less-requires
 less-requires c κs = search needs
 
 returns : tie.Need-returns
-unfolding arith choose
+unfolding arithTo choose
 returns c =
     let start = c .before .before .fits in
     rw (c .before .match .keys1) (rw (toZ-ofZ (start .x), toZ-ofZ (start .y)) at (c .add .ensures))
 
 returns-2 : tie.Need-returns-2
-unfolding arith choose
+unfolding arithTo choose
 returns-2 c =
     let start = c .before .before .fits in
     rw (c .before .match .keys2) (rw (toZ-ofZ (start .x), toZ-ofZ (start .y)) at (c .subtract .ensures))
 
 returns-3 : tie.Need-returns-3
-unfolding arith choose
+unfolding arithTo choose
 returns-3 c =
     let start = c .before .before .fits in
     rw (c .before .match .keys3) (rw (toZ-ofZ (start .x), toZ-ofZ (start .y)) at (c .multiply .ensures))
 
 returns-4 : tie.Need-returns-4
-unfolding arith choose
+unfolding arithTo choose
 returns-4 c =
     let start = c .before .before .fits in
     rw (c .before .match .keys4) (rw (toZ-ofZ (start .x), toZ-ofZ (start .y)) at (c .divide .ensures))
 
 returns-5 : tie.Need-returns-5
-unfolding arith choose
+unfolding arithTo choose
 returns-5 c =
     let start = c .before .before .fits in
     rw (c .before .match .keys5) (rw (toZ-ofZ (start .x), toZ-ofZ (start .y)) at (c .less .ensures))
 
 returns-6 : tie.Need-returns-6
-unfolding arith choose computedOf
+unfolding arithTo choose computedOf
 returns-6 c =
     let is-not = c .match .rest in
     simp (ne-eqb _ _ (is-not .0 .0 .0 .0 .1), ne-eqb _ _ (is-not .0 .0 .0 .1), ne-eqb _ _ (is-not .0 .0 .1), ne-eqb _ _ (is-not .0 .1), ne-eqb _ _ (is-not .1))

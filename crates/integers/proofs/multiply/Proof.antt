@@ -1,27 +1,33 @@
--- `integers::multiply`: the i64 is the product, which fits.
+-- `integers::multiply`: the product in the width, where it is in range.
+use Rattle.integers.proofs.Answers.{in-range, out-of-range}
+use Rattle.integers.proofs.Ranges.{passing}
 use Rattle.integers.proofs.multiply.Statement.{statement}
 use Rattle.integers.proofs.multiply.Tie as tie
-use Rattle.integers.proofs.Signs.{widened, kept, product-fits}
-use mir.Facts.{toZ-ofZ}
 use borrow.Author.Needs.{needs}
+use mathlib.Core.Path.{sym, _∙_}
+use mir.Facts.{toZ-ofZ}
 
-cast-ranged : tie.Need-cast-ranged
-cast-ranged c = widened (c .fits .x)
+product-in-range-requires : tie.Need-product-in-range-requires
+product-in-range-requires c κs = search needs
 
-cast-ranged-2 : tie.Need-cast-ranged-2
-cast-ranged-2 c = widened (c .fits .y)
-
-mul-ranged : tie.Need-mul-ranged
-mul-ranged c = rw (kept (c .fits .x), kept (c .fits .y)) (product-fits (c .fits .x) (c .fits .y))
-
-ranged-requires : tie.Need-ranged-requires
-ranged-requires c κs = search needs
+mul-t4 : tie.Need-mul-t4
+mul-t4 c =
+    let p = (c .before .before) .fits .x in
+    let q = (c .before .before) .fits .y in
+    rw (toZ-ofZ p, toZ-ofZ q) (passing _ (rw (toZ-ofZ p, toZ-ofZ q) at (sym ((c .before .product-in-range) .ensures) ∙ (c .if1) .taken)))
 
 returns : tie.Need-returns
 returns c =
-    let x = c .before .fits .x in
-    let y = c .before .fits .y in
-    rw (kept x, kept y, toZ-ofZ (product-fits x y)) at (c .ranged .ensures)
+    let p = (c .before .before) .fits .x in
+    let q = (c .before .before) .fits .y in
+    let is = rw (toZ-ofZ p, toZ-ofZ q) at (sym ((c .before .product-in-range) .ensures) ∙ (c .if1) .taken) in
+    rw (toZ-ofZ p, toZ-ofZ q, toZ-ofZ (passing _ is)) (in-range _ is)
+
+returns-2 : tie.Need-returns-2
+returns-2 c =
+    let p = (c .before .before) .fits .x in
+    let q = (c .before .before) .fits .y in
+    out-of-range _ (rw (toZ-ofZ p, toZ-ofZ q) at (sym ((c .before .product-in-range) .ensures) ∙ (c .if1) .left))
 
 pub multiply-spec : {M : Type 1} → statement M
-multiply-spec = tie.close (tie.spec cast-ranged cast-ranged-2 mul-ranged ranged-requires returns)
+multiply-spec = tie.close (tie.spec product-in-range-requires mul-t4 returns returns-2)

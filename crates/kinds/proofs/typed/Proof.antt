@@ -4,7 +4,7 @@ use mir.Facts.{toZ-ofZ}
 use Prim.Native.Nat.{_+_, _*_}
 use lib.IntN.{pos}
 use lib.ListN.{getD}
-use mir.Syntax.{w32}
+use mir.Syntax.{w64}
 use mir.Val.{SFits}
 use mathlib.Core.Path.{sym, _∙_}
 use Rattle.memory.specs.Parts.{endOf, givesOf}
@@ -85,7 +85,7 @@ element-copy-out-t35 c = search needs
 returns-4 : tie.Need-returns-4
 unfolding givesOf endOf
 returns-4 c =
-    let s : SFits w32 (getD ((c .before .before .before .before .before .before .before .before .before .before .before .before) .args .numbers .now) (24 * (c .before .before .before .before .before .before .before .before .before .before .before .before) .args .k + (c .before .before .before .before .before .before .before .before .before .before .before .before) .args .a) (pos 0)) = search needs in
+    let s : SFits w64 (getD ((c .before .before .before .before .before .before .before .before .before .before .before .before) .args .numbers .now) (24 * (c .before .before .before .before .before .before .before .before .before .before .before .before) .args .k + (c .before .before .before .before .before .before .before .before .before .before .before .before) .args .a) (pos 0)) = search needs in
     rw (toZ-ofZ s) (typed-fits-in _ _ _ _ _ _ _ _ _ _ _ ((c .before .before .before .before .before .before .before .before .before .before .if1) .left) _ (kinded-or _ _ _ _ _ ((c .before .before .before .before .before .before .before .before .kind-of) .ensures)) ((c .before .before .before .before .before .before .before .if2) .left) _ ((c .before .before .before .before .before .before .registers) .ensures .0) ((c .before .before .before .before .before .if3) .left) _ ((c .before .before .before .before .type-of) .ensures .0) (sym ((c .before .before .before .is-within) .ensures) ∙ (c .before .before .if4) .taken))
 
 returns-5 : tie.Need-returns-5

@@ -12,10 +12,10 @@ use mathlib.Core.Path.{refl}
 use native.Mathlib.Omega.{arith}
 
 abbrev Inv-loop : tie.InvT-loop
-Inv-loop image p₀ p = Along fitting same nothing (question3 (records image)) image p tt
+Inv-loop image form p₀ p = Along (fitting form) same nothing (question3 form (records image)) image p tt
 
 abbrev μ-loop : tie.MeasureT-loop
-μ-loop image p₀ p = length image - p
+μ-loop image form p₀ p = length image - p
 
 loop-holds : tie.Need-loop-holds Inv-loop μ-loop
 unfolding question2 question3

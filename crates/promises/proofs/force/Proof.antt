@@ -2,7 +2,7 @@
 use lib.IntN.{pos}
 use lib.ListN.{getD}
 use mir.Facts.{toZ-ofZ}
-use mir.Syntax.{w32}
+use mir.Syntax.{w64}
 use mir.Val.{SFits}
 use Rattle.cells.proofs.Given.{found-is, found-stuck}
 use Rattle.promises.proofs.Forcing.{force-stuck, force-outside, force-by, force-again, force-deep, force-opened}
@@ -57,7 +57,7 @@ cached-requires c κs = search needs
 
 returns-3 : tie.Need-returns-3
 returns-3 c =
-    let s : SFits w32 (getD ((c .before .before .before .before .before .before .before .before .before .before .before .before .before) .args .caches .now) ((c .before .before .before .before .before .before .before .before .before .p) .given .0 .0) (pos 0)) = search needs in
+    let s : SFits w64 (getD ((c .before .before .before .before .before .before .before .before .before .before .before .before .before) .args .caches .now) ((c .before .before .before .before .before .before .before .before .before .p) .given .0 .0) (pos 0)) = search needs in
     let e = rw (toZ-ofZ s) at ((c .before .put) .ensures) in
     force-by _ _ _ _ _ _ _ _ _ _ (found-is ((c .before .before .before .before .before .before .before .before .before .before .before .promise) .ensures) ((c .before .before .before .before .before .before .before .before .before .p) .given .1)) ((c .before .before .before .before .before .before .before .if1) .left) _ _ ((c .before .before .before .before .before .if2) .taken) (e .0) ((c .cached) .ensures) (e .1) (e .2)
 

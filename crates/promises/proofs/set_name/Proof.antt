@@ -3,7 +3,7 @@ use mathlib.Core.Path.{sym, _∙_}
 use lib.IntN.{pos}
 use lib.ListN.{getD}
 use mir.Facts.{toZ-ofZ}
-use mir.Syntax.{w32}
+use mir.Syntax.{w64}
 use mir.Val.{SFits}
 use native.Mathlib.Omega.{arith}
 use Rattle.cells.proofs.Given.{found-is, found-stuck}
@@ -52,13 +52,13 @@ put-name-requires c κs = search needs
 
 returns-2 : tie.Need-returns-2
 returns-2 c =
-    let s : SFits w32 (getD ((c .before .before .before .before .before .before .before .before .before .before .before) .args .numbers .now) ((c .before .before .before .before .before .before .before .i) .given .0 .0) (pos 0)) = search needs in
+    let s : SFits w64 (getD ((c .before .before .before .before .before .before .before .before .before .before .before) .args .numbers .now) ((c .before .before .before .before .before .before .before .i) .given .0 .0) (pos 0)) = search needs in
     let e = rw (toZ-ofZ s) at ((c .before .put-name) .ensures) in
     name-set _ _ _ _ _ _ (search needs) (found-is ((c .before .before .before .before .before .before .before .before .before .plain) .ensures) ((c .before .before .before .before .before .before .before .i) .given .1)) (sym ((c .if1) .taken) ∙ e .0) (e .1) (e .2)
 
 returns-3 : tie.Need-returns-3
 returns-3 c =
-    let s : SFits w32 (getD ((c .before .before .before .before .before .before .before .before .before .before .before) .args .numbers .now) ((c .before .before .before .before .before .before .before .i) .given .0 .0) (pos 0)) = search needs in
+    let s : SFits w64 (getD ((c .before .before .before .before .before .before .before .before .before .before .before) .args .numbers .now) ((c .before .before .before .before .before .before .before .i) .given .0 .0) (pos 0)) = search needs in
     let e = rw (toZ-ofZ s) at ((c .before .put-name) .ensures) in
     name-outside _ _ _ _ _ _ (search needs) (found-is ((c .before .before .before .before .before .before .before .before .before .plain) .ensures) ((c .before .before .before .before .before .before .before .i) .given .1)) (sym ((c .if1) .left) ∙ e .0) (e .1) (e .2)
 

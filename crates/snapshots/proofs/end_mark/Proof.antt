@@ -5,7 +5,7 @@ use Rattle.snapshots.specs.Held.{endingOf}
 use borrow.Author.Needs.{needs}
 use mathlib.Core.Path.{refl}
 use mir.Facts.{toZ-ofZ}
-use mir.Syntax.{w32}
+use mir.Syntax.{w64}
 use mir.Val.{SFits}
 
 enum-known-end : tie.Need-enum-known-end
@@ -29,7 +29,7 @@ enum-told-4 c = search needs
 returns : tie.Need-returns
 unfolding endingOf
 returns c =
-    let s : SFits w32 (c .before .end .given .0 .0) = search needs in
+    let s : SFits w64 (c .before .end .given .0 .0) = search needs in
     rw (c .before .end .given .1, toZ-ofZ s) refl
 
 returns-2 : tie.Need-returns-2

@@ -1,7 +1,7 @@
 -- `stepping::closed`: each end by its own branch.
 use Rattle.stepping.specs.Going.{closedOf}
 use mir.Val.{SFits}
-use mir.Syntax.{w32}
+use mir.Syntax.{w64}
 use mir.Facts.{toZ-ofZ}
 use borrow.Author.Needs.{needs}
 use Rattle.stepping.proofs.closed.Statement.{statement}
@@ -32,7 +32,7 @@ returns c =
 returns-2 : tie.Need-returns-2
 unfolding closedOf
 returns-2 c =
-    let s : SFits w32 ((c .before .end2) .given .0 .0) = search needs in
+    let s : SFits w64 ((c .before .end2) .given .0 .0) = search needs in
     rw (toZ-ofZ s, (c .before .end2) .given .1)
 
 returns-3 : tie.Need-returns-3

@@ -1,6 +1,6 @@
 -- `stepping::go`: after n turns the run stands at the spot, what is left of the budget comes to what all of it does, and `home` is a place that was reached.
 use mir.Val.{Fits, SFits}
-use mir.Syntax.{w32, w64}
+use mir.Syntax.{w64}
 use mir.Facts.{toZ-ofZ}
 use Rattle.stepping.proofs.Running.{Going, going-start, going-on, going-located, going-stuck, going-stop, going-integer, going-vector, going-none, next-fits, back-reached}
 use Rattle.places.proofs.Locating.{room}
@@ -109,7 +109,7 @@ tally-requires c κs =
 
 returns : tie.Need-returns Inv-loop μ-loop
 returns c =
-    let s : SFits w32 ((c .before .before .z) .given .0 .0) = search needs in
+    let s : SFits w64 ((c .before .before .z) .given .0 .0) = search needs in
     rw ((c .tally) .ensures, toZ-ofZ s) (going-integer _ _ _ _ _ _ _ ((c .before .before .before .before .before .before .before .before .before .before .before .before .before .before .loop) .inv .0) ((c .before .before .before .before .before .before .before .before .before .before .before .before .before .loop-test) .taken) _ _ (rw ((c .before .before .z) .given .1) at ((c .before .before .before .before .step) .ensures)))
 
 enum-known-v : tie.Need-enum-known-v Inv-loop μ-loop

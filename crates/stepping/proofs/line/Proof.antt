@@ -1,7 +1,7 @@
 -- `stepping::line`: each turn by its own branch; where nothing was done, the stack is put back as it was.
 use Rattle.stepping.proofs.Stepping.{small, line-on, line-stack, line-integer, line-vector, line-stuck, line-stop}
 use mir.Val.{SFits}
-use mir.Syntax.{w32}
+use mir.Syntax.{w64}
 use mir.Facts.{toZ-ofZ}
 use native.Mathlib.Omega.{arith}
 use borrow.Author.Needs.{needs}
@@ -76,7 +76,7 @@ returns-2 c =
 
 returns-3 : tie.Need-returns-3
 returns-3 c =
-    let s : SFits w32 ((c .before .z) .given .0 .0) = search needs in
+    let s : SFits w64 ((c .before .z) .given .0 .0) = search needs in
     rw (toZ-ofZ s) (line-integer _ _ _ _ _ _ _ _ _ _ ((c .before .before .before .before .before .before .before .before .before .before .before .before .before .before .before) .pre .1) ((c .before .before .before .before .before .before .before .before .before .before .before .before .before .before .before) .pre .2) ((c .before .before .before .before .before .before .before .before .before .before .before .before .before .before .before) .pre .3) ((c .before .before .before .before .before .before .before .before .before .before .before .before .before .before .before) .pre .4) _ _ _ _ _ _ _ _ _ (rw ((c .before .z) .given .1) at ((c .before .before .before .instruct) .ensures)))
 
 returns-4 : tie.Need-returns-4

@@ -6,7 +6,7 @@ use borrow.Author.Needs.{needs}
 use lib.IntN.{pos}
 use lib.ListN.{getD}
 use mir.Val.{SFits}
-use mir.Syntax.{w32}
+use mir.Syntax.{w64}
 use mir.Facts.{toZ-ofZ}
 use Rattle.memory.specs.Memory.{itemIn}
 use Rattle.vectors.specs.Vectors.{Renewed}
@@ -58,7 +58,7 @@ loop-less c = search needs
 
 loop-again : tie.Need-loop-again Inv-loop μ-loop
 loop-again c =
-    let t : SFits w32 (getD ((c .before .before .loop) .items) (16 * (c .before .before .before) .args .v + (c .before .before .loop) .j) (pos 0)) = search needs in
+    let t : SFits w64 (getD ((c .before .before .loop) .items) (16 * (c .before .before .before) .args .v + (c .before .before .loop) .j) (pos 0)) = search needs in
     (omega (arith, (c .before .loop-test) .taken), renewed-on ((c .before .before .loop) .inv .1) _ (search needs) ((c .before .loop-test) .taken) (toZ-ofZ t ∙ still ((c .before .before .loop) .inv .1) _ ((c .before .loop-test) .taken)))
 
 returns : tie.Need-returns Inv-loop μ-loop

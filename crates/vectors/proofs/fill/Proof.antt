@@ -4,7 +4,7 @@ use Prim.Native.Nat.{_-_, _≤_}
 use native.Mathlib.Omega.{arith}
 use borrow.Author.Needs.{needs}
 use mir.Val.{SFits}
-use mir.Syntax.{w32}
+use mir.Syntax.{w64}
 use mir.Facts.{toZ-ofZ}
 use Rattle.program.specs.Places.{instrAt}
 use Rattle.program.specs.Shapes.{listedRegisters}
@@ -49,7 +49,7 @@ loop-less c = search needs
 
 loop-again : tie.Need-loop-again Inv-loop μ-loop
 loop-again c =
-    let t : SFits w32 ((c .item) .result) = search needs in
+    let t : SFits w64 ((c .item) .result) = search needs in
     (omega (arith, (c .before .loop-test) .taken), renewed-on ((c .before .before .loop) .inv .1) _ (search needs) ((c .before .loop-test) .taken) (toZ-ofZ t ∙ (c .item) .ensures))
 
 returns : tie.Need-returns Inv-loop μ-loop

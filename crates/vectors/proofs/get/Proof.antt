@@ -6,7 +6,7 @@ use Rattle.vectors.proofs.Feeding.{index-below, picked, picked-stuck, p
 use Rattle.cells.proofs.Undef.{index-at, index-undef}
 use Rattle.cells.proofs.Given.{found-is, found-stuck, whole-is, whole-stuck}
 use mir.Facts.{toZ-ofZ}
-use mir.Syntax.{w32}
+use mir.Syntax.{w64}
 use mir.Val.{SFits}
 use native.Mathlib.Omega.{arith}
 use mathlib.Core.Path.{sym, _∙_}
@@ -81,14 +81,14 @@ enum-told-3 c = search needs
 
 returns-4 : tie.Need-returns-4
 returns-4 c =
-    let s : SFits w32 ((c .before .before .before .before .before .before .before .z) .given .0 .0) = search needs in
+    let s : SFits w64 ((c .before .before .before .before .before .before .before .z) .given .0 .0) = search needs in
     let e = rw (toZ-ofZ s) at ((c .before .before .before .before .index) .ensures) in
-    let t : SFits w32 (getD ((c .before .before .before .before .before .before .before .before .before .before .before .before .before .before .before) .args .items .now) (16 * (c .before .before .before .before .before .before .before .before .before .before .before .before .v) .given .0 .0 + (c .before .before .j) .given .0 .0) (pos 0)) = search needs in
+    let t : SFits w64 (getD ((c .before .before .before .before .before .before .before .before .before .before .before .before .before .before .before) .args .items .now) (16 * (c .before .before .before .before .before .before .before .before .before .before .before .before .v) .given .0 .0 + (c .before .before .j) .given .0 .0) (pos 0)) = search needs in
     picked _ _ _ _ _ _ _ (found-is ((c .before .before .before .before .before .before .before .before .before .before .before .before .before .before .vector) .ensures) ((c .before .before .before .before .before .before .before .before .before .before .before .before .v) .given .1)) ((c .before .before .before .before .before .before .before .before .before .before .if1) .left) (whole-is ((c .before .before .before .before .before .before .before .before .before .integer) .ensures) ((c .before .before .before .before .before .before .before .z) .given .1)) ((c .before .before .before .before .before .shown) .ensures .0) (index-at _ _ _ (sym e ∙ (c .before .before .j) .given .1)) (toZ-ofZ t)
 
 returns-5 : tie.Need-returns-5
 returns-5 c =
-    let s : SFits w32 ((c .before .before .before .before .before .z) .given .0 .0) = search needs in
+    let s : SFits w64 ((c .before .before .before .before .before .z) .given .0 .0) = search needs in
     let e = rw (toZ-ofZ s) at ((c .before .before .index) .ensures) in
     picked-undef _ _ _ _ _ _ _ (found-is ((c .before .before .before .before .before .before .before .before .before .before .before .before .vector) .ensures) ((c .before .before .before .before .before .before .before .before .before .before .v) .given .1)) ((c .before .before .before .before .before .before .before .before .if1) .left) (whole-is ((c .before .before .before .before .before .before .before .integer) .ensures) ((c .before .before .before .before .before .z) .given .1)) ((c .before .before .before .shown) .ensures .0) (index-undef _ _ (sym e ∙ (c .enum-told3) .given .1))
 

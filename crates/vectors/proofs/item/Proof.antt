@@ -1,7 +1,7 @@
 -- `vectors::item`: by the test; the register is the one listed at j.
 use Rattle.vectors.specs.Vectors.{listedItem}
 use mir.Facts.{toZ-ofZ}
-use mir.Syntax.{w32}
+use mir.Syntax.{w64}
 use mir.Val.{SFits}
 use Prim.Native.Nat.{_+_, _*_, _%_}
 use lib.ListN.{getD}
@@ -38,7 +38,7 @@ element-copy-out-result c = search needs
 returns-2 : tie.Need-returns-2
 unfolding listedItem
 returns-2 c =
-    let t : SFits w32 (getD ((c .before .before .before .before) .args .numbers .now) (24 * (c .before .before .before .before) .args .k + (c .before .listed-register) .result % 16) (pos 0)) = search needs in
+    let t : SFits w64 (getD ((c .before .before .before .before) .args .numbers .now) (24 * (c .before .before .before .before) .args .k + (c .before .listed-register) .result % 16) (pos 0)) = search needs in
     toZ-ofZ t ∙ rw (lt-ltb _ _ ((c .before .before .if1) .left), (c .before .listed-register) .ensures .0) refl
 
 pub item-spec : {M : Type 1} → statement M

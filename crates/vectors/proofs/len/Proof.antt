@@ -2,7 +2,7 @@
 use Rattle.vectors.proofs.Feeding.{measured, measured-stuck, measured-outside}
 use Rattle.cells.proofs.Given.{found-is, found-stuck}
 use mir.Facts.{toZ-pos}
-use mir.Syntax.{w32}
+use mir.Syntax.{w64}
 use borrow.Author.Needs.{needs}
 use Rattle.vectors.proofs.len.Statement.{statement}
 use Rattle.vectors.proofs.len.Tie as tie
@@ -36,7 +36,7 @@ cast-t9 c = search needs
 
 returns-3 : tie.Need-returns-3
 returns-3 c =
-    rw (toZ-pos w32 {n = (c .shown) .result} (search needs)) (measured _ _ _ _ _ _ (found-is ((c .before .before .before .before .before .vector) .ensures) ((c .before .before .before .v) .given .1)) ((c .before .if1) .left) ((c .shown) .ensures .0))
+    rw (toZ-pos w64 {n = (c .shown) .result} (search needs)) (measured _ _ _ _ _ _ (found-is ((c .before .before .before .before .before .vector) .ensures) ((c .before .before .before .v) .given .1)) ((c .before .if1) .left) ((c .shown) .ensures .0))
 
 pub len-spec : {M : Type 1} → statement M
 len-spec =

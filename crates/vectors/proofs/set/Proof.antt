@@ -6,7 +6,7 @@ use Rattle.cells.proofs.Given.{found-is, found-stuck, whole-is, whole-stuck}
 use Prim.Native.Nat.{_+_, _*_}
 use lib.ListN.{set}
 use mir.Facts.{toZ-ofZ}
-use mir.Syntax.{w32}
+use mir.Syntax.{w64}
 use mir.Val.{SFits}
 use native.Mathlib.Omega.{arith}
 use mathlib.Core.Path.{sym, _∙_, ap}
@@ -112,14 +112,14 @@ enum-told-4 c = search needs
 
 returns-6 : tie.Need-returns-6
 returns-6 c =
-    let s : SFits w32 ((c .before .before .before .before .before .before .before .before .before .before .before .before .before .z) .given .0 .0) = search needs in
+    let s : SFits w64 ((c .before .before .before .before .before .before .before .before .before .before .before .before .before .z) .given .0 .0) = search needs in
     let e = rw (toZ-ofZ s) at ((c .before .before .before .index) .ensures) in
-    let t : SFits w32 ((c .before .before .before .before .before .before .before .before .before .x) .given .0 .0) = search needs in
+    let t : SFits w64 ((c .before .before .before .before .before .before .before .before .before .x) .given .0 .0) = search needs in
     replaced _ _ _ _ _ _ _ _ _ (found-is ((c .before .before .before .before .before .before .before .before .before .before .before .before .before .before .before .before .before .before .before .before .vector) .ensures) ((c .before .before .before .before .before .before .before .before .before .before .before .before .before .before .before .before .before .before .v) .given .1)) ((c .before .before .before .before .before .before .before .before .before .before .before .before .before .before .before .before .if1) .left) (whole-is ((c .before .before .before .before .before .before .before .before .before .before .before .before .before .before .before .integer) .ensures) ((c .before .before .before .before .before .before .before .before .before .before .before .before .before .z) .given .1)) (whole-is ((c .before .before .before .before .before .before .before .before .before .before .before .integer2) .ensures) ((c .before .before .before .before .before .before .before .before .before .x) .given .1)) ((c .before .before .before .before .before .before .before .live-cells) .ensures .0) ((c .before .before .before .before .before .before .count) .ensures) ((c .before .before .before .before .before .if2) .left) ((c .before .before .before .before .shown) .ensures .0) (index-at _ _ _ (sym e ∙ (c .before .j) .given .1)) (ap (set ((c .before .before .before .before .before .before .before .before .before .before .before .before .before .before .before .before .before .before .before .before .before) .args .items .now) (16 * (c .before .before .before .before .before .before .before .before .before .before .before .before .before .before .before .before .before .before .v) .given .0 .0 + (c .before .j) .given .0 .0)) (toZ-ofZ t))
 
 returns-7 : tie.Need-returns-7
 returns-7 c =
-    let s : SFits w32 ((c .before .before .before .before .before .before .before .before .before .before .before .before .z) .given .0 .0) = search needs in
+    let s : SFits w64 ((c .before .before .before .before .before .before .before .before .before .before .before .before .z) .given .0 .0) = search needs in
     let e = rw (toZ-ofZ s) at ((c .before .before .index) .ensures) in
     replaced-undef _ _ _ _ _ _ _ _ _ (found-is ((c .before .before .before .before .before .before .before .before .before .before .before .before .before .before .before .before .before .before .before .vector) .ensures) ((c .before .before .before .before .before .before .before .before .before .before .before .before .before .before .before .before .before .v) .given .1)) ((c .before .before .before .before .before .before .before .before .before .before .before .before .before .before .before .if1) .left) (whole-is ((c .before .before .before .before .before .before .before .before .before .before .before .before .before .before .integer) .ensures) ((c .before .before .before .before .before .before .before .before .before .before .before .before .z) .given .1)) (whole-is ((c .before .before .before .before .before .before .before .before .before .before .integer2) .ensures) ((c .before .before .before .before .before .before .before .before .x) .given .1)) ((c .before .before .before .before .before .before .live-cells) .ensures .0) ((c .before .before .before .before .before .count) .ensures) ((c .before .before .before .before .if2) .left) ((c .before .before .before .shown) .ensures .0) (index-undef _ _ (sym e ∙ (c .enum-told4) .given .1))
 

@@ -1,7 +1,7 @@
 -- `abi::answers::answer`: by the answer; an end by its numbers.
 use Rattle.abi.specs.Answers.{answerNumbers}
 use mir.Facts.{toZ-ofZ}
-use mir.Syntax.{w32}
+use mir.Syntax.{w64}
 use mir.Val.{SFits}
 use borrow.Author.Needs.{needs}
 use Rattle.abi.proofs.answers.answer.Statement.{statement}
@@ -41,7 +41,7 @@ returns-2 c =
 returns-3 : tie.Need-returns-3
 unfolding answerNumbers
 returns-3 c =
-    let s : SFits w32 ((c .before .end-mark) .result .value) = search needs in
+    let s : SFits w64 ((c .before .end-mark) .result .value) = search needs in
     rw (toZ-ofZ s, (c .before .end-mark) .ensures, (c .before .before .before .answer2) .given .1)
 
 returns-4 : tie.Need-returns-4

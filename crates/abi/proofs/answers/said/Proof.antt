@@ -2,7 +2,7 @@
 use Rattle.abi.specs.Answers.{saidNumbers}
 use Rattle.engine.specs.Parts.{saidOf}
 use mir.Facts.{toZ-ofZ}
-use mir.Syntax.{w32}
+use mir.Syntax.{w64}
 use mir.Val.{SFits}
 use borrow.Author.Needs.{needs}
 use Rattle.abi.proofs.answers.said.Statement.{statement}
@@ -36,7 +36,7 @@ returns-2 c =
 returns-3 : tie.Need-returns-3
 unfolding saidNumbers saidOf
 returns-3 c =
-    let s : SFits w32 ((c .before .end-mark) .result .value) = search needs in
+    let s : SFits w64 ((c .before .end-mark) .result .value) = search needs in
     rw (toZ-ofZ s, (c .before .end-mark) .ensures, (c .before .before .before .answer) .given .1)
 
 returns-4 : tie.Need-returns-4

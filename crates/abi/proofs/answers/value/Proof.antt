@@ -1,7 +1,7 @@
 -- `abi::answers::value`: by the value.
 use Rattle.abi.specs.Looks.{valueNumbers}
 use mir.Facts.{toZ-ofZ}
-use mir.Syntax.{w32}
+use mir.Syntax.{w64}
 use mir.Val.{SFits}
 use borrow.Author.Needs.{needs}
 use Rattle.abi.proofs.answers.value.Statement.{statement}
@@ -27,7 +27,7 @@ returns c =
 returns-2 : tie.Need-returns-2
 unfolding valueNumbers
 returns-2 c =
-    let s : SFits w32 ((c .before .value) .given .0 .0) = search needs in
+    let s : SFits w64 ((c .before .value) .given .0 .0) = search needs in
     rw (toZ-ofZ s, (c .before .value) .given .1)
 
 returns-3 : tie.Need-returns-3

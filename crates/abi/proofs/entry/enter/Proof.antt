@@ -2,6 +2,7 @@
 use Rattle.abi.proofs.Starting.{began-as, began-not}
 use native.Mathlib.Omega.{arith}
 use mathlib.Core.Path.{sym, _∙_}
+use Rattle.layout.specs.declared.Form.{Form}
 use Rattle.checker.proofs.Offsets.{refused-low}
 use Rattle.begin.proofs.Answers.{refused-by, no-entry, entry-at, entry-bounded}
 use borrow.Author.Needs.{needs}
@@ -16,7 +17,7 @@ enum-known-q c = search needs
 
 cast-t25 : tie.Need-cast-t25
 cast-t25 c =
-    record { fits = omega (arith, refused-low _ _ _ (sym ((c .before .before .before .verdict) .ensures) ∙ (c .before .q) .given .1)) }
+    record { fits = omega (arith, refused-low Form.Wide _ _ _ (sym ((c .before .before .before .verdict) .ensures) ∙ (c .before .q) .given .1)) }
 
 enum-told : tie.Need-enum-told
 enum-told c = search needs

@@ -1,7 +1,7 @@
 -- `abi::parts::settle`: by the last turn.
 use Rattle.abi.proofs.Coming.{comes-on, comes-stack, comes-stuck, comes-integer, comes-vector, comes-stop}
 use mir.Facts.{toZ-ofZ}
-use mir.Syntax.{w32}
+use mir.Syntax.{w64}
 use mir.Val.{SFits}
 use borrow.Author.Needs.{needs}
 use Rattle.abi.proofs.parts.settle.Statement.{statement}
@@ -59,7 +59,7 @@ returns-2 c =
 
 returns-3 : tie.Need-returns-3
 returns-3 c =
-    let s : SFits w32 ((c .before .before .before .before .before .turn) .given .0 .0) = search needs in
+    let s : SFits w64 ((c .before .before .before .before .before .turn) .given .0 .0) = search needs in
     λ numbers caches codes owners stack promises. comes-integer numbers _ caches _ codes owners stack _ promises _ _ _ _ _ _ _ ((c .before .before .before .before .before .turn) .given .1) (rw (toZ-ofZ s) at ((c .end) .ensures))
 
 returns-4 : tie.Need-returns-4

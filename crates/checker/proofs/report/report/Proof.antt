@@ -1,4 +1,5 @@
 -- `checker::report::report`: by the verdict.
+use Rattle.layout.specs.declared.Form.{Form}
 use Rattle.checker.proofs.Asks.{accepted-short}
 use Rattle.checker.proofs.Puts.{told-accepted, told-refused}
 use Rattle.checker.proofs.report.report.Statement.{statement}
@@ -14,7 +15,7 @@ enum-known-n c = search needs
 
 report-accepted-requires : tie.Need-report-accepted-requires
 report-accepted-requires c κs =
-    accepted-short _ _ (sym ((c .before .before .before .before .verdict) .ensures) ∙ (c .before .before .n) .given .1)
+    accepted-short Form.Wide _ _ (sym ((c .before .before .before .before .verdict) .ensures) ∙ (c .before .before .n) .given .1)
 
 enum-known-n-2 : tie.Need-enum-known-n-2
 enum-known-n-2 c = search needs

@@ -4,7 +4,7 @@ use Rattle.flow.proofs.instructions.promising.Statement.{statement}
 use Rattle.flow.proofs.instructions.promising.Tie as tie
 use Rattle.rules.specs.Actions.{actionOf, touch}
 use Rattle.layout.specs.Records.{every, choose}
-use Rattle.program.specs.Program.{instrOf}
+use Rattle.program.specs.Program.{instrBy}
 use borrow.Author.Needs.{needs}
 use mathlib.Core.Path.{_∙_}
 
@@ -15,7 +15,7 @@ promised-requires : tie.Need-promised-requires
 promised-requires c κs = search needs
 
 returns : tie.Need-returns
-unfolding every actionOf touch instrOf choose
+unfolding every actionOf touch instrBy choose
 returns c =
     (c .promised) .ensures ∙ promised-at _ _ _ ((c .before .named) .ensures)
 

@@ -6,7 +6,7 @@ use Rattle.program.proofs.Forms.{length-arguments}
 use Rattle.program.proofs.decode.decode.Statement.{statement}
 use Rattle.program.proofs.decode.decode.Tie as tie
 use Rattle.program.specs.Places.{instrAt}
-use Rattle.program.specs.Program.{instrOf}
+use Rattle.program.specs.Program.{instrBy}
 use Rattle.program.specs.Shapes.{shapeOf}
 use Rattle.program.specs.declared.Instruction.{Instruction}
 use borrow.Author.Needs.{needs}
@@ -14,7 +14,7 @@ use borrow.Author.Tests.{ne-eqb}
 use lib.IntN.{ℤ}
 use mathlib.Core.Path.{ap₂, sym, _∙_}
 use mir.Facts.{toZ-ofZ}
-use mir.Syntax.{w32}
+use mir.Syntax.{w64}
 use mir.Val.{SFits}
 
 kind-at-requires : tie.Need-kind-at-requires
@@ -180,104 +180,104 @@ literal-requires : tie.Need-literal-requires
 literal-requires c κs = search needs
 
 returns : tie.Need-returns
-unfolding instrAt instrOf shapeOf choose
+unfolding instrAt instrBy shapeOf choose
 returns c =
     simp (sym ((c .before .before .before .kind-at) .ensures) ∙ (c .before .before .match) .keys1, (c .small2) .ensures, (c .before .small) .ensures)
 
 returns-2 : tie.Need-returns-2
-unfolding instrAt instrOf shapeOf choose
+unfolding instrAt instrBy shapeOf choose
 returns-2 c =
     simp (sym ((c .before .before .before .kind-at) .ensures) ∙ (c .before .before .match) .keys2, (c .small4) .ensures, (c .before .small3) .ensures)
 
 returns-3 : tie.Need-returns-3
-unfolding instrAt instrOf shapeOf choose
+unfolding instrAt instrBy shapeOf choose
 returns-3 c =
     simp (sym ((c .before .before .before .kind-at) .ensures) ∙ (c .before .before .match) .keys3, (c .small6) .ensures, (c .before .small5) .ensures)
 
 returns-4 : tie.Need-returns-4
-unfolding instrAt instrOf shapeOf choose
+unfolding instrAt instrBy shapeOf choose
 returns-4 c =
     simp (sym ((c .before .before .before .kind-at) .ensures) ∙ (c .before .before .match) .keys4, (c .small8) .ensures, (c .before .small7) .ensures, length-every)
 
 returns-5 : tie.Need-returns-5
-unfolding instrAt instrOf shapeOf choose
+unfolding instrAt instrBy shapeOf choose
 returns-5 c =
     simp (sym ((c .before .before .before .kind-at) .ensures) ∙ (c .before .before .match) .keys5, (c .small10) .ensures, (c .before .small9) .ensures)
 
 returns-6 : tie.Need-returns-6
-unfolding instrAt instrOf shapeOf choose
+unfolding instrAt instrBy shapeOf choose
 returns-6 c =
     simp (sym ((c .before .before .before .before .kind-at) .ensures) ∙ (c .before .before .before .match) .keys6, (c .small13) .ensures, (c .before .small12) .ensures, (c .before .before .small11) .ensures)
 
 returns-7 : tie.Need-returns-7
-unfolding instrAt instrOf shapeOf choose
+unfolding instrAt instrBy shapeOf choose
 returns-7 c =
     simp (sym ((c .before .before .before .before .kind-at) .ensures) ∙ (c .before .before .before .match) .keys7, (c .small16) .ensures, (c .before .small15) .ensures, (c .before .before .small14) .ensures)
 
 returns-8 : tie.Need-returns-8
-unfolding instrAt instrOf shapeOf choose
+unfolding instrAt instrBy shapeOf choose
 returns-8 c =
     simp (sym ((c .before .before .before .before .before .kind-at) .ensures) ∙ (c .before .before .before .before .match) .keys8, (c .small20) .ensures, (c .before .small19) .ensures, (c .before .before .small18) .ensures, (c .before .before .before .small17) .ensures)
 
 returns-9 : tie.Need-returns-9
-unfolding instrAt instrOf shapeOf choose
+unfolding instrAt instrBy shapeOf choose
 returns-9 c =
     simp (sym ((c .before .before .before .before .before .kind-at) .ensures) ∙ (c .before .before .before .before .match) .keys9, (c .small24) .ensures, (c .before .small23) .ensures, (c .before .before .small22) .ensures, (c .before .before .before .small21) .ensures)
 
 returns-10 : tie.Need-returns-10
-unfolding instrAt instrOf shapeOf choose
+unfolding instrAt instrBy shapeOf choose
 returns-10 c =
     simp (sym ((c .before .before .before .kind-at) .ensures) ∙ (c .before .before .match) .keys10, (c .small26) .ensures, (c .before .small25) .ensures)
 
 returns-11 : tie.Need-returns-11
-unfolding instrAt instrOf shapeOf choose
+unfolding instrAt instrBy shapeOf choose
 returns-11 c =
     simp (sym ((c .before .before .before .kind-at) .ensures) ∙ (c .before .before .match) .keys11, (c .small28) .ensures, (c .before .small27) .ensures)
 
 returns-12 : tie.Need-returns-12
-unfolding instrAt instrOf shapeOf choose
+unfolding instrAt instrBy shapeOf choose
 returns-12 c =
     simp (sym ((c .before .before .before .kind-at) .ensures) ∙ (c .before .before .match) .keys12, (c .small30) .ensures, (c .before .small29) .ensures)
 
 returns-13 : tie.Need-returns-13
-unfolding instrAt instrOf shapeOf choose
+unfolding instrAt instrBy shapeOf choose
 returns-13 c =
     simp (sym ((c .before .before .before .kind-at) .ensures) ∙ (c .before .before .match) .keys13, (c .small32) .ensures, (c .before .small31) .ensures)
 
 returns-14 : tie.Need-returns-14
-unfolding instrAt instrOf shapeOf choose
+unfolding instrAt instrBy shapeOf choose
 returns-14 c =
     simp (sym ((c .before .before .before .kind-at) .ensures) ∙ (c .before .before .match) .keys14, (c .small34) .ensures, (c .before .small33) .ensures)
 
 returns-15 : tie.Need-returns-15
-unfolding instrAt instrOf shapeOf choose
+unfolding instrAt instrBy shapeOf choose
 returns-15 c =
     simp (sym ((c .before .before .before .before .kind-at) .ensures) ∙ (c .before .before .before .match) .keys15, (c .small37) .ensures, (c .before .small36) .ensures, (c .before .before .small35) .ensures)
 
 returns-16 : tie.Need-returns-16
-unfolding instrAt instrOf shapeOf choose
+unfolding instrAt instrBy shapeOf choose
 returns-16 c =
     simp (sym ((c .before .before .before .before .kind-at) .ensures) ∙ (c .before .before .before .match) .keys16, (c .small40) .ensures, (c .before .small39) .ensures, (c .before .before .small38) .ensures)
 
 returns-17 : tie.Need-returns-17
-unfolding instrAt instrOf shapeOf choose
+unfolding instrAt instrBy shapeOf choose
 returns-17 c =
     simp (sym ((c .before .before .before .before .before .kind-at) .ensures) ∙ (c .before .before .before .before .match) .keys17, (c .small44) .ensures, (c .before .small43) .ensures, (c .before .before .small42) .ensures, (c .before .before .before .small41) .ensures, length-every)
 
 returns-18 : tie.Need-returns-18
-unfolding instrAt instrOf shapeOf choose
+unfolding instrAt instrBy shapeOf choose
 returns-18 c =
     simp (sym ((c .before .before .before .before .before .before .kind-at) .ensures) ∙ (c .before .before .before .before .before .match) .keys18, (c .small49) .ensures, (c .before .small48) .ensures, (c .before .before .small47) .ensures, (c .before .before .before .small46) .ensures, (c .before .before .before .before .small45) .ensures, length-arguments)
 
 returns-19 : tie.Need-returns-19
-unfolding instrAt instrOf shapeOf choose
+unfolding instrAt instrBy shapeOf choose
 returns-19 c =
     simp (sym ((c .before .before .before .kind-at) .ensures) ∙ (c .before .before .match) .keys19, (c .small51) .ensures, (c .before .small50) .ensures)
 
 returns-20 : tie.Need-returns-20
-unfolding instrAt instrOf shapeOf choose
+unfolding instrAt instrBy shapeOf choose
 returns-20 c =
-    let f : SFits w32 ((c .literal) .result) = search needs in
+    let f : SFits w64 ((c .literal) .result) = search needs in
     ap₂ (λ (d : ℕ) (i : ℤ). Instruction.Lit d i) ((c .before .small52) .ensures) (toZ-ofZ f ∙ (c .literal) .ensures) ∙ simp (← (c .before .before .before .kind-at) .ensures, ne-eqb _ _ ((c .before .before .match) .rest .0 .0 .0 .0 .0 .0 .0 .0 .0 .0 .0 .0 .0 .0 .0 .0 .0 .0 .1), ne-eqb _ _ ((c .before .before .match) .rest .0 .0 .0 .0 .0 .0 .0 .0 .0 .0 .0 .0 .0 .0 .0 .0 .0 .1), ne-eqb _ _ ((c .before .before .match) .rest .0 .0 .0 .0 .0 .0 .0 .0 .0 .0 .0 .0 .0 .0 .0 .0 .1), ne-eqb _ _ ((c .before .before .match) .rest .0 .0 .0 .0 .0 .0 .0 .0 .0 .0 .0 .0 .0 .0 .0 .1), ne-eqb _ _ ((c .before .before .match) .rest .0 .0 .0 .0 .0 .0 .0 .0 .0 .0 .0 .0 .0 .0 .1), ne-eqb _ _ ((c .before .before .match) .rest .0 .0 .0 .0 .0 .0 .0 .0 .0 .0 .0 .0 .0 .1), ne-eqb _ _ ((c .before .before .match) .rest .0 .0 .0 .0 .0 .0 .0 .0 .0 .0 .0 .0 .1), ne-eqb _ _ ((c .before .before .match) .rest .0 .0 .0 .0 .0 .0 .0 .0 .0 .0 .0 .1), ne-eqb _ _ ((c .before .before .match) .rest .0 .0 .0 .0 .0 .0 .0 .0 .0 .0 .1), ne-eqb _ _ ((c .before .before .match) .rest .0 .0 .0 .0 .0 .0 .0 .0 .0 .1), ne-eqb _ _ ((c .before .before .match) .rest .0 .0 .0 .0 .0 .0 .0 .0 .1), ne-eqb _ _ ((c .before .before .match) .rest .0 .0 .0 .0 .0 .0 .0 .1), ne-eqb _ _ ((c .before .before .match) .rest .0 .0 .0 .0 .0 .0 .1), ne-eqb _ _ ((c .before .before .match) .rest .0 .0 .0 .0 .0 .1), ne-eqb _ _ ((c .before .before .match) .rest .0 .0 .0 .0 .1), ne-eqb _ _ ((c .before .before .match) .rest .0 .0 .0 .1), ne-eqb _ _ ((c .before .before .match) .rest .0 .0 .1), ne-eqb _ _ ((c .before .before .match) .rest .0 .1), ne-eqb _ _ ((c .before .before .match) .rest .1))
 
 pub decode-spec : {M : Type 1} → statement M

@@ -1,4 +1,4 @@
--- `program::decode::signed_of`: from 2³¹ on the bits stand for a number below zero.
+-- `program::decode::signed_of`: from 2⁶³ on the bits stand for a number below zero.
 use Rattle.program.proofs.Literals.{upper-fits, upper-signed}
 use Rattle.program.proofs.decode.signed_of.Statement.{statement}
 use Rattle.program.proofs.decode.signed_of.Tie as tie
@@ -17,14 +17,14 @@ cast-result-2 c = search needs
 
 sub-result-2 : tie.Need-sub-result-2
 sub-result-2 c =
-    upper-fits _ ((c .if1) .left) ((c .before) .pre)
+    upper-fits _ ((c .if1) .left) ((c .before) .fits .u .fits)
 
 returns : tie.Need-returns
 returns c = search needs
 
 returns-2 : tie.Need-returns-2
 returns-2 c =
-    toZ-ofZ (upper-fits _ ((c .if1) .left) ((c .before) .pre)) ∙ upper-signed _ ((c .if1) .left) ((c .before) .pre)
+    toZ-ofZ (upper-fits _ ((c .if1) .left) ((c .before) .fits .u .fits)) ∙ upper-signed _ ((c .if1) .left) ((c .before) .fits .u .fits)
 
 pub signed-of-spec : {M : Type 1} → statement M
 signed-of-spec =

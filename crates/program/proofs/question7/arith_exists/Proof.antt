@@ -5,7 +5,7 @@ use Rattle.layout.specs.Tests.{_and_, all}
 use Rattle.program.proofs.Existence.{all-same}
 use Rattle.program.proofs.question7.arith_exists.Statement.{statement}
 use Rattle.program.proofs.question7.arith_exists.Tie as tie
-use Rattle.program.specs.Program.{instrOf}
+use Rattle.program.specs.Program.{instrBy}
 use Rattle.program.specs.Questions.{exists}
 use borrow.Author.Needs.{needs}
 use denote.Ref.{now}
@@ -21,12 +21,12 @@ all-exist-requires : tie.Need-all-exist-requires
 all-exist-requires c κs = search needs
 
 returns : tie.Need-returns
-unfolding exists instrOf choose all every
+unfolding exists instrBy choose all every
 returns c =
     (c .all-exist) .ensures ∙ all-same {n = 2} (bodyAt (now ((c .before .before .before .before .before) .args .image)) ((c .before .before .before .before .before) .args .p)) 2 1 ((c .before .before .before .registers) .ensures .0) refl ∙ sym (and-on _ (is-below ((c .before .before .field) .ensures .0) ((c .before .before .before .registers) .ensures .0) ((c .before .if1) .taken)) ∙ simp and-true)
 
 returns-2 : tie.Need-returns-2
-unfolding exists instrOf choose
+unfolding exists instrBy choose
 returns-2 c =
     sym (and-off _ (is-above ((c .before .field) .ensures .0) ((c .before .before .registers) .ensures .0) ((c .if1) .left)))
 

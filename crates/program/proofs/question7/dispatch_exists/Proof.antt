@@ -6,7 +6,7 @@ use Rattle.program.proofs.Existence.{all-same, pairs-exist}
 use Rattle.program.proofs.Tables.{function-right}
 use Rattle.program.proofs.question7.dispatch_exists.Statement.{statement}
 use Rattle.program.proofs.question7.dispatch_exists.Tie as tie
-use Rattle.program.specs.Program.{instrOf}
+use Rattle.program.specs.Program.{instrBy}
 use Rattle.program.specs.Questions.{exists}
 use borrow.Author.Needs.{needs}
 use mathlib.Core.Path.{sym, _∙_}
@@ -18,7 +18,7 @@ field-requires : tie.Need-field-requires
 field-requires c κs = search needs
 
 returns : tie.Need-returns
-unfolding exists instrOf choose
+unfolding exists instrBy choose
 returns c =
     sym (and-off _ (is-above ((c .before .field) .ensures .0) ((c .before .before .registers) .ensures .0) ((c .if1) .taken)))
 
@@ -35,12 +35,12 @@ has-function-requires : tie.Need-has-function-requires
 has-function-requires c κs = search needs
 
 returns-2 : tie.Need-returns-2
-unfolding exists instrOf choose
+unfolding exists instrBy choose
 returns-2 c =
     (c .has-function) .ensures ∙ function-right _ _ _ ((c .before .before .before .before .before .before .before .before .before) .pre) ∙ rw ((c .before .field3) .ensures .0) (sym (and-on _ (is-below ((c .before .before .before .before .before .before .field) .ensures .0) ((c .before .before .before .before .before .before .before .registers) .ensures .0) ((c .before .before .before .before .before .if1) .left)) ∙ and-on _ (pairs-exist _ _ 5 _ ∙ sym (all-same _ 6 2 ((c .before .before .before .before .before .before .before .registers) .ensures .0) ((c .before .before .before .before .field2) .ensures .0)) ∙ sym ((c .before .before .before .all-exist) .ensures) ∙ (c .before .before .if2) .taken)))
 
 returns-3 : tie.Need-returns-3
-unfolding exists instrOf choose
+unfolding exists instrBy choose
 returns-3 c =
     sym (and-on _ (is-below ((c .before .before .before .before .field) .ensures .0) ((c .before .before .before .before .before .registers) .ensures .0) ((c .before .before .before .if1) .left)) ∙ and-off _ (pairs-exist _ _ 5 _ ∙ sym (all-same _ 6 2 ((c .before .before .before .before .before .registers) .ensures .0) ((c .before .before .field2) .ensures .0)) ∙ sym ((c .before .all-exist) .ensures) ∙ (c .if2) .left))
 

@@ -6,7 +6,7 @@ use Rattle.program.proofs.Existence.{all-same}
 use Rattle.program.proofs.question7.instruction_exists.Statement.{statement}
 use Rattle.program.proofs.question7.instruction_exists.Tie as tie
 use Rattle.program.specs.Places.{instrAt}
-use Rattle.program.specs.Program.{instrOf}
+use Rattle.program.specs.Program.{instrBy}
 use Rattle.program.specs.Questions.{exists}
 use borrow.Author.Needs.{needs}
 use borrow.Author.Tests.{ne-eqb}
@@ -80,17 +80,17 @@ all-exist-requires-11 : tie.Need-all-exist-requires-11
 all-exist-requires-11 c κs = search needs
 
 returns : tie.Need-returns
-unfolding exists instrAt instrOf choose all every
+unfolding exists instrAt instrBy choose all every
 returns c =
     (c .all-exist) .ensures ∙ all-same {n = 2} (bodyAt (now ((c .before .before .before .before .before) .args .image)) ((c .before .before .before .before .before) .args .p)) 0 1 ((c .before .before .before .registers) .ensures .0) refl ∙ simp (sym ((c .before .before .kind-at) .ensures) ∙ (c .before .match) .keys1, and-true)
 
 returns-2 : tie.Need-returns-2
-unfolding exists instrAt instrOf choose all every
+unfolding exists instrAt instrBy choose all every
 returns-2 c =
     (c .all-exist2) .ensures ∙ all-same {n = 2} (bodyAt (now ((c .before .before .before .before .before) .args .image)) ((c .before .before .before .before .before) .args .p)) 0 1 ((c .before .before .before .registers) .ensures .0) refl ∙ simp (sym ((c .before .before .kind-at) .ensures) ∙ (c .before .match) .keys2, and-true)
 
 returns-3 : tie.Need-returns-3
-unfolding exists instrAt instrOf choose all every
+unfolding exists instrAt instrBy choose all every
 returns-3 c =
     (c .all-exist3) .ensures ∙ all-same {n = 2} (bodyAt (now ((c .before .before .before .before .before) .args .image)) ((c .before .before .before .before .before) .args .p)) 0 1 ((c .before .before .before .registers) .ensures .0) refl ∙ simp (sym ((c .before .before .kind-at) .ensures) ∙ (c .before .match) .keys3, and-true)
 
@@ -100,17 +100,17 @@ returns-4 c =
     (c .vec-exists) .ensures ∙ simp (sym ((c .before .before .kind-at) .ensures) ∙ (c .before .match) .keys4)
 
 returns-5 : tie.Need-returns-5
-unfolding exists instrAt instrOf choose all every
+unfolding exists instrAt instrBy choose all every
 returns-5 c =
     (c .all-exist4) .ensures ∙ all-same {n = 2} (bodyAt (now ((c .before .before .before .before .before) .args .image)) ((c .before .before .before .before .before) .args .p)) 0 1 ((c .before .before .before .registers) .ensures .0) refl ∙ simp (sym ((c .before .before .kind-at) .ensures) ∙ (c .before .match) .keys5, and-true)
 
 returns-6 : tie.Need-returns-6
-unfolding exists instrAt instrOf choose all every
+unfolding exists instrAt instrBy choose all every
 returns-6 c =
     (c .all-exist5) .ensures ∙ all-same {n = 3} (bodyAt (now ((c .before .before .before .before .before) .args .image)) ((c .before .before .before .before .before) .args .p)) 0 1 ((c .before .before .before .registers) .ensures .0) refl ∙ simp (sym ((c .before .before .kind-at) .ensures) ∙ (c .before .match) .keys6, and-true)
 
 returns-7 : tie.Need-returns-7
-unfolding exists instrAt instrOf choose all every
+unfolding exists instrAt instrBy choose all every
 returns-7 c =
     (c .all-exist6) .ensures ∙ all-same {n = 3} (bodyAt (now ((c .before .before .before .before .before) .args .image)) ((c .before .before .before .before .before) .args .p)) 0 1 ((c .before .before .before .registers) .ensures .0) refl ∙ simp (sym ((c .before .before .kind-at) .ensures) ∙ (c .before .match) .keys7, and-true)
 
@@ -120,12 +120,12 @@ returns-8 c =
     (c .arith-exists) .ensures ∙ simp (sym ((c .before .before .kind-at) .ensures) ∙ (c .before .match) .keys8)
 
 returns-9 : tie.Need-returns-9
-unfolding exists instrAt instrOf choose all every
+unfolding exists instrAt instrBy choose all every
 returns-9 c =
     (c .all-exist7) .ensures ∙ all-same {n = 4} (bodyAt (now ((c .before .before .before .before .before) .args .image)) ((c .before .before .before .before .before) .args .p)) 0 1 ((c .before .before .before .registers) .ensures .0) refl ∙ simp (sym ((c .before .before .kind-at) .ensures) ∙ (c .before .match) .keys9, and-true)
 
 returns-10 : tie.Need-returns-10
-unfolding exists instrAt instrOf choose all every
+unfolding exists instrAt instrBy choose all every
 returns-10 c =
     (c .all-exist8) .ensures ∙ all-same {n = 2} (bodyAt (now ((c .before .before .before .before .before) .args .image)) ((c .before .before .before .before .before) .args .p)) 0 1 ((c .before .before .before .registers) .ensures .0) refl ∙ simp (sym ((c .before .before .kind-at) .ensures) ∙ (c .before .match) .keys10, and-true)
 
@@ -145,7 +145,7 @@ returns-13 c =
     (c .prom-exists) .ensures ∙ simp (sym ((c .before .before .kind-at) .ensures) ∙ (c .before .match) .keys13)
 
 returns-14 : tie.Need-returns-14
-unfolding exists instrAt instrOf choose all every
+unfolding exists instrAt instrBy choose all every
 returns-14 c =
     (c .all-exist9) .ensures ∙ all-same {n = 2} (bodyAt (now ((c .before .before .before .before .before) .args .image)) ((c .before .before .before .before .before) .args .p)) 0 1 ((c .before .before .before .registers) .ensures .0) refl ∙ simp (sym ((c .before .before .kind-at) .ensures) ∙ (c .before .match) .keys14, and-true)
 
@@ -170,12 +170,12 @@ returns-18 c =
     (c .dispatch-exists) .ensures ∙ simp (sym ((c .before .before .kind-at) .ensures) ∙ (c .before .match) .keys18)
 
 returns-19 : tie.Need-returns-19
-unfolding exists instrAt instrOf choose all every
+unfolding exists instrAt instrBy choose all every
 returns-19 c =
     (c .all-exist10) .ensures ∙ all-same {n = 1} (bodyAt (now ((c .before .before .before .before .before) .args .image)) ((c .before .before .before .before .before) .args .p)) 0 1 ((c .before .before .before .registers) .ensures .0) refl ∙ simp (sym ((c .before .before .kind-at) .ensures) ∙ (c .before .match) .keys19, and-true)
 
 returns-20 : tie.Need-returns-20
-unfolding exists instrAt instrOf choose all every
+unfolding exists instrAt instrBy choose all every
 returns-20 c =
     (c .all-exist11) .ensures ∙ all-same {n = 1} (bodyAt (now ((c .before .before .before .before .before) .args .image)) ((c .before .before .before .before .before) .args .p)) 0 1 ((c .before .before .before .registers) .ensures .0) refl ∙ simp (← (c .before .before .kind-at) .ensures, ne-eqb _ _ ((c .before .match) .rest .0 .0 .0 .0 .0 .0 .0 .0 .0 .0 .0 .0 .0 .0 .0 .0 .0 .0 .1), ne-eqb _ _ ((c .before .match) .rest .0 .0 .0 .0 .0 .0 .0 .0 .0 .0 .0 .0 .0 .0 .0 .0 .0 .1), ne-eqb _ _ ((c .before .match) .rest .0 .0 .0 .0 .0 .0 .0 .0 .0 .0 .0 .0 .0 .0 .0 .0 .1), ne-eqb _ _ ((c .before .match) .rest .0 .0 .0 .0 .0 .0 .0 .0 .0 .0 .0 .0 .0 .0 .0 .1), ne-eqb _ _ ((c .before .match) .rest .0 .0 .0 .0 .0 .0 .0 .0 .0 .0 .0 .0 .0 .0 .1), ne-eqb _ _ ((c .before .match) .rest .0 .0 .0 .0 .0 .0 .0 .0 .0 .0 .0 .0 .0 .1), ne-eqb _ _ ((c .before .match) .rest .0 .0 .0 .0 .0 .0 .0 .0 .0 .0 .0 .0 .1), ne-eqb _ _ ((c .before .match) .rest .0 .0 .0 .0 .0 .0 .0 .0 .0 .0 .0 .1), ne-eqb _ _ ((c .before .match) .rest .0 .0 .0 .0 .0 .0 .0 .0 .0 .0 .1), ne-eqb _ _ ((c .before .match) .rest .0 .0 .0 .0 .0 .0 .0 .0 .0 .1), ne-eqb _ _ ((c .before .match) .rest .0 .0 .0 .0 .0 .0 .0 .0 .1), ne-eqb _ _ ((c .before .match) .rest .0 .0 .0 .0 .0 .0 .0 .1), ne-eqb _ _ ((c .before .match) .rest .0 .0 .0 .0 .0 .0 .1), ne-eqb _ _ ((c .before .match) .rest .0 .0 .0 .0 .0 .1), ne-eqb _ _ ((c .before .match) .rest .0 .0 .0 .0 .1), ne-eqb _ _ ((c .before .match) .rest .0 .0 .0 .1), ne-eqb _ _ ((c .before .match) .rest .0 .0 .1), ne-eqb _ _ ((c .before .match) .rest .0 .1), ne-eqb _ _ ((c .before .match) .rest .1), and-true)
 

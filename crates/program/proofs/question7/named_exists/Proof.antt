@@ -3,7 +3,7 @@ use Rattle.layout.specs.Records.{choose}
 use Rattle.layout.specs.Tests.{_and_}
 use Rattle.program.proofs.question7.named_exists.Statement.{statement}
 use Rattle.program.proofs.question7.named_exists.Tie as tie
-use Rattle.program.specs.Program.{instrOf}
+use Rattle.program.specs.Program.{instrBy}
 use Rattle.program.specs.Questions.{exists}
 use borrow.Author.Needs.{needs}
 use borrow.Author.Tests.{lt-ltb, le-ltb}
@@ -18,12 +18,12 @@ field-requires-2 : tie.Need-field-requires-2
 field-requires-2 c κs = search needs
 
 returns : tie.Need-returns
-unfolding exists instrOf choose _and_
+unfolding exists instrBy choose _and_
 returns c =
     simp (← (c .before .before .registers) .ensures .0, ← (c .before .before .before .field) .ensures .0, lt-ltb _ _ ((c .before .if1) .taken), ← (c .field2) .ensures .0)
 
 returns-2 : tie.Need-returns-2
-unfolding exists instrOf choose _and_
+unfolding exists instrBy choose _and_
 returns-2 c =
     simp (← (c .before .registers) .ensures .0, ← (c .before .before .field) .ensures .0, le-ltb _ _ ((c .if1) .left))
 

@@ -4,7 +4,7 @@ use Rattle.program.proofs.Existence.{names-none}
 use Rattle.program.proofs.question7.names_block.Statement.{statement}
 use Rattle.program.proofs.question7.names_block.Tie as tie
 use Rattle.program.specs.Places.{instrAt}
-use Rattle.program.specs.Program.{instrOf}
+use Rattle.program.specs.Program.{instrBy}
 use Rattle.program.specs.Questions.{namesBlock}
 use borrow.Author.Needs.{needs}
 use mathlib.Core.Path.{sym, _∙_}
@@ -16,7 +16,7 @@ field-requires : tie.Need-field-requires
 field-requires c κs = search needs
 
 returns : tie.Need-returns
-unfolding namesBlock instrAt instrOf choose
+unfolding namesBlock instrAt instrBy choose
 returns c =
     simp (sym ((c .before .before .kind-at) .ensures) ∙ (c .before .if1) .taken, (c .field) .ensures .0)
 

@@ -3,7 +3,7 @@ use Rattle.layout.specs.Records.{choose}
 use Rattle.layout.specs.Tests.{_and_}
 use Rattle.program.proofs.question7.poke_exists.Statement.{statement}
 use Rattle.program.proofs.question7.poke_exists.Tie as tie
-use Rattle.program.specs.Program.{instrOf}
+use Rattle.program.specs.Program.{instrBy}
 use Rattle.program.specs.Questions.{exists}
 use borrow.Author.Needs.{needs}
 use borrow.Author.Tests.{lt-ltb, le-ltb}
@@ -15,7 +15,7 @@ field-requires : tie.Need-field-requires
 field-requires c κs = search needs
 
 returns : tie.Need-returns
-unfolding exists instrOf choose _and_
+unfolding exists instrBy choose _and_
 returns c =
     simp (← (c .before .before .registers) .ensures .0, ← (c .before .field) .ensures .0, le-ltb _ _ ((c .if1) .taken))
 
@@ -26,12 +26,12 @@ field-requires-3 : tie.Need-field-requires-3
 field-requires-3 c κs = search needs
 
 returns-2 : tie.Need-returns-2
-unfolding exists instrOf choose _and_
+unfolding exists instrBy choose _and_
 returns-2 c =
     simp (← (c .before .before .before .before .before .registers) .ensures .0, ← (c .before .before .before .before .field) .ensures .0, lt-ltb _ _ ((c .before .before .before .if1) .left), ← (c .before .before .field2) .ensures .0, lt-ltb _ _ ((c .before .if2) .taken), ← (c .field3) .ensures .0)
 
 returns-3 : tie.Need-returns-3
-unfolding exists instrOf choose _and_
+unfolding exists instrBy choose _and_
 returns-3 c =
     simp (← (c .before .before .before .before .registers) .ensures .0, ← (c .before .before .before .field) .ensures .0, lt-ltb _ _ ((c .before .before .if1) .left), ← (c .before .field2) .ensures .0, le-ltb _ _ ((c .if2) .left))
 

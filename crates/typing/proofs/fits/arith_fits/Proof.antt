@@ -1,7 +1,7 @@
 -- `typing::fits::arith_fits`: one test after the other.
 use Rattle.layout.proofs.Bools.{and-on, and-off}
 use Rattle.layout.specs.Records.{choose}
-use Rattle.program.specs.Program.{instrOf}
+use Rattle.program.specs.Program.{instrBy}
 use Rattle.typing.proofs.fits.arith_fits.Statement.{statement}
 use Rattle.typing.proofs.fits.arith_fits.Tie as tie
 use Rattle.rules.specs.Fits.{fits}
@@ -18,17 +18,17 @@ takes-plain-requires : tie.Need-takes-plain-requires
 takes-plain-requires c κs = search needs
 
 returns : tie.Need-returns
-unfolding fits instrOf choose
+unfolding fits instrBy choose
 returns c =
     (c .takes-plain) .ensures ∙ sym (and-on _ (sym ((c .before .before .before .before .is-integer) .ensures) ∙ (c .before .before .before .if1) .taken) ∙ and-on _ (sym ((c .before .before .is-integer2) .ensures) ∙ (c .before .if2) .taken))
 
 returns-2 : tie.Need-returns-2
-unfolding fits instrOf choose
+unfolding fits instrBy choose
 returns-2 c =
     sym (and-on _ (sym ((c .before .before .before .is-integer) .ensures) ∙ (c .before .before .if1) .taken) ∙ and-off _ (sym ((c .before .is-integer2) .ensures) ∙ (c .if2) .left))
 
 returns-3 : tie.Need-returns-3
-unfolding fits instrOf choose
+unfolding fits instrBy choose
 returns-3 c =
     sym (and-off _ (sym ((c .before .is-integer) .ensures) ∙ (c .if1) .left))
 

@@ -4,7 +4,7 @@ use Rattle.layout.specs.Records.{choose}
 use Rattle.program.proofs.Lookups.{version-found, version-missing}
 use Rattle.program.proofs.Tables.{listed-right}
 use Rattle.program.specs.Places.{versionAt}
-use Rattle.program.specs.Program.{instrOf}
+use Rattle.program.specs.Program.{instrBy}
 use Rattle.typing.proofs.Pairs.{call-arguments}
 use Rattle.typing.proofs.fits.call_fits.Statement.{statement}
 use Rattle.typing.proofs.fits.call_fits.Tie as tie
@@ -28,7 +28,7 @@ enum-told : tie.Need-enum-told
 enum-told c = search needs
 
 returns : tie.Need-returns
-unfolding fits instrOf choose
+unfolding fits instrBy choose
 returns c =
     sym (found-none _ (rw (← (c .before .before .before .before .field) .ensures .0, ← (c .before .before .before .field2) .ensures .0) (version-missing _ _ _ (sym ((c .before .before .listed) .ensures ∙ listed-right _ _ _ _ ((c .before .before .before .before .before .before) .pre)) ∙ (c .enum-told) .given .1))))
 
@@ -43,7 +43,7 @@ call-fits-requires c κs =
     (c .before .of-call) .ensures .1
 
 returns-2 : tie.Need-returns-2
-unfolding fits instrOf choose versionAt
+unfolding fits instrBy choose versionAt
 returns-2 c =
     (c .call-fits) .ensures ∙ rw ((c .before .before .of-call) .ensures .0, (c .before .field3) .ensures .0, ← call-arguments) (sym (found-some _ (rw ((c .before .before .before .before .before .before .before .before .field) .ensures .0, (c .before .before .before .before .before .before .before .field2) .ensures .0) at (version-found _ _ _ _ (sym ((c .before .before .before .before .before .before .listed) .ensures ∙ listed-right _ _ _ _ ((c .before .before .before .before .before .before .before .before .before .before) .pre)) ∙ (c .before .before .before .before .q) .given .1) .0))))
 

@@ -1,6 +1,6 @@
 -- `typing::fits::dispatch_fits`: the arguments are its own pairs.
 use Rattle.layout.specs.Records.{choose}
-use Rattle.program.specs.Program.{instrOf}
+use Rattle.program.specs.Program.{instrBy}
 use Rattle.typing.proofs.Pairs.{dispatch-arguments}
 use Rattle.typing.proofs.fits.dispatch_fits.Statement.{statement}
 use Rattle.typing.proofs.fits.dispatch_fits.Tie as tie
@@ -19,7 +19,7 @@ call-fits-requires c κs =
     (c .before .of-dispatch) .ensures .1
 
 returns : tie.Need-returns
-unfolding fits instrOf choose
+unfolding fits instrBy choose
 returns c =
     (c .call-fits) .ensures ∙ rw ((c .before .before .of-dispatch) .ensures .0, (c .before .field) .ensures .0, ← dispatch-arguments) refl
 

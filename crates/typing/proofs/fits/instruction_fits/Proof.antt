@@ -1,7 +1,7 @@
 -- `typing::fits::instruction_fits`: one row for each kind.
 use Rattle.layout.specs.Records.{choose}
 use Rattle.program.specs.Places.{instrAt}
-use Rattle.program.specs.Program.{instrOf}
+use Rattle.program.specs.Program.{instrBy}
 use Rattle.typing.proofs.fits.instruction_fits.Statement.{statement}
 use Rattle.typing.proofs.fits.instruction_fits.Tie as tie
 use Rattle.rules.specs.Fits.{fits}
@@ -124,12 +124,12 @@ returns-10 c =
     (c .cast-fits) .ensures ∙ simp (sym ((c .before .before .kind-at) .ensures) ∙ (c .before .match) .keys10)
 
 returns-11 : tie.Need-returns-11
-unfolding fits instrAt instrOf choose
+unfolding fits instrAt instrBy choose
 returns-11 c =
     (c .takes-plain) .ensures ∙ simp (sym ((c .before .before .kind-at) .ensures) ∙ (c .before .match) .keys11)
 
 returns-12 : tie.Need-returns-12
-unfolding fits instrAt instrOf choose
+unfolding fits instrAt instrBy choose
 returns-12 c =
     (c .is-value) .ensures ∙ simp (sym ((c .before .before .kind-at) .ensures) ∙ (c .before .match) .keys12)
 
@@ -164,12 +164,12 @@ returns-18 c =
     (c .dispatch-fits) .ensures ∙ simp (sym ((c .before .before .kind-at) .ensures) ∙ (c .before .match) .keys18)
 
 returns-19 : tie.Need-returns-19
-unfolding fits instrAt instrOf choose
+unfolding fits instrAt instrBy choose
 returns-19 c =
     (c .is-integer) .ensures ∙ simp (sym ((c .before .before .kind-at) .ensures) ∙ (c .before .match) .keys19)
 
 returns-20 : tie.Need-returns-20
-unfolding fits instrAt instrOf choose
+unfolding fits instrAt instrBy choose
 returns-20 c =
     (c .takes-plain2) .ensures ∙ simp (← (c .before .before .kind-at) .ensures, ne-eqb _ _ ((c .before .match) .rest .0 .0 .0 .0 .0 .0 .0 .0 .0 .0 .0 .0 .0 .0 .0 .0 .0 .0 .1), ne-eqb _ _ ((c .before .match) .rest .0 .0 .0 .0 .0 .0 .0 .0 .0 .0 .0 .0 .0 .0 .0 .0 .0 .1), ne-eqb _ _ ((c .before .match) .rest .0 .0 .0 .0 .0 .0 .0 .0 .0 .0 .0 .0 .0 .0 .0 .0 .1), ne-eqb _ _ ((c .before .match) .rest .0 .0 .0 .0 .0 .0 .0 .0 .0 .0 .0 .0 .0 .0 .0 .1), ne-eqb _ _ ((c .before .match) .rest .0 .0 .0 .0 .0 .0 .0 .0 .0 .0 .0 .0 .0 .0 .1), ne-eqb _ _ ((c .before .match) .rest .0 .0 .0 .0 .0 .0 .0 .0 .0 .0 .0 .0 .0 .1), ne-eqb _ _ ((c .before .match) .rest .0 .0 .0 .0 .0 .0 .0 .0 .0 .0 .0 .0 .1), ne-eqb _ _ ((c .before .match) .rest .0 .0 .0 .0 .0 .0 .0 .0 .0 .0 .0 .1), ne-eqb _ _ ((c .before .match) .rest .0 .0 .0 .0 .0 .0 .0 .0 .0 .0 .1), ne-eqb _ _ ((c .before .match) .rest .0 .0 .0 .0 .0 .0 .0 .0 .0 .1), ne-eqb _ _ ((c .before .match) .rest .0 .0 .0 .0 .0 .0 .0 .0 .1), ne-eqb _ _ ((c .before .match) .rest .0 .0 .0 .0 .0 .0 .0 .1), ne-eqb _ _ ((c .before .match) .rest .0 .0 .0 .0 .0 .0 .1), ne-eqb _ _ ((c .before .match) .rest .0 .0 .0 .0 .0 .1), ne-eqb _ _ ((c .before .match) .rest .0 .0 .0 .0 .1), ne-eqb _ _ ((c .before .match) .rest .0 .0 .0 .1), ne-eqb _ _ ((c .before .match) .rest .0 .0 .1), ne-eqb _ _ ((c .before .match) .rest .0 .1), ne-eqb _ _ ((c .before .match) .rest .1))
 

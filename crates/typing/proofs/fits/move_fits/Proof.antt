@@ -1,7 +1,7 @@
 -- `typing::fits::move_fits`: one test after the other.
 use Rattle.layout.proofs.Bools.{and-on, and-off}
 use Rattle.layout.specs.Records.{choose}
-use Rattle.program.specs.Program.{instrOf}
+use Rattle.program.specs.Program.{instrBy}
 use Rattle.typing.proofs.fits.move_fits.Statement.{statement}
 use Rattle.typing.proofs.fits.move_fits.Tie as tie
 use Rattle.rules.specs.Fits.{fits}
@@ -18,12 +18,12 @@ takes-plain-requires : tie.Need-takes-plain-requires
 takes-plain-requires c κs = search needs
 
 returns : tie.Need-returns
-unfolding fits instrOf choose
+unfolding fits instrBy choose
 returns c =
     (c .takes-plain) .ensures ∙ rw ((c .before .kind-in) .ensures) (sym (and-on _ (sym ((c .before .before .before .is-shared) .ensures) ∙ (c .before .before .if1) .taken)))
 
 returns-2 : tie.Need-returns-2
-unfolding fits instrOf choose
+unfolding fits instrBy choose
 returns-2 c =
     sym (and-off _ (sym ((c .before .is-shared) .ensures) ∙ (c .if1) .left))
 

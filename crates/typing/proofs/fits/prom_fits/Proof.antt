@@ -3,7 +3,7 @@ use Rattle.layout.proofs.Bools.{found-some, found-none}
 use Rattle.layout.specs.Records.{choose}
 use Rattle.program.proofs.Lookups.{block-found, block-missing}
 use Rattle.program.specs.Places.{blockAt}
-use Rattle.program.specs.Program.{instrOf}
+use Rattle.program.specs.Program.{instrBy}
 use Rattle.typing.proofs.fits.prom_fits.Statement.{statement}
 use Rattle.typing.proofs.fits.prom_fits.Tie as tie
 use Rattle.rules.specs.Fits.{fits}
@@ -23,7 +23,7 @@ enum-told : tie.Need-enum-told
 enum-told c = search needs
 
 returns : tie.Need-returns
-unfolding fits instrOf choose
+unfolding fits instrBy choose
 returns c =
     sym (found-none _ (rw (← (c .before .before .before .field) .ensures .0) (block-missing _ _ _ (sym ((c .before .before .block) .ensures) ∙ (c .enum-told) .given .1))))
 
@@ -37,7 +37,7 @@ takes-plain-requires : tie.Need-takes-plain-requires
 takes-plain-requires c κs = search needs
 
 returns-2 : tie.Need-returns-2
-unfolding fits instrOf choose blockAt
+unfolding fits instrBy choose blockAt
 returns-2 c =
     (c .takes-plain) .ensures ∙ rw ((c .before .field2) .ensures .0) (sym (found-some _ (rw ((c .before .before .before .before .before .before .field) .ensures .0) at (block-found _ _ _ _ (sym ((c .before .before .before .before .before .block) .ensures) ∙ (c .before .before .before .q) .given .1)))))
 

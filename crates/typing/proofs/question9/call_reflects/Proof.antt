@@ -4,7 +4,7 @@ use Rattle.layout.proofs.Bools.{found-some, found-none}
 use Rattle.layout.specs.Records.{choose}
 use Rattle.program.proofs.Lookups.{version-found, version-missing}
 use Rattle.program.proofs.Tables.{listed-right}
-use Rattle.program.specs.Program.{instrOf}
+use Rattle.program.specs.Program.{instrBy}
 use Rattle.typing.proofs.question9.call_reflects.Statement.{statement}
 use Rattle.typing.proofs.question9.call_reflects.Tie as tie
 use Rattle.rules.specs.Effects.{reflective}
@@ -28,7 +28,7 @@ enum-told : tie.Need-enum-told
 enum-told c = search needs
 
 returns : tie.Need-returns
-unfolding reflective instrOf choose
+unfolding reflective instrBy choose
 returns c =
     sym (found-none _ (rw (← (c .before .before .before .before .field) .ensures .0, ← (c .before .before .before .field2) .ensures .0) (version-missing _ _ _ (sym ((c .before .before .listed) .ensures ∙ listed-right _ _ _ _ ((c .before .before .before .before .before .before) .pre)) ∙ (c .enum-told) .given .1))))
 
@@ -36,7 +36,7 @@ mark-requires : tie.Need-mark-requires
 mark-requires c κs = search needs
 
 returns-2 : tie.Need-returns-2
-unfolding reflective instrOf choose
+unfolding reflective instrBy choose
 returns-2 c =
     ap (λ (n : ℕ). eqb n 1) ((c .mark) .ensures .0) ∙ sym (found-some _ (rw ((c .before .before .before .before .before .before .field) .ensures .0, (c .before .before .before .before .before .field2) .ensures .0) at (version-found _ _ _ _ (sym ((c .before .before .before .before .listed) .ensures ∙ listed-right _ _ _ _ ((c .before .before .before .before .before .before .before .before) .pre)) ∙ (c .before .before .q) .given .1) .0)))
 

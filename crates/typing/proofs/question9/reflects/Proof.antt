@@ -2,7 +2,7 @@
 use Prim.Native.Nat.{ℕ}
 use Rattle.layout.specs.Records.{choose}
 use Rattle.program.specs.Places.{instrAt}
-use Rattle.program.specs.Program.{instrOf}
+use Rattle.program.specs.Program.{instrBy}
 use Rattle.typing.proofs.Lines.{is-quiet}
 use Rattle.typing.proofs.question9.reflects.Statement.{statement}
 use Rattle.typing.proofs.question9.reflects.Tie as tie
@@ -25,17 +25,17 @@ field-requires : tie.Need-field-requires
 field-requires c κs = search needs
 
 returns : tie.Need-returns
-unfolding reflective instrAt instrOf choose
+unfolding reflective instrAt instrBy choose
 returns c =
     ap (λ (n : ℕ). eqb n 5) ((c .kind-in) .ensures) ∙ simp (sym ((c .before .before .kind-at) .ensures) ∙ (c .before .match) .keys1)
 
 returns-2 : tie.Need-returns-2
-unfolding reflective instrAt instrOf choose
+unfolding reflective instrAt instrBy choose
 returns-2 c =
     simp (sym ((c .before .kind-at) .ensures) ∙ (c .match) .keys2)
 
 returns-3 : tie.Need-returns-3
-unfolding reflective instrAt instrOf choose
+unfolding reflective instrAt instrBy choose
 returns-3 c =
     simp (sym ((c .before .kind-at) .ensures) ∙ (c .match) .keys3)
 
@@ -45,7 +45,7 @@ returns-4 c =
     (c .call-reflects) .ensures ∙ simp (sym ((c .before .before .kind-at) .ensures) ∙ (c .before .match) .keys4)
 
 returns-5 : tie.Need-returns-5
-unfolding reflective instrAt instrOf choose
+unfolding reflective instrAt instrBy choose
 returns-5 c =
     ap (λ (n : ℕ). eqb n 1) ((c .field) .ensures .0) ∙ simp (sym ((c .before .before .kind-at) .ensures) ∙ (c .before .match) .keys5)
 

@@ -1,6 +1,6 @@
--- `integers::in_range`: at either end of the range.
-use Rattle.integers.proofs.in_range.Statement.{statement}
-use Rattle.integers.proofs.in_range.Tie as tie
+-- `integers::is_narrow`: at either end of the narrow range.
+use Rattle.integers.proofs.is_narrow.Statement.{statement}
+use Rattle.integers.proofs.is_narrow.Tie as tie
 use Rattle.integers.proofs.Signs.{below, within}
 use mathlib.Core.Path.{refl, sym}
 use mir.Facts.{toZ-ofZ}
@@ -14,5 +14,5 @@ returns-2 c =
     let z = toZ-ofZ (c .before .fits .z) in
     rw z (within _ _ _ (lit≤ tt) refl (c .before .args .z) (rw z at (c .if1 .left)))
 
-pub in-range-spec : {M : Type 1} → statement M
-in-range-spec = tie.close (tie.spec returns returns-2)
+pub is-narrow-spec : {M : Type 1} → statement M
+is-narrow-spec = tie.close (tie.spec returns returns-2)
