@@ -19,28 +19,28 @@
 static const uint8_t built_in[] = {
     21, 0, 1, 0, 0, 0, 3, 11, 3, 1, 2, 2, 3, 2, 2, 2, 2, 2, 2, 2, 3, /* VERSION 0.0 */
     7, 0, 2, 0, 0, 10, 16,                                          /* BLOCK, its result in r10 */
-    9, 0, 16, 0, 4, 4, 0, 0, 0,                                     /* LIT r4 = 4 */
+    13, 0, 36, 0, 4, 4, 0, 0, 0, 0, 0, 0, 0,                        /* LIT r4 = 4 */
     8, 0, 24, 0, 3, 1, 0, 1,                                        /* r3 = r0 - r1 */
     8, 0, 24, 0, 5, 3, 3, 4,                                        /* r5 = r3 / r4 */
-    9, 0, 16, 0, 6, 0, 0, 0, 0,                                     /* LIT r6 = 0 */
+    13, 0, 36, 0, 6, 0, 0, 0, 0, 0, 0, 0, 0,                        /* LIT r6 = 0 */
     7, 0, 22, 0, 7, 2, 6,                                           /* GET r7 = r2[r6] */
     8, 0, 24, 0, 7, 0, 7, 5,                                        /* r7 = r7 + r5 */
     9, 0, 33, 0, 7, 1, 0, 1, 7,                                     /* CALL r7 = 1.0(r7) */
-    9, 0, 16, 0, 6, 1, 0, 0, 0,                                     /* the same for r8 */
+    13, 0, 36, 0, 6, 1, 0, 0, 0, 0, 0, 0, 0,                        /* the same for r8 */
     7, 0, 22, 0, 8, 2, 6,                                           /* */
     8, 0, 24, 0, 8, 0, 8, 5,                                        /* */
     9, 0, 33, 0, 8, 1, 0, 1, 8,                                     /* */
-    9, 0, 16, 0, 6, 2, 0, 0, 0,                                     /* and for r9 */
+    13, 0, 36, 0, 6, 2, 0, 0, 0, 0, 0, 0, 0,                        /* and for r9 */
     7, 0, 22, 0, 9, 2, 6,                                           /* */
     8, 0, 24, 0, 9, 0, 9, 5,                                        /* */
     9, 0, 33, 0, 9, 1, 0, 1, 9,                                     /* */
     9, 0, 20, 0, 10, 3, 7, 8, 9,                                    /* VEC r10 = r7, r8, r9 */
     17, 0, 1, 0, 1, 0, 1, 7, 2, 1, 2, 2, 2, 2, 2, 2, 2,             /* VERSION 1.0 */
     7, 0, 2, 0, 0, 6, 6,                                            /* BLOCK, its result in r6 */
-    9, 0, 16, 0, 1, 100, 0, 0, 0,                                   /* LIT r1 = 100 */
+    13, 0, 36, 0, 1, 100, 0, 0, 0, 0, 0, 0, 0,                      /* LIT r1 = 100 */
     8, 0, 24, 0, 2, 4, 1, 0,                                        /* r2 = r1 < r0 */
     8, 0, 25, 0, 3, 2, 1, 0,                                        /* SELECT r3 = r2 ? r1 : r0 */
-    9, 0, 16, 0, 4, 0, 0, 0, 0,                                     /* LIT r4 = 0 */
+    13, 0, 36, 0, 4, 0, 0, 0, 0, 0, 0, 0, 0,                        /* LIT r4 = 0 */
     8, 0, 24, 0, 5, 4, 3, 4,                                        /* r5 = r3 < r4 */
     8, 0, 25, 0, 6, 5, 4, 3,                                        /* SELECT r6 = r5 ? r4 : r3 */
 };
@@ -61,22 +61,22 @@ static int refused(const char *what, unsigned question, size_t offset)
 }
 
 /* The plant: open valves warm it, and it loses heat. */
-static int32_t warmed(int32_t measured, const int32_t *valves)
+static int64_t warmed(int64_t measured, const int64_t *valves)
 {
     return measured + (valves[0] + valves[1] + valves[2]) / 12 - 5;
 }
 
 /* Begins the run of a new set of positions: what is wanted, what is measured, and the positions so far. */
-static fir_entry begin(const uint8_t *image, size_t length, int32_t wanted, int32_t measured, const int32_t *valves)
+static fir_entry begin(const uint8_t *image, size_t length, int64_t wanted, int64_t measured, const int64_t *valves)
 {
-    const int32_t words[] = {-1, wanted, -1, measured, VALVES, valves[0], valves[1], valves[2]};
+    const int64_t words[] = {-1, wanted, -1, measured, VALVES, valves[0], valves[1], valves[2]};
     return fir_begin(image, length, 0, 0, words, sizeof words / sizeof *words, valves, FIR_ITEMS, &state);
 }
 
 static int control(const uint8_t *image, size_t length)
 {
-    int32_t valves[FIR_ITEMS] = {0};
-    int32_t measured = 180;
+    int64_t valves[FIR_ITEMS] = {0};
+    int64_t measured = 180;
     int tick;
     fir_value error;
     fir_answer answer;
@@ -89,14 +89,15 @@ static int control(const uint8_t *image, size_t length)
         switch (answer.code) {
         case FIR_STEPS:
             error = fir_look(&state, 0, 3);
-            printf("goes on, the error is %ld\n", (long)error.number);
+            printf("goes on, the error is %lld\n", (long long)error.number);
             continue;
         case FIR_VECTOR:
             measured = warmed(measured, valves);
-            printf("valves at %ld %ld %ld, measured %ld\n", (long)valves[0], (long)valves[1], (long)valves[2], (long)measured);
+            printf("valves at %lld %lld %lld, measured %lld\n", (long long)valves[0], (long long)valves[1], (long long)valves[2],
+                   (long long)measured);
             break;
         case FIR_INTEGER:
-            printf("no positions, but the integer %ld\n", (long)answer.value);
+            printf("no positions, but the integer %lld\n", (long long)answer.value);
             return 1;
         case FIR_UNDEF:
             printf("undefined\n");

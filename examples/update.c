@@ -17,14 +17,14 @@
 static const uint8_t pump[] = {
     15, 0, 1, 0, 0, 0, 2, 5, 2, 1, 2, 3, 2, 2, 2, /* VERSION 0.0: r0 wanted, r1 the rooms */
     7, 0, 2, 0, 0, 4, 11,                         /* BLOCK, its result in r4 */
-    9, 0, 16, 0, 2, 0, 0, 0, 0,                   /* LIT r2 = 0 */
+    13, 0, 36, 0, 2, 0, 0, 0, 0, 0, 0, 0, 0,      /* LIT r2 = 0 */
     7, 0, 22, 0, 3, 1, 2,                         /* GET r3 = r1[r2] */
     10, 0, 33, 0, 4, 1, 0, 2, 0, 3,               /* CALL r4 = 1.0(r0, r3) */
-    9, 0, 16, 0, 2, 1, 0, 0, 0,                   /* LIT r2 = 1 */
+    13, 0, 36, 0, 2, 1, 0, 0, 0, 0, 0, 0, 0,      /* LIT r2 = 1 */
     7, 0, 22, 0, 3, 1, 2,                         /* GET r3 = r1[r2] */
     10, 0, 33, 0, 3, 1, 0, 2, 0, 3,               /* CALL r3 = 1.0(r0, r3) */
     8, 0, 24, 0, 4, 0, 4, 3,                      /* r4 = r4 + r3 */
-    9, 0, 16, 0, 2, 2, 0, 0, 0,                   /* LIT r2 = 2 */
+    13, 0, 36, 0, 2, 2, 0, 0, 0, 0, 0, 0, 0,      /* LIT r2 = 2 */
     7, 0, 22, 0, 3, 1, 2,                         /* GET r3 = r1[r2] */
     10, 0, 33, 0, 3, 1, 0, 2, 0, 3,               /* CALL r3 = 1.0(r0, r3) */
     8, 0, 24, 0, 4, 0, 4, 3,                      /* r4 = r4 + r3 */
@@ -33,25 +33,25 @@ static const uint8_t pump[] = {
     8, 0, 24, 0, 0, 1, 0, 1,                      /* r0 = r0 - r1 */
 };
 
-/* The same with another 1.0, of 57 bytes in place of 27: a room that is too warm asks for nothing. */
+/* The same with another 1.0, of 61 bytes in place of 27: a room that is too warm asks for nothing. */
 static const uint8_t later[] = {
     15, 0, 1, 0, 0, 0, 2, 5, 2, 1, 2, 3, 2, 2, 2, /* VERSION 0.0, as before */
     7, 0, 2, 0, 0, 4, 11,                         /* */
-    9, 0, 16, 0, 2, 0, 0, 0, 0,                   /* */
+    13, 0, 36, 0, 2, 0, 0, 0, 0, 0, 0, 0, 0,      /* */
     7, 0, 22, 0, 3, 1, 2,                         /* */
     10, 0, 33, 0, 4, 1, 0, 2, 0, 3,               /* */
-    9, 0, 16, 0, 2, 1, 0, 0, 0,                   /* */
+    13, 0, 36, 0, 2, 1, 0, 0, 0, 0, 0, 0, 0,      /* */
     7, 0, 22, 0, 3, 1, 2,                         /* */
     10, 0, 33, 0, 3, 1, 0, 2, 0, 3,               /* */
     8, 0, 24, 0, 4, 0, 4, 3,                      /* */
-    9, 0, 16, 0, 2, 2, 0, 0, 0,                   /* */
+    13, 0, 36, 0, 2, 2, 0, 0, 0, 0, 0, 0, 0,      /* */
     7, 0, 22, 0, 3, 1, 2,                         /* */
     10, 0, 33, 0, 3, 1, 0, 2, 0, 3,               /* */
     8, 0, 24, 0, 4, 0, 4, 3,                      /* */
     13, 0, 1, 0, 1, 0, 2, 3, 2, 1, 2, 2, 2,       /* VERSION 1.0: r0 wanted, r1 the room */
     7, 0, 2, 0, 0, 0, 5,                          /* BLOCK, its result in r0 */
     8, 0, 24, 0, 0, 1, 0, 1,                      /* r0 = r0 - r1 */
-    9, 0, 16, 0, 2, 0, 0, 0, 0,                   /* LIT r2 = 0 */
+    13, 0, 36, 0, 2, 0, 0, 0, 0, 0, 0, 0, 0,      /* LIT r2 = 0 */
     8, 0, 24, 0, 1, 4, 0, 2,                      /* r1 = r0 < r2 */
     6, 0, 35, 0, 1, 1,                            /* SKIP 1 unless r1 */
     6, 0, 17, 0, 0, 2,                            /* MOVE r0 = r2 */
@@ -110,7 +110,7 @@ static int update(const uint8_t *image, size_t length)
 /* One tick under the image in force. */
 static fir_answer tick(int number)
 {
-    int32_t buffer[FIR_ITEMS];
+    int64_t buffer[FIR_ITEMS];
     const fir_answer answer =
         fir_budget(memory.image, memory.length, &memory.state, BUDGET, buffer, FIR_ITEMS);
     printf("tick %d, %lu steps", number, (unsigned long)answer.steps);
@@ -128,8 +128,8 @@ static int cut(int number)
 
 static int control(void)
 {
-    const int32_t words[] = {-1, 210, 3, 200, 195, 225};
-    int32_t buffer[FIR_ITEMS];
+    const int64_t words[] = {-1, 210, 3, 200, 195, 225};
+    int64_t buffer[FIR_ITEMS];
     int number;
     fir_answer answer;
     fir_entry entry;
@@ -143,7 +143,7 @@ static int control(void)
             return 1;
         answer = tick(number);
         if (answer.code == FIR_INTEGER) {
-            printf(": the speed is %ld\n", (long)answer.value);
+            printf(": the speed is %lld\n", (long long)answer.value);
             /* No call is live any more, so any accepted image goes. */
             return !update(pump, sizeof pump);
         }

@@ -26,6 +26,18 @@
 extern "C" {
 #endif
 
+/* ---- Integers ---- */
+
+/* Integers have 64 bits: in registers, vectors, argument words, result buffers and answers, -9,223,372,036,854,775,808 to
+ * 9,223,372,036,854,775,807. An operation whose result is out of that range is UNDEF, and no result wraps. A literal in an
+ * image is a record of kind 36 with a number of 8 bytes.
+ *
+ * Integers once had 32 bits, and a literal was a record of kind 16 with a number of 4 bytes. Such an image is refused by
+ * question 3 at its first literal; a script is assembled anew from its text. A state that the library of that time stored
+ * cannot be read: it has 9,544 bytes and not 17,040, its fields stand elsewhere, and bytes do not show which library wrote
+ * them. Such a run is begun anew. Whoever called that library compiles again with this header: structs and arrays have
+ * other widths. */
+
 /* ---- Bounds ---- */
 
 #define FIR_IMAGE_BYTES 32768 /* the longest image */
@@ -86,7 +98,7 @@ typedef struct fir_entry {
 
 /* What a single step says: FIR_STEPS to FIR_STUCK. */
 typedef struct fir_said {
-    int32_t value;
+    int64_t value;
     uint8_t code;
     uint8_t length;
 } fir_said;
@@ -94,7 +106,7 @@ typedef struct fir_said {
 /* The answer to a budget, and the steps taken under it: FIR_STEPS to FIR_REFUSED. */
 typedef struct fir_answer {
     uint32_t steps;
-    int32_t value;
+    int64_t value;
     uint16_t offset;
     uint8_t code;
     uint8_t length;
@@ -104,11 +116,13 @@ typedef struct fir_answer {
 /* ---- The state of a run ---- */
 
 /* Numbers alone: it may be copied, stored and compared as bytes. Write it by the functions below only; its fields are here
- * so that it can be declared, and for tests to read. What lies above a count means nothing.
+ * so that it can be declared, and for tests to read. What lies above a count means nothing. The 4 bytes of padding before
+ * `value` mean nothing either: no call writes them, so where states are compared as bytes, clear each once before its first
+ * use, and copy them by memcpy.
  *
- * A stored state is these fir_state_size() bytes, kept anywhere and read back at any time, by another program too. There
- * are no bytes that cannot be loaded: all of them stand for some state. A state does not hold its image: whoever stores it
- * stores the image in force with it, or knows which one that was.
+ * A stored state is these fir_state_size() bytes, kept anywhere and read back at any time, by another program too that was
+ * built with this header. There are no bytes that cannot be loaded: all of them stand for some state. A state does not hold
+ * its image: whoever stores it stores the image in force with it, or knows which one that was.
  *
  * Where the image was exchanged without an accepted fir_change, every step and budget still gives an answer that is listed
  * here and keeps to the lent memory, but nothing that is promised of a begun run holds any more: a step may be stuck, and
@@ -118,13 +132,13 @@ typedef struct fir_answer {
  * all else is nothing. The call k has the cells 24 k to 24 k + 23, its registers and then its names. */
 typedef struct fir_state {
     /* the integers of the cells */
-    int32_t numbers[FIR_ACTIVATIONS * (FIR_REGISTERS + FIR_NAMES)];
+    int64_t numbers[FIR_ACTIVATIONS * (FIR_REGISTERS + FIR_NAMES)];
     /* 16 items of each vector */
-    int32_t items[FIR_PLACES * FIR_ITEMS];
+    int64_t items[FIR_PLACES * FIR_ITEMS];
     /* the integer of each promise that was forced */
-    int32_t caches[FIR_PLACES];
+    int64_t caches[FIR_PLACES];
     /* the items of a vector that the run is DONE with */
-    int32_t result[FIR_ITEMS];
+    int64_t result[FIR_ITEMS];
     /* the codes of the cells */
     uint16_t codes[FIR_ACTIVATIONS * (FIR_REGISTERS + FIR_NAMES)];
     /* of each call: its function and its version */
@@ -139,7 +153,7 @@ typedef struct fir_state {
     uint8_t depth;  /* how many activations are live */
     uint8_t status; /* FIR_STEPS while the run goes on, else its end: FIR_INTEGER to FIR_PROMISES */
     uint8_t length; /* of the vector that the run is DONE with */
-    int32_t value;  /* the integer that the run is DONE with */
+    int64_t value;  /* the integer that the run is DONE with */
 } fir_state;
 
 /* The size and the alignment of a state in bytes, as the library was built. */
@@ -158,22 +172,22 @@ size_t fir_report(const uint8_t *image, size_t image_length, uint8_t *text, size
 /* ---- Running ---- */
 
 /* Begins a run of a version of a function and writes its state. Argument words are -1 and an integer, or 0 to 16 and that
- * many integers, for each parameter. The buffer is asked for its length only. Where the run is refused, the state is as it
- * was. */
-fir_entry fir_begin(const uint8_t *image, size_t image_length, size_t function, size_t version, const int32_t *words,
-                    size_t words_length, const int32_t *buffer, size_t buffer_length, fir_state *state);
+ * many integers, for each parameter; a head word counts with all of its 64 bits. The buffer is asked for its length only.
+ * Where the run is refused, the state is as it was. */
+fir_entry fir_begin(const uint8_t *image, size_t image_length, size_t function, size_t version, const int64_t *words,
+                    size_t words_length, const int64_t *buffer, size_t buffer_length, fir_state *state);
 
 /* Takes a single step. */
 fir_said fir_step(const uint8_t *image, size_t image_length, fir_state *state);
 
 /* Takes at most `budget` steps. A vector that the run is DONE with is written to the buffer from place 0 on; all else in
  * the buffer stays. */
-fir_answer fir_budget(const uint8_t *image, size_t image_length, fir_state *state, uint32_t budget, int32_t *buffer,
+fir_answer fir_budget(const uint8_t *image, size_t image_length, fir_state *state, uint32_t budget, int64_t *buffer,
                       size_t buffer_length);
 
 /* Begins a run and takes at most `budget` steps. Where it is refused, the state is as it was. */
-fir_answer fir_run(const uint8_t *image, size_t image_length, size_t function, size_t version, const int32_t *words,
-                   size_t words_length, uint32_t budget, int32_t *buffer, size_t buffer_length, fir_state *state);
+fir_answer fir_run(const uint8_t *image, size_t image_length, size_t function, size_t version, const int64_t *words,
+                   size_t words_length, uint32_t budget, int64_t *buffer, size_t buffer_length, fir_state *state);
 
 /* ---- A new image for a run that goes on ---- */
 
@@ -199,7 +213,7 @@ fir_entry fir_change(const uint8_t *old_image, size_t old_length, const uint8_t 
 
 /* What a register or a name holds: an integer `number`, or the vector or promise at `place`; what it does not hold is 0. */
 typedef struct fir_value {
-    int32_t number;
+    int64_t number;
     uint8_t kind;
     uint8_t place;
 } fir_value;
@@ -211,7 +225,7 @@ fir_value fir_look(const fir_state *state, size_t call, size_t place);
 /* What the search of a DISPATCH comes to: how many versions it looks at, and how many the function has. */
 typedef struct fir_searched {
     uint8_t dispatch; /* 1 where the state stands at a DISPATCH; else 0, and the others are 0 */
-    uint8_t looked;   /* the number of the version that is called plus 1, or all of the function where none fits */
+    uint8_t looked;   /* the number of the first version that fits plus 1, or all of the function where none does */
     uint8_t versions; /* how many versions the function has */
 } fir_searched;
 

@@ -28,7 +28,7 @@ static inline void record(image *to, unsigned kind, const uint8_t *body, size_t 
         record(to, kind, body, sizeof body);         \
     } while (0)
 
-enum { VERSION = 1, BLOCK = 2, LIT = 16, VEC = 20, ARITH = 24, SELECT = 25, PROM = 29, FORCE = 30, CALL = 33, DISPATCH = 34 };
+enum { VERSION = 1, BLOCK = 2, VEC = 20, ARITH = 24, SELECT = 25, PROM = 29, FORCE = 30, CALL = 33, DISPATCH = 34, LIT = 36 };
 
 /* r0 counted down to 0 by a call of itself through an arithmetic of `busy` instructions: long runs, deep calls. */
 static inline void countdown(image *to, unsigned busy)
@@ -37,7 +37,7 @@ static inline void countdown(image *to, unsigned busy)
     to->length = 0;
     RECORD(to, VERSION, 0, 0, 1, 4, 2, 1, 2, 2, 2, 2);
     RECORD(to, BLOCK, 0, 3, (uint8_t)(busy + 3));
-    RECORD(to, LIT, 1, 1, 0, 0, 0);
+    RECORD(to, LIT, 1, 1, 0, 0, 0, 0, 0, 0, 0);
     RECORD(to, ARITH, 2, 1, 0, 1);
     for (i = 0; i < busy; i++)
         RECORD(to, ARITH, 3, 0, 0, 1);
@@ -52,7 +52,7 @@ static inline void chain(image *to, unsigned functions)
     for (f = 0; f < functions; f++) {
         RECORD(to, VERSION, (uint8_t)f, 0, 1, 3, 2, 1, 2, 2, 2);
         RECORD(to, BLOCK, 0, 2, 48);
-        RECORD(to, LIT, 1, 1, 0, 0, 0);
+        RECORD(to, LIT, 1, 1, 0, 0, 0, 0, 0, 0, 0);
         for (i = 0; i < 46; i++)
             RECORD(to, ARITH, 2, 0, 0, 1);
         if (f + 1 < functions)
@@ -91,7 +91,7 @@ static inline void searching(image *to, unsigned versions, unsigned fitting)
     to->length = 0;
     RECORD(to, VERSION, 0, 0, 1, 2, 2, 2, 2, 4);
     RECORD(to, BLOCK, 0, 0, 3);
-    RECORD(to, LIT, 0, 1, 0, 0, 0);
+    RECORD(to, LIT, 0, 1, 0, 0, 0, 0, 0, 0, 0);
     RECORD(to, PROM, 1, 1);
     RECORD(to, DISPATCH, 0, 1, 0, 2, 8, 2, 0, 0, 1, 0, 1, 0, 1, 0, 1, 0, 1, 0, 1, 0, 1);
     RECORD(to, BLOCK, 0, 0, 0);

@@ -1,7 +1,9 @@
 /* The layout of what crosses the interface, as this compiler has it, against what the header says and the library was built
- * with. The size of each field is that of its type; each field follows on the one before it. */
+ * with. The size of each field is that of its type; each field follows on the one before it, but for 4 bytes of padding before
+ * the value of a state, which no call writes. */
 #include <stdio.h>
 #include <stdlib.h>
+#include <string.h>
 
 #include "fir.h"
 
@@ -20,45 +22,66 @@ static void same(const char *what, size_t is, size_t wanted)
 #define ALIGNMENT(type) \
     offsetof(struct { char before; struct type it; }, it)
 
+/* The bytes between the length and the value of a state, which no call writes. */
+static void padding_stays(void)
+{
+    static const uint8_t identity[] = {11, 0, 1, 0, 0, 0, 1, 1, 2, 1, 2, 7, 0, 2, 0, 0, 0, 0};
+    static const int64_t words[] = {-1, 7};
+    static int64_t buffer[FIR_ITEMS];
+    static fir_state state;
+    const size_t first = offsetof(fir_state, length) + 1;
+    uint8_t *bytes = (uint8_t *)&state;
+    size_t at;
+    memset(&state, 0xa5, sizeof state);
+    fir_run(identity, sizeof identity, 0, 0, words, 2, 9, buffer, FIR_ITEMS, &state);
+    fir_begin(identity, sizeof identity, 0, 0, words, 2, buffer, FIR_ITEMS, &state);
+    fir_step(identity, sizeof identity, &state);
+    fir_budget(identity, sizeof identity, &state, 9, buffer, FIR_ITEMS);
+    same("state.status", state.status, FIR_INTEGER);
+    for (at = first; at < offsetof(fir_state, value); at++)
+        same("a byte of padding", bytes[at], 0xa5);
+}
+
 int main(void)
 {
     same("fir_state_size", fir_state_size(), sizeof(fir_state));
     same("fir_state_alignment", fir_state_alignment(), ALIGNMENT(fir_state));
-    same("sizeof fir_state", sizeof(fir_state), 9544);
+    same("sizeof fir_state", sizeof(fir_state), 17040);
     AT(fir_state, numbers, 0);
-    AT(fir_state, items, 3072);
-    AT(fir_state, caches, 7168);
-    AT(fir_state, result, 7424);
-    AT(fir_state, codes, 7488);
-    AT(fir_state, owners, 9024);
-    AT(fir_state, stack, 9088);
-    AT(fir_state, lengths, 9280);
-    AT(fir_state, promises, 9344);
-    AT(fir_state, calls, 9536);
-    AT(fir_state, depth, 9537);
-    AT(fir_state, status, 9538);
-    AT(fir_state, length, 9539);
-    AT(fir_state, value, 9540);
+    AT(fir_state, items, 6144);
+    AT(fir_state, caches, 14336);
+    AT(fir_state, result, 14848);
+    AT(fir_state, codes, 14976);
+    AT(fir_state, owners, 16512);
+    AT(fir_state, stack, 16576);
+    AT(fir_state, lengths, 16768);
+    AT(fir_state, promises, 16832);
+    AT(fir_state, calls, 17024);
+    AT(fir_state, depth, 17025);
+    AT(fir_state, status, 17026);
+    AT(fir_state, length, 17027);
+    AT(fir_state, value, 17032);
     same("sizeof fir_verdict", sizeof(fir_verdict), 16);
     AT(fir_verdict, question, 8);
     same("sizeof fir_entry", sizeof(fir_entry), 4);
     AT(fir_entry, question, 2);
-    same("sizeof fir_said", sizeof(fir_said), 8);
-    AT(fir_said, code, 4);
-    AT(fir_said, length, 5);
-    same("sizeof fir_answer", sizeof(fir_answer), 16);
-    AT(fir_answer, value, 4);
-    AT(fir_answer, offset, 8);
-    AT(fir_answer, code, 10);
-    AT(fir_answer, length, 11);
-    AT(fir_answer, question, 12);
-    same("sizeof fir_value", sizeof(fir_value), 8);
-    AT(fir_value, kind, 4);
-    AT(fir_value, place, 5);
+    same("sizeof fir_said", sizeof(fir_said), 16);
+    AT(fir_said, code, 8);
+    AT(fir_said, length, 9);
+    same("sizeof fir_answer", sizeof(fir_answer), 24);
+    AT(fir_answer, value, 8);
+    AT(fir_answer, offset, 16);
+    AT(fir_answer, code, 18);
+    AT(fir_answer, length, 19);
+    AT(fir_answer, question, 20);
+    same("sizeof fir_value", sizeof(fir_value), 16);
+    AT(fir_value, kind, 8);
+    AT(fir_value, place, 9);
     same("sizeof fir_searched", sizeof(fir_searched), 3);
     AT(fir_searched, dispatch, 0);
     AT(fir_searched, looked, 1);
     AT(fir_searched, versions, 2);
+    padding_stays();
     printf("layout: %u passed\n", tests);
     return 0;
 }

@@ -8,8 +8,8 @@
 static unsigned tests;
 static image tried;
 static fir_state state;
-static int32_t buffer[FIR_ITEMS];
-static const int32_t words[] = {-1, 40};
+static int64_t buffer[FIR_ITEMS];
+static const int64_t words[] = {-1, 40};
 
 /* Asserts what the state's search comes to, and that the state stays. */
 static void answers(const char *what, unsigned dispatch, unsigned looked, unsigned versions)

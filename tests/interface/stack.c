@@ -17,8 +17,8 @@ static fir_state state;
 static fir_state midway; /* of a run with live calls */
 static image searched;
 static fir_state at_dispatch; /* of a run that no version of four fits */
-static int32_t buffer[FIR_ITEMS];
-static const int32_t words[] = {-1, 40};
+static int64_t buffer[FIR_ITEMS];
+static const int64_t words[] = {-1, 40};
 static uint8_t text[1u << 16];
 
 static void nothing(void) { }

@@ -183,7 +183,7 @@ pub fn filling(instructions: &str) -> String {
 
 /// For changes of the image: 0.0, at 0 to 36, calls 1.0 twice, which adds a number
 /// to its argument. After 0 steps, 4 and 8 no call of 1.0 is live.
-pub fn adding(number: i32) -> String {
+pub fn adding(number: i64) -> String {
     format!(
         "version 0.0(r0: int) -> int
   block 0 quiet -> r0
@@ -197,3 +197,87 @@ version 1.0(r0: int) -> int
 "
     )
 }
+
+/// Sixty-four bits: what an operation gives of the two parameters.
+pub fn computing(op: &str) -> String {
+    format!(
+        "version 0.0(r0: int, r1: int) -> int
+           registers r2: int
+           block 0 quiet -> r2
+             r2 = {op} r0, r1"
+    )
+}
+
+/// Sixty-four bits: a body that gives what a record, at 18, assigns to r0.
+pub fn giving(record: &[u8]) -> Vec<u8> {
+    let head = [11, 0, 1, 0, 0, 0, 0, 1, 2, 1, 2, 7, 0, 2, 0, 0, 0, 1];
+    [&head[..], record].concat()
+}
+
+/// The greatest integer.
+pub const GREATEST: i64 = 9_223_372_036_854_775_807;
+/// The least integer.
+pub const LEAST: i64 = -9_223_372_036_854_775_808;
+
+/// Sixty-four bits: operations on two integers and what they give, none for UNDEF.
+pub const COMPUTED: [(&str, i64, i64, Option<i64>); 38] = [
+    // Past the ends of the range before.
+    ("add", 2_147_483_647, 1, Some(2_147_483_648)),
+    ("sub", -2_147_483_648, 1, Some(-2_147_483_649)),
+    ("mul", 65_536, 65_536, Some(4_294_967_296)),
+    ("mul", -2_147_483_648, -1, Some(2_147_483_648)),
+    ("div", -2_147_483_648, -1, Some(2_147_483_648)),
+    // Sums and differences at the ends.
+    ("add", GREATEST - 1, 1, Some(GREATEST)),
+    ("add", GREATEST, 1, None),
+    ("add", LEAST + 1, -1, Some(LEAST)),
+    ("add", LEAST, -1, None),
+    ("add", LEAST, GREATEST, Some(-1)),
+    ("add", LEAST, LEAST, None),
+    ("sub", LEAST + 1, 1, Some(LEAST)),
+    ("sub", LEAST, 1, None),
+    ("sub", -1, LEAST, Some(GREATEST)),
+    ("sub", 0, LEAST, None),
+    // Products that just fit, of each sign.
+    (
+        "mul",
+        3_037_000_499,
+        3_037_000_499,
+        Some(9_223_372_030_926_249_001),
+    ),
+    (
+        "mul",
+        -3_037_000_499,
+        -3_037_000_499,
+        Some(9_223_372_030_926_249_001),
+    ),
+    (
+        "mul",
+        3_037_000_499,
+        -3_037_000_500,
+        Some(-9_223_372_033_963_249_500),
+    ),
+    ("mul", -1_317_624_576_693_539_401, -7, Some(GREATEST)),
+    ("mul", 4_294_967_296, -2_147_483_648, Some(LEAST)),
+    ("mul", -4_294_967_296, 2_147_483_648, Some(LEAST)),
+    // Products that just do not.
+    ("mul", 3_037_000_500, 3_037_000_500, None),
+    ("mul", -3_037_000_500, -3_037_000_500, None),
+    ("mul", 3_037_000_500, -3_037_000_500, None),
+    ("mul", 4_294_967_296, 2_147_483_648, None),
+    ("mul", -4_294_967_296, -2_147_483_648, None),
+    ("mul", -3, 3_074_457_345_618_258_603, None),
+    // One whose low 64 bits are 0.
+    ("mul", 4_294_967_296, 4_294_967_296, None),
+    // The least times 1 and −1, both ways, and by them.
+    ("mul", LEAST, 1, Some(LEAST)),
+    ("mul", 1, LEAST, Some(LEAST)),
+    ("mul", LEAST, -1, None),
+    ("mul", -1, LEAST, None),
+    ("div", LEAST, 1, Some(LEAST)),
+    ("div", LEAST, -1, None),
+    ("div", LEAST, 2, Some(-4_611_686_018_427_387_904)),
+    ("div", GREATEST, -2, Some(-4_611_686_018_427_387_904)),
+    ("less", LEAST, GREATEST, Some(1)),
+    ("less", 4_294_967_296, 0, Some(0)),
+];

@@ -26,7 +26,7 @@ pub const FILLING: u8 = 0xA5;
 
 /// A state that nothing was written to: it stands for none.
 pub fn untouched() -> Snapshot {
-    let number = i32::from_le_bytes([FILLING; 4]);
+    let number = i64::from_le_bytes([FILLING; 8]);
     Snapshot {
         numbers: [number; ACTIVATIONS * CELLS],
         items: [number; VECTORS * ITEMS],

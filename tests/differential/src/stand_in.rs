@@ -97,8 +97,8 @@ fn put_promises(snapshot: &mut Snapshot, state: &State) {
 }
 
 /// An end's code, length and value.
-fn numbers(end: End) -> (u8, u8, i32) {
-    let nothing = i32::from_le_bytes([FILLING; 4]);
+fn numbers(end: End) -> (u8, u8, i64) {
+    let nothing = i64::from_le_bytes([FILLING; 8]);
     match end {
         End::Integer(value) => (FIR_INTEGER, FILLING, value),
         End::Vector(length) => (FIR_VECTOR, length as u8, nothing),
@@ -136,7 +136,7 @@ unsafe fn lent<'a, T>(first: *const T, length: usize) -> &'a [T] {
 }
 
 /// An answer without a refusal.
-fn answered((code, length, value): (u8, u8, i32), steps: u32) -> FirAnswer {
+fn answered((code, length, value): (u8, u8, i64), steps: u32) -> FirAnswer {
     FirAnswer {
         steps,
         value,
@@ -213,9 +213,9 @@ unsafe extern "C" fn fir_begin(
     image_length: usize,
     function: usize,
     version: usize,
-    words: *const i32,
+    words: *const i64,
     words_length: usize,
-    buffer: *const i32,
+    buffer: *const i64,
     buffer_length: usize,
     after: *mut Snapshot,
 ) -> FirEntry {
@@ -253,7 +253,7 @@ unsafe extern "C" fn fir_budget(
     image_length: usize,
     state: *mut Snapshot,
     budget: u32,
-    buffer: *mut i32,
+    buffer: *mut i64,
     buffer_length: usize,
 ) -> FirAnswer {
     let program = program(lent(image, image_length)).expect("an accepted image");
@@ -276,10 +276,10 @@ unsafe extern "C" fn fir_run(
     image_length: usize,
     function: usize,
     version: usize,
-    words: *const i32,
+    words: *const i64,
     words_length: usize,
     budget: u32,
-    buffer: *mut i32,
+    buffer: *mut i64,
     buffer_length: usize,
     state: *mut Snapshot,
 ) -> FirAnswer {

@@ -21,7 +21,7 @@ pub struct Workload {
 
 impl Workload {
     /// The words that the run begins with.
-    pub const WORDS: [i32; 2] = [-1, 5];
+    pub const WORDS: [i64; 2] = [-1, 5];
 
     /// The bottom's functions, the last of which is called by a tree whose
     /// levels make so many calls each, the lowest level first.
@@ -79,6 +79,7 @@ pub fn workloads() -> Vec<Workload> {
             image(&skips()),
             &[8, 8, 8, 8, 8, 3],
         ),
+        Workload::new("wide arithmetic", "quiet", image(&wide_arithmetic()), &TREE),
     ]
 }
 
@@ -111,6 +112,31 @@ fn arithmetic() -> String {
            block 0 quiet -> r0
              r1 = lit 1000
              {}",
+        round.repeat(5)
+    )
+}
+
+/// Arithmetic on integers beyond 32 bits, with products beyond 2^61 of each sign.
+fn wide_arithmetic() -> String {
+    let round = "
+        r3 = add r0, r1
+        r4 = mul r3, r2
+        r5 = sub r4, r0
+        r6 = div r5, r1
+        r7 = less r6, r3
+        r3 = select r7 ? r6 : r3
+        r4 = mul r2, r6
+        r5 = div r4, r2
+        r0 = sub r5, r1
+    ";
+    format!(
+        "version 0.0(r0: int) -> int
+           registers r1: int, r2: int, r3: int, r4: int, r5: int, r6: int, r7: int
+           block 0 quiet -> r0
+             r1 = lit 3000000000
+             r2 = lit -2000000000
+             {}
+             r0 = lit 5",
         round.repeat(5)
     )
 }

@@ -1,7 +1,7 @@
 //! The cases that the paper names, with verdicts and texts worked out by hand.
 
 use cases::{
-    assigned_on_one_way, calling_with, emptied_on_one_way, emptying_after, filling, image,
+    assigned_on_one_way, calling_with, emptied_on_one_way, emptying_after, filling, giving, image,
     resulting, returning, skipping_inside, CALLS_ITSELF, CALL_INTO_ITSELF, DIVISION, DUP_AND_SET,
     IDENTITY, SET_ON_SHARED, SKIPS_NONE, SKIPS_ONE, USE_INTO_ITSELF,
 };
@@ -75,7 +75,7 @@ fn p7_dup_set_and_owned_return_is_accepted() {
 
 #[test]
 fn p9_set_on_the_shared_vector_is_8_at_the_set() {
-    refuses(&image(SET_ON_SHARED), 8, 14 + 7 + 6 + 9 + 9);
+    refuses(&image(SET_ON_SHARED), 8, 14 + 7 + 6 + 13 + 13);
 }
 
 #[test]
@@ -181,7 +181,7 @@ fn mistake_returning_kind_0_from_a_dispatch_is_6() {
                  r0 = dispatch 0(r0: any) -> {kind} quiet"
         ))
     };
-    refuses(&returning("any"), 6, 12 + 7 + 9);
+    refuses(&returning("any"), 6, 12 + 7 + 13);
     accepts(&returning("value"), &["0.0 1 2 0 0"]);
 }
 
@@ -221,17 +221,17 @@ fn a_part_may_end_where_the_part_around_it_and_the_block_end() {
 
 #[test]
 fn a_skip_past_the_part_around_it_is_14_at_the_inner_skip() {
-    // VERSION 13 bytes, BLOCK 7, LIT 9, SKIP 6, LIT 9.
-    refuses(&image(&skipping_inside(2)), 14, 13 + 7 + 9 + 6 + 9);
+    // VERSION 13 bytes, BLOCK 7, LIT 13, SKIP 6, LIT 13.
+    refuses(&image(&skipping_inside(2)), 14, 13 + 7 + 13 + 6 + 13);
     // The outer part is shorter by one, so that the inner one ends behind it.
     let shorter = skipping_inside(1).replace("skip 3", "skip 2");
-    refuses(&image(&shorter), 14, 13 + 7 + 9 + 6 + 9);
+    refuses(&image(&shorter), 14, 13 + 7 + 13 + 6 + 13);
 }
 
 #[test]
 fn a_skip_of_255_instructions_is_14_at_it() {
     let longest = SKIPS_ONE.replace("skip 1", "skip 255");
-    refuses(&image(&longest), 14, 12 + 7 + 9);
+    refuses(&image(&longest), 14, 12 + 7 + 13);
 }
 
 #[test]
@@ -296,4 +296,21 @@ fn a_register_that_is_read_between_its_emptying_and_its_filling_is_10() {
     let behind = "r3 = prom 1\nr2 = vec [r1]\nr0 = use r2\nr2 = vec []\nr1 = len r2";
     // Reads r0 and r1; assigns r3, r2, r0, r1.
     accepts(&image(&filling(behind)), &["0.0 2 4 0 2"]);
+}
+
+#[test]
+fn a_literal_is_of_kind_36_with_a_number_of_8_bytes() {
+    let literal = [13, 0, 36, 0, 0, 5, 0, 0, 0, 0, 0, 0, 0];
+    accepts(&giving(&literal), &["0.0 0 1 0 0"]);
+    for bytes in (0..=12).filter(|&bytes| bytes != 8) {
+        let mut literal = vec![0; 5 + bytes];
+        literal[..4].copy_from_slice(&[5 + bytes as u8, 0, 36, 0]);
+        refuses(&giving(&literal), 3, 18);
+    }
+}
+
+#[test]
+fn a_literal_of_kind_16_is_3_whatever_its_length() {
+    refuses(&giving(&[9, 0, 16, 0, 0, 5, 0, 0, 0]), 3, 18);
+    refuses(&giving(&[13, 0, 16, 0, 0, 5, 0, 0, 0, 0, 0, 0, 0]), 3, 18);
 }

@@ -2,8 +2,8 @@
 //! engine, the reference and the tuned interpreter.
 
 use cases::{
-    adding, filling, image, CALLS_ITSELF, CALL_INTO_ITSELF, DIVISION, DUP_AND_SET, IDENTITY,
-    SKIPS_NESTED, SKIPS_NONE, SKIPS_ONE, USE_INTO_ITSELF,
+    adding, computing, filling, giving, image, CALLS_ITSELF, CALL_INTO_ITSELF, COMPUTED, DIVISION,
+    DUP_AND_SET, GREATEST, IDENTITY, LEAST, SKIPS_NESTED, SKIPS_NONE, SKIPS_ONE, USE_INTO_ITSELF,
 };
 use differential::engine;
 use differential::tuned::{Code, Machine};
@@ -115,6 +115,55 @@ fn p10_minus_7_divided_by_2_is_minus_4() {
     let undef = Answer::Ended(End::Undef);
     gives(&image, &[-1, 7, -1, 0], 2, undef, 1, &[]);
     gives(&image, &[-1, Integer::MIN, -1, -1], 2, undef, 1, &[]);
+}
+
+#[test]
+fn operations_keep_to_64_bits() {
+    for (op, a, b, result) in COMPUTED {
+        let (answer, steps) = match result {
+            Some(integer) => (done(integer), 2),
+            None => (Answer::Ended(End::Undef), 1),
+        };
+        println!("{op} of {a} and {b}");
+        gives(
+            &image(&computing(op)),
+            &[-1, a, -1, b],
+            9,
+            answer,
+            steps,
+            &[],
+        );
+    }
+}
+
+#[test]
+fn a_literal_is_its_8_bytes() {
+    for integer in [1 << 32, -(1 << 32), 1 << 40, GREATEST, LEAST, -3] {
+        let literal = [&[13, 0, 36, 0, 0][..], &i64::to_le_bytes(integer)].concat();
+        gives(&giving(&literal), &[], 9, done(integer), 2, &[]);
+    }
+}
+
+#[test]
+fn words_items_and_results_have_64_bits() {
+    let vector = image("version 0.0(r0: vector) -> vector\nblock 0 quiet -> r0");
+    for integer in [1 << 40, -(1 << 40), GREATEST, LEAST] {
+        gives(&IDENTITY, &[-1, integer], 9, done(integer), 1, &[]);
+        let items = [integer, -1, integer];
+        let words = [3, integer, -1, integer];
+        let answer = Answer::Ended(End::Vector(3));
+        gives(&vector, &words, 9, answer, 1, &items);
+    }
+}
+
+#[test]
+fn a_head_word_counts_with_all_of_its_bits() {
+    let (number, offset) = (12, 0);
+    for head in [1 << 32, (1 << 32) - 1, (1 << 32) + 1, -(1 << 32) - 1, LEAST] {
+        let words = [head, 7];
+        let (_, begun) = engine::begin(&IDENTITY, (0, 0), &words, &[0; BUFFER]);
+        assert_eq!(begun, Err(Refusal { number, offset }), "{head}");
+    }
 }
 
 #[test]
@@ -258,7 +307,7 @@ fn a_change_is_refused_by_the_new_images_own_questions_first() {
     let wrong = adding(100).replace("r0 = add r0, r1", "r0 = add r0, r2");
     let refused = Err(Refusal {
         number: 7,
-        offset: 64,
+        offset: 68,
     });
     for steps in 0..9 {
         changes(&adding(1), steps, &wrong, refused, 5 + 1 + 1);

@@ -1,6 +1,7 @@
 //! The tuned interpreter and the reference give the same ends, results and steps.
 
 use differential::tuned::{Code, Machine};
+use differential::workloads::workloads;
 use generator::{accepted, accepted_of, begun, Random, Special, Tally, Theme};
 use reference::bounds::{Steps, BUFFER};
 use reference::watched::{Watched, ENDINGS};
@@ -80,5 +81,14 @@ fn tuned_interpreter_does_so_in_large_and_special_programs() {
     println!("{met}");
     for ending in ["DONE, integer", "DEEP", "VECTORS", "PROMISES"] {
         assert!(met.count(ending) > 0, "no run ended so: {ending}");
+    }
+}
+
+#[test]
+fn every_workload_is_accepted() {
+    for workload in workloads() {
+        let verdict = reference::verdict(&workload.image);
+        let accepted = matches!(verdict, reference::Verdict::Accepted(_));
+        assert!(accepted, "{}: {verdict:?}", workload.name);
     }
 }

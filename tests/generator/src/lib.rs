@@ -6,8 +6,10 @@
 //! broken, aimed at a question. What runs will do is only expected, so that
 //! most of them go on for a while and all ends are met.
 
+mod before;
 mod damage;
 mod draft;
+mod ends;
 mod fact;
 mod grow;
 mod mutate;
@@ -64,6 +66,13 @@ pub fn accepted(seed: u64) -> Vec<u8> {
 /// An accepted image of a theme.
 pub fn accepted_of(theme: Theme, seed: u64) -> Vec<u8> {
     theme::program(&mut Random::new(seed), theme).bytes()
+}
+
+/// The accepted image of the form before, whose literals have 32 bits.
+pub fn accepted_before(seed: u64) -> Vec<u8> {
+    let mut random = Random::new(seed);
+    let theme = Theme::any(&mut random);
+    before::bytes(&theme::program(&mut random, theme))
 }
 
 /// An image that a question of 1 to 10, or 14, should refuse.
@@ -147,6 +156,12 @@ pub fn words(seed: u64, program: &Program, entry: (usize, usize)) -> Vec<Integer
     } else {
         words
     }
+}
+
+/// The same words, each of 32 bits.
+pub fn words_before(seed: u64, program: &Program, entry: (usize, usize)) -> Vec<Integer> {
+    let words = words(seed, program, entry).into_iter();
+    words.map(before::narrowed).collect()
 }
 
 /// The run of an accepted image that begins at its entry with its words; none

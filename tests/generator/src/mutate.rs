@@ -4,8 +4,8 @@ use crate::random::Random;
 use reference::{kinds, Integer, Mark, Record, Type};
 
 /// Bytes that mean something at many places.
-const TELLING: [u8; 25] = [
-    0, 1, 2, 3, 4, 5, 6, 7, 8, 9, 15, 16, 17, 18, 20, 31, 32, 33, 34, 35, 36, 48, 49, 128, 255,
+const TELLING: [u8; 26] = [
+    0, 1, 2, 3, 4, 5, 6, 7, 8, 9, 15, 16, 17, 18, 20, 31, 32, 33, 34, 35, 36, 37, 48, 49, 128, 255,
 ];
 
 /// The image after a few changes of bytes.
@@ -131,7 +131,7 @@ fn return_type(random: &mut Random) -> u8 {
 
 /// An instruction with fields of chance.
 fn instruction(random: &mut Random) -> Vec<u8> {
-    let kind = kinds::LIT + random.below(usize::from(kinds::SKIP - kinds::LIT) + 1) as u16;
+    let kind = kinds::MOVE + random.below(usize::from(kinds::LIT - kinds::MOVE) + 1) as u16;
     let n = random.below(4);
     let fields = |random: &mut Random, count| (0..count).map(|_| field(random)).collect();
     let body: Vec<u8> = match kind {

@@ -1,5 +1,6 @@
 //! Where runs begin, with which words, and what is done with them.
 
+use crate::ends;
 use crate::random::Random;
 use crate::update::Update;
 use reference::bounds::{Steps, BUFFER, ITEMS};
@@ -52,27 +53,37 @@ fn argument(random: &mut Random, parameter: Type) -> Vec<Integer> {
     words
 }
 
-/// An integer, mostly small, sometimes at an end of the range.
+/// An integer, mostly small, sometimes at an end of either range.
 fn integer(random: &mut Random) -> Integer {
     match random.below(20) {
-        0 => random.pick(&[Integer::MIN, Integer::MAX, Integer::MIN + 1, -1, 0]),
-        1 => random.number() as Integer,
-        2..=5 => random.between(-1000, 1000) as Integer,
-        _ => random.between(-3, 12) as Integer,
+        0 => ends::integer(random),
+        1 => random.number() as Integer >> random.below(64),
+        2..=5 => random.between(-1000, 1000),
+        _ => random.between(-3, 12),
     }
 }
 
+/// What leaves the low 32 bits of a head word as they are.
+const HIGH_BITS: [Integer; 5] = [
+    1 << 32,
+    -(1 << 32),
+    1 << 33,
+    1 << 62,
+    Integer::MIN + (1 << 32),
+];
+
 /// The words with one thing wrong, or by chance still right.
 pub fn wrong_words(random: &mut Random, mut words: Vec<Integer>) -> Vec<Integer> {
-    match random.below(4) {
+    match random.below(5) {
         0 => words.push(integer(random)),
         1 => drop(words.pop()),
-        2 if !words.is_empty() => {
+        2 if !words.is_empty() => words[0] += random.pick(&HIGH_BITS),
+        3 if !words.is_empty() => {
             let heads = [-2, -1, 0, 1, 16, 17, Integer::MIN, Integer::MAX];
             let at = random.below(words.len());
             words[at] = random.pick(&heads);
         }
-        _ => words.insert(0, random.pick(&[-1, 0, 5, 17])),
+        _ => words.insert(0, random.pick(&[-1, 0, 5, 17, 1 << 32])),
     }
     words
 }

@@ -164,7 +164,7 @@ fn ladder(random: &mut Random) -> (Vec<DraftVersion>, Callable) {
     };
     let bottom = ladder_version(0, parameters(Type::INTEGER), 0, vec![]);
     let given = count as Register;
-    let instructions = rung(given, random.between(-9, 9) as Integer);
+    let instructions = rung(given, random.between(-9, 9));
     let rung = ladder_version(1, parameters(Type::VECTOR), given, instructions);
     let callable = Callable {
         function: 0,

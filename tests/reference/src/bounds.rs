@@ -1,7 +1,7 @@
 //! The bounds of the paper, each named once.
 
 /// An integer in registers, vectors, argument words and the result buffer.
-pub type Integer = i32;
+pub type Integer = i64;
 /// A number of steps, as a budget gives it and as a result counts it.
 pub type Steps = u32;
 

@@ -1,6 +1,7 @@
 //! "Image": the twenty instructions, their bytes, and the registers they name.
 
 use crate::bounds::Integer;
+use crate::form::Form;
 use crate::kinds;
 use crate::types::{Mark, Type};
 
@@ -13,7 +14,7 @@ pub type Name = u8;
 #[derive(Clone, PartialEq, Eq, Hash, Debug)]
 #[allow(missing_docs)] // The fields are the paper's letters.
 pub enum Instruction {
-    /// 16: d takes a literal.
+    /// 36: d takes a literal.
     Lit { d: Register, value: Integer },
     /// 17: d takes what a shared register holds.
     Move { d: Register, a: Register },
@@ -85,13 +86,18 @@ pub enum Instruction {
 }
 
 impl Instruction {
-    /// The instruction of a record's kind and body; none if the kind is no
-    /// instruction or the body is not as long as its fields make it.
+    /// The instruction of a record's kind and body in the form in force; none if
+    /// the kind is no instruction or the body is not as long as its fields make it.
     pub fn read(kind: u16, body: &[u8]) -> Option<Instruction> {
+        Instruction::read_in(Form::Wide, kind, body)
+    }
+
+    /// The same in a form.
+    pub fn read_in(form: Form, kind: u16, body: &[u8]) -> Option<Instruction> {
         let instruction = match (kind, body) {
-            (kinds::LIT, &[d, ref value @ ..]) => Self::Lit {
+            (_, &[d, ref number @ ..]) if kind == form.literal() => Self::Lit {
                 d,
-                value: Integer::from_le_bytes(value.try_into().ok()?),
+                value: form.number(number)?,
             },
             (kinds::MOVE, &[d, a]) => Self::Move { d, a },
             (kinds::USE, &[d, a]) => Self::Use { d, a },
@@ -147,7 +153,7 @@ impl Instruction {
         }
     }
 
-    /// The kind of the instruction's record.
+    /// The kind of the instruction's record in the form in force.
     pub fn kind(&self) -> u16 {
         match self {
             Self::Lit { .. } => kinds::LIT,
@@ -173,7 +179,7 @@ impl Instruction {
         }
     }
 
-    /// The body of the instruction's record.
+    /// The body of the instruction's record in the form in force.
     pub fn body(&self) -> Vec<u8> {
         match *self {
             Self::Lit { d, value } => [&[d][..], &value.to_le_bytes()].concat(),

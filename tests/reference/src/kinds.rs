@@ -4,8 +4,8 @@
 pub const VERSION: u16 = 1;
 /// Opens a block.
 pub const BLOCK: u16 = 2;
-/// `LIT d, i32`
-pub const LIT: u16 = 16;
+/// `LIT d, i32` of the form before; the one in force does not know it
+pub const NARROW_LIT: u16 = 16;
 /// `MOVE d a`
 pub const MOVE: u16 = 17;
 /// `USE d a`
@@ -44,6 +44,8 @@ pub const CALL: u16 = 33;
 pub const DISPATCH: u16 = 34;
 /// `SKIP a n`
 pub const SKIP: u16 = 35;
+/// `LIT d, i64`
+pub const LIT: u16 = 36;
 
 /// ARITH gives a + b.
 pub const ADD: u8 = 0;

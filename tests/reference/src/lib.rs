@@ -7,7 +7,7 @@
 //! | section | modules |
 //! |---|---|
 //! | Values and types | [`types`] |
-//! | Image | [`bounds`], [`kinds`], [`instruction`], [`record`], [`program`] |
+//! | Image | [`bounds`], [`kinds`], [`form`], [`instruction`], [`record`], [`program`] |
 //! | Questions put to an image | [`questions`], [`begin`], [`change`] |
 //! | Types fit when | [`questions`] |
 //! | Flow | [`flow`] |
@@ -20,6 +20,7 @@ pub mod bounds;
 pub mod change;
 pub mod counts;
 pub mod flow;
+pub mod form;
 pub mod instruction;
 pub mod kinds;
 pub mod monitor;
@@ -37,6 +38,7 @@ pub mod watched;
 pub use begin::begin;
 pub use bounds::Integer;
 pub use change::change;
+pub use form::{widened, Form, Range};
 pub use instruction::{Instruction, Name, Register};
 pub use program::Program;
 pub use questions::{questions_1_to_7, verdict, Refusal, Verdict};

@@ -1,5 +1,6 @@
 //! "Image": records, how they follow one another, and their bytes.
 
+use crate::form::Form;
 use crate::instruction::{Instruction, Register};
 use crate::kinds;
 use crate::types::{Mark, Type};
@@ -84,14 +85,19 @@ pub enum Record {
     Version(VersionRecord),
     /// Kind 2.
     Block(BlockRecord),
-    /// Kinds 16 to 35.
+    /// Kinds 17 to 36.
     Instruction(Instruction),
 }
 
 impl Record {
-    /// The record of a kind and a body; none if the kind is unknown or the
-    /// length is not the one its fields make.
+    /// The record of a kind and a body in the form in force; none if the kind is
+    /// unknown or the length is not the one its fields make.
     pub fn read(kind: u16, body: &[u8]) -> Option<Record> {
+        Record::read_in(Form::Wide, kind, body)
+    }
+
+    /// The same in a form.
+    pub fn read_in(form: Form, kind: u16, body: &[u8]) -> Option<Record> {
         match (kind, body) {
             (
                 kinds::VERSION,
@@ -109,7 +115,7 @@ impl Record {
                 result,
                 instructions,
             })),
-            _ => Instruction::read(kind, body).map(Record::Instruction),
+            _ => Instruction::read_in(form, kind, body).map(Record::Instruction),
         }
     }
 
@@ -122,19 +128,21 @@ impl Record {
         }
     }
 
-    /// The record's bytes, head and body.
+    /// The record's bytes in the form in force, head and body.
     pub fn bytes(&self) -> Vec<u8> {
         let body = match self {
             Record::Version(version) => version.body(),
             Record::Block(block) => vec![block.mark.0, block.result, block.instructions],
             Record::Instruction(instruction) => instruction.body(),
         };
-        let length = u16::try_from(HEAD + body.len()).expect("a record has at most 65,535 bytes");
-        let mut bytes = length.to_le_bytes().to_vec();
-        bytes.extend(self.kind().to_le_bytes());
-        bytes.extend(body);
-        bytes
+        record_bytes(self.kind(), &body)
     }
+}
+
+/// The bytes of a record of a kind with a body.
+pub fn record_bytes(kind: u16, body: &[u8]) -> Vec<u8> {
+    let length = u16::try_from(HEAD + body.len()).expect("a record has at most 65,535 bytes");
+    [&length.to_le_bytes()[..], &kind.to_le_bytes(), body].concat()
 }
 
 impl VersionRecord {

@@ -7,9 +7,9 @@ use std::fmt;
 #[derive(Clone, PartialEq, Eq, Debug)]
 pub enum Argument {
     /// Such as `-7`.
-    Integer(i32),
+    Integer(i64),
     /// Such as `[1,2,3]`.
-    Vector(Vec<i32>),
+    Vector(Vec<i64>),
 }
 
 impl Argument {
@@ -23,16 +23,16 @@ impl Argument {
         if items.trim().is_empty() {
             return Ok(Argument::Vector(Vec::new()));
         }
-        let items: Result<Vec<i32>, String> = items.split(',').map(integer).collect();
+        let items: Result<Vec<i64>, String> = items.split(',').map(integer).collect();
         items.map(Argument::Vector)
     }
 
     /// The words of the argument, as a run is begun with them.
-    fn words(&self) -> Vec<i32> {
+    fn words(&self) -> Vec<i64> {
         match self {
             Argument::Integer(integer) => vec![-1, *integer],
             Argument::Vector(items) => {
-                let length = i32::try_from(items.len()).unwrap_or(i32::MAX);
+                let length = i64::try_from(items.len()).unwrap_or(i64::MAX);
                 [&[length], &items[..]].concat()
             }
         }
@@ -60,18 +60,18 @@ impl fmt::Display for Argument {
 }
 
 /// The words of arguments, one after another.
-pub fn words(arguments: &[Argument]) -> Vec<i32> {
+pub fn words(arguments: &[Argument]) -> Vec<i64> {
     arguments.iter().flat_map(Argument::words).collect()
 }
 
-/// An integer of 32 bits.
-fn integer(text: &str) -> Result<i32, String> {
+/// An integer of 64 bits.
+fn integer(text: &str) -> Result<i64, String> {
     let text = text.trim();
     text.parse().map_err(|_| {
         format!(
             "`{text}` is no integer of {} to {}; write 7, -7 or [1,2,3]",
-            i32::MIN,
-            i32::MAX
+            i64::MIN,
+            i64::MAX
         )
     })
 }

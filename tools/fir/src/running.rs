@@ -130,7 +130,7 @@ impl<'s> Going<'s> {
     fn tell(
         &self,
         answer: Answer,
-        buffer: &[i32],
+        buffer: &[i64],
         left: &[Next],
         streams: &mut Streams,
     ) -> Result<(), Failure> {
@@ -179,7 +179,7 @@ fn status(answer: Answer) -> Status {
 }
 
 /// An answer, with what the run is DONE with.
-fn words_of(answer: Answer, buffer: &[i32]) -> String {
+fn words_of(answer: Answer, buffer: &[i64]) -> String {
     match answer {
         Answer::Ended(End::Integer(integer)) => format!("DONE {integer}"),
         Answer::Ended(End::Vector(length)) => format!("DONE {:?}", &buffer[..length]),

@@ -101,7 +101,7 @@ fn a_version_that_differs_is_named_with_the_byte_in_both_images() {
         (
             "add r0, r1",
             "add r0, r0",
-            "byte 71 (line 9) is 0, and was 1 at 71 (line 9) of the old image",
+            "byte 75 (line 9) is 0, and was 1 at 75 (line 9) of the old image",
         ),
     ] {
         let new = adding(1).replacen(there, other, 1);
@@ -191,7 +191,7 @@ fn an_image_whose_step_is_not_reached_is_named() {
     did(
         &done,
         1,
-        "STEPS after 2 steps\n  at 64 (line 9) in 1.0, block 0: r0 = add r0, r1\n  not reached: new0.fir@10\n",
+        "STEPS after 2 steps\n  at 68 (line 9) in 1.0, block 0: r0 = add r0, r1\n  not reached: new0.fir@10\n",
     );
 }
 
@@ -240,13 +240,13 @@ fn an_ended_run_may_go_on_under_another_image_too() {
         "after 9 steps: goes on under new0.fir\nDONE 7 after 9 steps\n",
     );
     // UNDEF keeps its live calls: the addition at step 3 is out of range.
-    let old = adding(i32::MAX);
+    let old = adding(i64::MAX);
     let done = changed("ended", "run", &old, &[(other, 3)], &[]);
     let text = done.text();
     let begin =
         "after 3 steps, new0.fir: refused by 15 at 0 (line 1): 0.0 has a live call and differs: ";
     assert!(text.starts_with(begin), "{text}");
-    let end = ": r0 = add r0, r1: 5 + 2147483647 is out of range\n";
+    let end = ": r0 = add r0, r1: 5 + 9223372036854775807 is out of range\n";
     assert!(text.ends_with(end), "{text}");
     let done = changed("ended", "run", &old, &[(&old, 3)], &[]);
     let begin = "after 3 steps: goes on under new0.fir\nUNDEF after 3 steps\n";

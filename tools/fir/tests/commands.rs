@@ -81,9 +81,9 @@ fn run_prints_what_it_is_done_with_and_its_steps() {
         "",
     );
     did(
-        &fir(&["run", "-", "0.0", "-2147483648"], &identity),
+        &fir(&["run", "-", "0.0", "-9223372036854775808"], &identity),
         0,
-        "DONE -2147483648 after 1 step\n",
+        "DONE -9223372036854775808 after 1 step\n",
         "",
     );
     let put = image(PUT);
@@ -107,7 +107,7 @@ fn run_says_where_it_stands_unless_it_is_done() {
     did(
         &fir(&["run", "-", "0.0", "[]", "4"], &put),
         1,
-        "UNDEF after 3 steps\n  at 36 in 0.0, block 0: set r2[r3] = r1: index 0 is outside of v1 []\n",
+        "UNDEF after 3 steps\n  at 40 in 0.0, block 0: set r2[r3] = r1: index 0 is outside of v1 []\n",
         "",
     );
     did(
@@ -256,10 +256,10 @@ fn bad_usage_is_named() {
         (&["run", "a"], "fir run: no version is named, such as 0.0; see `fir run --help`"),
         (&["run", "a", "0"], "fir run: `0` names no version; write one such as 0.0; see `fir run --help`"),
         (&["run", "a", "0.x"], "fir run: `0.x` names no version; write one such as 0.0; see `fir run --help`"),
-        (&["run", "a", "0.0", "x"], "fir run: `x` is no integer of -2147483648 to 2147483647; write 7, -7 or [1,2,3]; see `fir run --help`"),
+        (&["run", "a", "0.0", "x"], "fir run: `x` is no integer of -9223372036854775808 to 9223372036854775807; write 7, -7 or [1,2,3]; see `fir run --help`"),
         (&["run", "a", "0.0", "[1,2"], "fir run: `[1,2` has no `]` at its end; see `fir run --help`"),
-        (&["run", "a", "0.0", "[1,,2]"], "fir run: `` is no integer of -2147483648 to 2147483647; write 7, -7 or [1,2,3]; see `fir run --help`"),
-        (&["trace", "a", "0.0", "2147483648"], "fir trace: `2147483648` is no integer of -2147483648 to 2147483647; write 7, -7 or [1,2,3]; see `fir trace --help`"),
+        (&["run", "a", "0.0", "[1,,2]"], "fir run: `` is no integer of -9223372036854775808 to 9223372036854775807; write 7, -7 or [1,2,3]; see `fir run --help`"),
+        (&["trace", "a", "0.0", "9223372036854775808"], "fir trace: `9223372036854775808` is no integer of -9223372036854775808 to 9223372036854775807; write 7, -7 or [1,2,3]; see `fir trace --help`"),
         (&["run", "a", "0.0", "--budget"], "fir run: nothing follows --budget; see `fir run --help`"),
         (&["run", "a", "0.0", "--budget", "4294967296"], "fir run: `4294967296` is no budget of 0 to 4294967295; see `fir run --help`"),
         (&["asm", "a", "-o", "b", "-o", "c"], "fir asm: -o stands twice; see `fir asm --help`"),

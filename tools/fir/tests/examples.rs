@@ -11,8 +11,9 @@ use support::fir;
 const EXAMPLES: &str = concat!(env!("CARGO_MANIFEST_DIR"), "/../../examples/");
 
 /// The scripts.
-const SCRIPTS: [&str; 6] = [
+const SCRIPTS: [&str; 7] = [
     "defrost.fir",
+    "energy.fir",
     "pump.fir",
     "pump_later.fir",
     "riser.fir",
@@ -86,7 +87,7 @@ fn no_script_is_left_out() {
 
 /// What version 0.0 of a script gives.
 #[track_caller]
-fn gives(script: &str, arguments: &[&str], expected: i32) {
+fn gives(script: &str, arguments: &[&str], expected: i64) {
     let path = format!("{EXAMPLES}{script}");
     let call = [&["run", &path, "0.0"], arguments].concat();
     let done = fir(&call, b"");
@@ -114,6 +115,16 @@ fn defrost_follows_its_thresholds() {
     // More than 180 minutes.
     gives("defrost.fir", &["10", "0", "181"], 1);
     gives("defrost.fir", &["10", "0", "180"], 0);
+}
+
+#[test]
+fn energy_adds_up_all_readings_beyond_32_bits() {
+    gives("energy.fir", &["0", "900", "[]"], 0);
+    gives("energy.fir", &["2147483647", "1", "[1]"], 2_147_483_648);
+    gives("energy.fir", &["-2147483648", "1", "[-1]"], -2_147_483_649);
+    let year = "[1000000,1000000,1000000,1000000,1000000,1000000,1000000,1000000,\
+                1000000,1000000,1000000,1000000,1000000,1000000,1000000,1000000]";
+    gives("energy.fir", &["5", "31536000", year], 504_576_000_000_005);
 }
 
 #[test]
@@ -154,7 +165,7 @@ fn the_images_of_update_are_those_of_its_scripts() {
 #[test]
 fn riser_finds_the_greatest_demand_at_each_place() {
     for place in 0..16 {
-        let demands: Vec<i32> = (0..16).map(|riser| i32::from(riser == place)).collect();
+        let demands: Vec<i64> = (0..16).map(|riser| i64::from(riser == place)).collect();
         gives("riser.fir", &[&format!("{demands:?}")], place);
     }
     gives("riser.fir", &["[-5,-3,-4]"], 1);
@@ -201,7 +212,7 @@ fn the_commands_of_the_readme_print_what_it_shows() {
     let commands = shown(include_str!("../../README.md"), "    ");
     let (with_output, without): (Vec<_>, Vec<_>) =
         commands.iter().partition(|shown| !shown.output.is_empty());
-    assert_eq!((with_output.len(), without.len()), (5, 2));
+    assert_eq!((with_output.len(), without.len()), (6, 2));
     for command in with_output {
         assert_printed(command, "README");
     }

@@ -62,7 +62,11 @@ fn question_3_names_the_kind_or_the_length() {
     );
     refused(
         &identity_with(13, &[16]),
-        "refused by 3 at 11: LIT has 9 bytes, this one 7",
+        "refused by 3 at 11: 16 was the kind of LIT with 32 bits; now LIT is kind 36, of 64",
+    );
+    refused(
+        &identity_with(13, &[36]),
+        "refused by 3 at 11: LIT has 13 bytes, this one 7",
     );
     refused(
         &identity_with(13, &[24]),
@@ -219,7 +223,7 @@ fn question_4_names_what_is_due() {
     );
     says(
         "version 0.0(r0: int) -> int\nblock 0 quiet -> r0 count=3\nr0 = lit 1",
-        "refused by 4 at 27: the image ends where 2 more instructions of block 0 of 0.0 are due",
+        "refused by 4 at 31: the image ends where 2 more instructions of block 0 of 0.0 are due",
     );
     says(
         "version 0.0(r0: int) -> int blocks=1\nr0 = lit 1",

@@ -20,19 +20,19 @@ fn question_9_names_the_instruction_that_is_reflective() {
             &format!("refused by 9 at 13: BLOCK 0 is quiet, but {words}"),
         );
     };
-    quiet("r2 = peek r1.x0", "PEEK at 29 is reflective");
-    quiet("poke r1.x0 = r2", "POKE at 29 is reflective");
+    quiet("r2 = peek r1.x0", "PEEK at 33 is reflective");
+    quiet("poke r1.x0 = r2", "POKE at 33 is reflective");
     quiet(
         "r0 = force r1",
-        "FORCE at 29 is reflective: r1 is a reflective promise",
+        "FORCE at 33 is reflective: r1 is a reflective promise",
     );
     quiet(
         "r0 = call 1.0(r0)",
-        "CALL of 1.0 at 29 is reflective: its block 0 is reflective",
+        "CALL of 1.0 at 33 is reflective: its block 0 is reflective",
     );
     quiet(
         "r0 = dispatch 1(r0: int) -> int reflective",
-        "DISPATCH of function 1 at 29 is reflective: its mark says so",
+        "DISPATCH of function 1 at 33 is reflective: its mark says so",
     );
 }
 

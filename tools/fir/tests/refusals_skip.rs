@@ -27,7 +27,7 @@ fn question_14_names_the_block_whose_end_is_passed() {
     );
     says(
         "r2 = lit 1\nskip 255 unless r0\nr2 = lit 2",
-        "14 at 30: SKIP of 255 instructions goes past the end of BLOCK 0, where 1 is left",
+        "14 at 34: SKIP of 255 instructions goes past the end of BLOCK 0, where 1 is left",
     );
     says(
         "skip 3 unless r0\nr2 = lit 1\nr2 = lit 2",
@@ -65,8 +65,8 @@ fn question_14_names_the_nearest_of_the_parts_around() {
     // The part of the SKIP at 27 has ended.
     says(
         "skip 4 unless r0\nskip 1 unless r0\nr2 = lit 1\nskip 2 unless r0\nr2 = lit 2\nr2 = lit 3",
-        "14 at 42: SKIP of 2 instructions goes past the end of the part of SKIP at 21, \
-         where 1 is left: it ends with the record at 48",
+        "14 at 46: SKIP of 2 instructions goes past the end of the part of SKIP at 21, \
+         where 1 is left: it ends with the record at 52",
     );
 }
 
@@ -100,19 +100,19 @@ fn questions_3_7_and_8_at_a_skip() {
 fn question_10_names_the_skip_that_a_register_is_assigned_behind() {
     says(
         "skip 1 unless r0\nr2 = lit 1\nr0 = add r2, r2",
-        "10 at 0: in VERSION 0.0, r2 is read by ARITH add at 36, \
+        "10 at 0: in VERSION 0.0, r2 is read by ARITH add at 40, \
          and assigned by LIT at 27 only where SKIP at 21 does not skip",
     );
     // The read stands in an outer part, the assignment in one within it.
     says(
         "skip 3 unless r0\nskip 1 unless r0\nr2 = lit 1\nr0 = add r2, r2",
-        "10 at 0: in VERSION 0.0, r2 is read by ARITH add at 42, \
+        "10 at 0: in VERSION 0.0, r2 is read by ARITH add at 46, \
          and assigned by LIT at 33 only where SKIP at 27 does not skip",
     );
     // Both SKIPs stand before the assignment.
     says(
         "skip 2 unless r0\nskip 1 unless r0\nr2 = lit 1\nr0 = add r2, r2",
-        "10 at 0: in VERSION 0.0, r2 is read by ARITH add at 42, \
+        "10 at 0: in VERSION 0.0, r2 is read by ARITH add at 46, \
          and assigned by LIT at 33 only where SKIP at 27 does not skip",
     );
 }

@@ -33,8 +33,8 @@ fn files(seed: u64) -> Vec<String> {
 /// A word of a command line; most make sense at some place.
 fn word(random: &mut Random, files: &[String]) -> OsString {
     let entry = format!("{}.{}", random.below(4), random.below(3));
-    let number = random.number() as i32 >> random.below(32);
-    let vector: Vec<i32> = (0..random.below(19)).map(|n| n as i32 - 3).collect();
+    let number = random.number() as i64 >> random.below(64);
+    let vector: Vec<i64> = (0..random.below(19)).map(|n| n as i64 - 3).collect();
     let odd = [
         "",
         "--",

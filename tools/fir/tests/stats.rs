@@ -60,7 +60,7 @@ fn the_sums_follow_the_result() {
 
 #[test]
 fn a_budget_counts_the_steps_that_were_taken() {
-    let stands = "  at 116 in 2.0, block 0: r1 = dispatch 1(r0: int) -> int quiet\n";
+    let stands = "  at 120 in 2.0, block 0: r1 = dispatch 1(r0: int) -> int quiet\n";
     did(
         &run(&["--stats", "--budget", "1"]),
         1,

@@ -242,24 +242,24 @@ fn undefined(instructions: &str, cause: &str) {
 
 #[test]
 fn each_cause_of_undef_is_named() {
-    let greatest = "r2 = lit 2147483647\n";
-    let least = "r2 = lit -2147483648\n";
+    let greatest = "r2 = lit 9223372036854775807\n";
+    let least = "r2 = lit -9223372036854775808\n";
     undefined("r2 = lit 0\nr0 = div r0, r2", "3 is divided by 0");
     undefined(
         &format!("{greatest}r0 = add r2, r0"),
-        "2147483647 + 3 is out of range",
+        "9223372036854775807 + 3 is out of range",
     );
     undefined(
         &format!("{least}r0 = sub r2, r0"),
-        "-2147483648 - 3 is out of range",
+        "-9223372036854775808 - 3 is out of range",
     );
     undefined(
         &format!("{greatest}r0 = mul r2, r0"),
-        "2147483647 * 3 is out of range",
+        "9223372036854775807 * 3 is out of range",
     );
     undefined(
         &format!("{least}r0 = lit -1\nr0 = div r2, r0"),
-        "-2147483648 / -1 is out of range",
+        "-9223372036854775808 / -1 is out of range",
     );
     undefined("r0 = get r1[r0]", "index 3 is outside of v0 [1]");
     undefined(

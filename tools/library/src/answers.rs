@@ -33,7 +33,7 @@ pub enum Verdict {
 #[derive(Clone, Copy, PartialEq, Eq, Debug)]
 pub enum End {
     /// DONE with an integer.
-    Integer(i32),
+    Integer(i64),
     /// DONE with a vector of so many items.
     Vector(usize),
     /// UNDEF.
@@ -86,7 +86,7 @@ pub enum Held {
     /// Nothing.
     Nothing,
     /// An integer.
-    Integer(i32),
+    Integer(i64),
     /// The vector at a place.
     Vector(usize),
     /// The promise at a place.
@@ -189,7 +189,7 @@ impl From<FirSearched> for Option<Search> {
 }
 
 /// The end of a code, its length and its value.
-fn end(code: u8, length: u8, value: i32) -> End {
+fn end(code: u8, length: u8, value: i64) -> End {
     let length = usize::from(length);
     match code {
         FIR_INTEGER => End::Integer(value),

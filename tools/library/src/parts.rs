@@ -36,7 +36,7 @@ pub struct Promise {
     /// The block's number in the version of that call.
     pub block: usize,
     /// The integer that a force of it gave.
-    pub cache: Option<i32>,
+    pub cache: Option<i64>,
 }
 
 impl State {
@@ -75,7 +75,7 @@ impl State {
 
     /// The items of the vector at a place; they mean something where a register,
     /// a name or the result refers to it.
-    pub fn vector(&self, place: usize) -> Option<&[i32]> {
+    pub fn vector(&self, place: usize) -> Option<&[i64]> {
         let length = usize::from(*self.lengths.get(place)?);
         self.items.chunks_exact(FIR_ITEMS).nth(place)?.get(..length)
     }

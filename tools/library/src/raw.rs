@@ -25,7 +25,7 @@ pub struct FirEntry {
 #[repr(C)]
 pub struct FirSaid {
     /// The integer that the run is DONE with.
-    pub value: i32,
+    pub value: i64,
     /// `FIR_STEPS`, an end, or `FIR_STUCK`.
     pub code: u8,
     /// Of the vector that the run is DONE with.
@@ -38,7 +38,7 @@ pub struct FirAnswer {
     /// The steps taken.
     pub steps: u32,
     /// The integer that the run is DONE with.
-    pub value: i32,
+    pub value: i64,
     /// The offset of a refusal.
     pub offset: u16,
     /// `FIR_STEPS`, an end, `FIR_STUCK` or `FIR_REFUSED`.
@@ -53,7 +53,7 @@ pub struct FirAnswer {
 #[repr(C)]
 pub struct FirValue {
     /// The integer.
-    pub number: i32,
+    pub number: i64,
     /// `FIR_NOTHING`, `FIR_IS_...` or `FIR_OUTSIDE`.
     pub kind: u8,
     /// The place of the vector or promise.
@@ -86,9 +86,9 @@ extern "C" {
         image_length: usize,
         function: usize,
         version: usize,
-        words: *const i32,
+        words: *const i64,
         words_length: usize,
-        buffer: *const i32,
+        buffer: *const i64,
         buffer_length: usize,
         state: *mut State,
     ) -> FirEntry;
@@ -98,7 +98,7 @@ extern "C" {
         image_length: usize,
         state: *mut State,
         budget: u32,
-        buffer: *mut i32,
+        buffer: *mut i64,
         buffer_length: usize,
     ) -> FirAnswer;
     pub fn fir_run(
@@ -106,10 +106,10 @@ extern "C" {
         image_length: usize,
         function: usize,
         version: usize,
-        words: *const i32,
+        words: *const i64,
         words_length: usize,
         budget: u32,
-        buffer: *mut i32,
+        buffer: *mut i64,
         buffer_length: usize,
         state: *mut State,
     ) -> FirAnswer;

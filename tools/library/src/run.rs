@@ -29,8 +29,8 @@ impl<'i> Run<'i> {
     pub fn begin(
         image: impl Into<Cow<'i, [u8]>>,
         entry: Entry,
-        words: &[i32],
-        buffer: &[i32],
+        words: &[i64],
+        buffer: &[i64],
     ) -> Result<Run<'i>, Refusal> {
         let mut run = Run {
             image: Cow::Borrowed(&[]),
@@ -55,8 +55,8 @@ impl<'i> Run<'i> {
         &mut self,
         image: impl Into<Cow<'i, [u8]>>,
         entry: Entry,
-        words: &[i32],
-        buffer: &[i32],
+        words: &[i64],
+        buffer: &[i64],
     ) -> Result<(), Refusal> {
         assert_layout();
         let image = image.into();
@@ -87,9 +87,9 @@ impl<'i> Run<'i> {
         &mut self,
         image: impl Into<Cow<'i, [u8]>>,
         entry: Entry,
-        words: &[i32],
+        words: &[i64],
         budget: u32,
-        buffer: &mut [i32],
+        buffer: &mut [i64],
     ) -> Ran {
         assert_layout();
         let image = image.into();
@@ -126,7 +126,7 @@ impl<'i> Run<'i> {
 
     /// Takes at most so many steps. A vector that the run is DONE with is
     /// written to the buffer from place 0 on; all else in the buffer stays.
-    pub fn budget(&mut self, budget: u32, buffer: &mut [i32]) -> Ran {
+    pub fn budget(&mut self, budget: u32, buffer: &mut [i64]) -> Ran {
         assert_layout();
         let (image, state) = (&self.image[..], &mut self.state);
         // SAFETY: as in `rerun`.

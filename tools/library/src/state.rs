@@ -23,13 +23,13 @@ pub const PROMISE: usize = 3;
 #[derive(Clone, PartialEq, Eq)]
 pub struct State {
     /// The integers of the cells.
-    pub numbers: [i32; FIR_ACTIVATIONS * CELLS],
+    pub numbers: [i64; FIR_ACTIVATIONS * CELLS],
     /// 16 items of each vector.
-    pub items: [i32; FIR_PLACES * FIR_ITEMS],
+    pub items: [i64; FIR_PLACES * FIR_ITEMS],
     /// The integer of each promise that was forced.
-    pub caches: [i32; FIR_PLACES],
+    pub caches: [i64; FIR_PLACES],
     /// The items of a vector that the run is DONE with.
-    pub result: [i32; FIR_ITEMS],
+    pub result: [i64; FIR_ITEMS],
     /// The codes of the cells.
     pub codes: [u16; FIR_ACTIVATIONS * CELLS],
     /// Of each call: its function and its version.
@@ -49,7 +49,7 @@ pub struct State {
     /// Of the vector that the run is DONE with.
     pub length: u8,
     /// The integer that the run is DONE with.
-    pub value: i32,
+    pub value: i64,
 }
 
 impl State {

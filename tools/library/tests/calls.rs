@@ -144,7 +144,7 @@ fn a_state_of_no_run_is_stuck() {
 }
 
 /// 0.0, at 0 to 36, calls 1.0 twice, which adds a number to its argument.
-fn adding(number: i32) -> Vec<u8> {
+fn adding(number: i64) -> Vec<u8> {
     let text = format!(
         "version 0.0(r0: int) -> int
            block 0 quiet -> r0

@@ -103,7 +103,10 @@ impl<'a> Cursor<'a> {
         let digits = digits.chars().take_while(char::is_ascii_alphanumeric);
         let length = digits.count() + usize::from(self.rest.starts_with('-'));
         let literal = Integer::from_str(&self.rest[..length]);
-        let literal = literal.map_err(|_| self.expected("an integer in range"))?;
+        let literal = literal.map_err(|_| {
+            let (least, greatest) = (Integer::MIN, Integer::MAX);
+            self.expected(&format!("an integer of {least} to {greatest}"))
+        })?;
         self.skip(length);
         Ok(literal)
     }

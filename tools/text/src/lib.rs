@@ -30,7 +30,6 @@
 //! The twenty instructions, by kind number:
 //!
 //! ```text
-//! r0 = lit -7                                   # 16 LIT
 //! r1 = move r0                                  # 17 MOVE
 //! r1 = use r0                                   # 18 USE
 //! r1 = dup r0                                   # 19 DUP
@@ -50,6 +49,7 @@
 //! r0 = call 3.1(r1, r2)                         # 33 CALL, of version 3.1
 //! r0 = dispatch 3(r1: int, r2: own vector) -> value quiet  # 34 DISPATCH
 //! skip 3 unless r0                              # 35 SKIP, of the next 3
+//! r0 = lit -7                                   # 36 LIT
 //! ```
 //!
 //! # Grammar

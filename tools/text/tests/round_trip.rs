@@ -25,7 +25,6 @@ fn wrong(text: &str, error: &str) {
 
 #[test]
 fn one_example_of_each_instruction() {
-    line("r0 = lit -7", &[9, 0, 16, 0, 0, 0xF9, 0xFF, 0xFF, 0xFF]);
     line("r1 = move r0", &[6, 0, 17, 0, 1, 0]);
     line("r1 = use r0", &[6, 0, 18, 0, 1, 0]);
     line("r1 = dup r0", &[6, 0, 19, 0, 1, 0]);
@@ -49,6 +48,12 @@ fn one_example_of_each_instruction() {
     );
     line("skip 3 unless r1", &[6, 0, 35, 0, 1, 3]);
     line("skip 255 unless r0", &[6, 0, 35, 0, 0, 255]);
+    line(
+        "r0 = lit -7",
+        &[
+            13, 0, 36, 0, 0, 0xF9, 0xFF, 0xFF, 0xFF, 0xFF, 0xFF, 0xFF, 0xFF,
+        ],
+    );
 }
 
 #[test]
@@ -89,10 +94,15 @@ fn each_type_has_words_or_a_byte() {
 #[test]
 fn literals_reach_both_ends_of_the_range() {
     line(
-        "r0 = lit 2147483647",
-        &[9, 0, 16, 0, 0, 0xFF, 0xFF, 0xFF, 0x7F],
+        "r0 = lit 9223372036854775807",
+        &[
+            13, 0, 36, 0, 0, 0xFF, 0xFF, 0xFF, 0xFF, 0xFF, 0xFF, 0xFF, 0x7F,
+        ],
     );
-    line("r0 = lit -2147483648", &[9, 0, 16, 0, 0, 0, 0, 0, 0x80]);
+    line(
+        "r0 = lit -9223372036854775808",
+        &[13, 0, 36, 0, 0, 0, 0, 0, 0, 0, 0, 0, 0x80],
+    );
 }
 
 const NICE: &str = "\
@@ -151,7 +161,7 @@ fn documented_instructions_are_the_twenty_by_kind_number() {
     let image = assemble(&documented()[1]).expect("instructions");
     let records = reference::questions::records(&image).expect("records");
     let kinds: Vec<u16> = records.iter().map(|placed| placed.item.kind()).collect();
-    assert_eq!(kinds, (16..36).collect::<Vec<u16>>());
+    assert_eq!(kinds, (17..=36).collect::<Vec<u16>>());
 }
 
 #[test]
@@ -266,10 +276,13 @@ fn wrong_lines_are_named_with_their_reason() {
         "r0 = move r256",
         "line 1: expected a register such as r0, found `r256`",
     );
-    wrong(
-        "r0 = lit 2147483648",
-        "line 1: expected an integer in range, found `2147483648`",
-    );
+    for beyond in ["9223372036854775808", "-9223372036854775809", "x"] {
+        let integers = "an integer of -9223372036854775808 to 9223372036854775807";
+        wrong(
+            &format!("r0 = lit {beyond}"),
+            &format!("line 1: expected {integers}, found `{beyond}`"),
+        );
+    }
     wrong(
         "r0 = move r1 r2",
         "line 1: expected the end of the line, found `r2`",
@@ -321,7 +334,7 @@ fn wrong_structure_is_named_with_its_reason() {
 fn each_record_has_the_line_it_came_from() {
     let text = "# first\n\nversion 0.0(r0: int) -> int\n  registers r1: int\n\n  block 0 quiet -> r0\n    r1 = lit 3 # last\nbytes 01 02\n";
     let lined = text::assemble_lined(text).expect("a text that is well formed");
-    assert_eq!(lined.lines, [(0, 3), (12, 6), (19, 7), (28, 8)]);
-    assert_eq!(lined.image.len(), 30);
+    assert_eq!(lined.lines, [(0, 3), (12, 6), (19, 7), (32, 8)]);
+    assert_eq!(lined.image.len(), 34);
     assert_eq!(text::assemble(text), Ok(lined.image));
 }

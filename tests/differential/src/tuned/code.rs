@@ -10,7 +10,7 @@ use reference::{kinds, Instruction, Kind, Register, Type};
 pub enum Op {
     Lit {
         d: u8,
-        value: i32,
+        value: i64,
     },
     /// MOVE, or a CAST that no value fails.
     Copy {

@@ -9,49 +9,55 @@ pub const FRAME: usize = 32;
 /// All cells.
 const CELLS: usize = ACTIVATIONS * FRAME;
 
-/// A register or a name: its kind in the high half, the integer or the place
-/// in the low half; 0 where it is empty.
+/// A register or a name.
 #[derive(Clone, Copy, PartialEq)]
-pub struct Cell(u64);
+pub struct Cell {
+    /// The integer or the place that it holds.
+    number: i64,
+    /// The number of its kind; 0 where it is empty.
+    kind: u8,
+}
 
 impl Cell {
     /// An empty register or an unset name.
-    pub const EMPTY: Cell = Cell(0);
+    pub const EMPTY: Cell = Cell { number: 0, kind: 0 };
 
     /// An integer.
     #[inline(always)]
-    pub fn integer(integer: i32) -> Cell {
-        Cell(u64::from(Kind::INTEGER.0) << 32 | u64::from(integer as u32))
+    pub fn integer(number: i64) -> Cell {
+        let kind = Kind::INTEGER.0;
+        Cell { number, kind }
     }
 
     /// A vector or a promise of a kind at a place.
     #[inline(always)]
     pub fn at(kind: u8, place: usize) -> Cell {
-        Cell(u64::from(kind) << 32 | place as u64)
+        let number = place as i64;
+        Cell { number, kind }
     }
 
     /// Is it empty?
     #[inline(always)]
     pub fn is_empty(self) -> bool {
-        self.0 == 0
+        self.kind == 0
     }
 
     /// The number of its kind; 0 where it is empty.
     #[inline(always)]
     pub fn kind(self) -> u8 {
-        (self.0 >> 32) as u8
+        self.kind
     }
 
     /// The integer that it holds.
     #[inline(always)]
-    pub fn number(self) -> i32 {
-        self.0 as i32
+    pub fn number(self) -> i64 {
+        self.number
     }
 
     /// The place of the vector or promise that it holds, below 64.
     #[inline(always)]
     pub fn place(self) -> usize {
-        (self.0 & 63) as usize
+        (self.number & 63) as usize
     }
 }
 
@@ -76,7 +82,7 @@ impl Frames {
 
     /// The integer in a register.
     #[inline(always)]
-    pub fn integer(&self, frame: usize, register: u8) -> i32 {
+    pub fn integer(&self, frame: usize, register: u8) -> i64 {
         self.get(frame, register).number()
     }
 
@@ -88,7 +94,7 @@ impl Frames {
 
     /// Puts an integer into a register.
     #[inline(always)]
-    pub fn put_integer(&mut self, frame: usize, register: u8, integer: i32) {
+    pub fn put_integer(&mut self, frame: usize, register: u8, integer: i64) {
         self.put(frame, register, Cell::integer(integer));
     }
 

@@ -33,7 +33,7 @@ pub struct Vector {
     /// How many items it has.
     pub length: usize,
     /// The items, and others after them.
-    pub items: [i32; ITEMS],
+    pub items: [i64; ITEMS],
 }
 
 impl Vector {
@@ -45,14 +45,14 @@ impl Vector {
 
     /// The items.
     #[inline(always)]
-    pub fn items(&self) -> &[i32] {
+    pub fn items(&self) -> &[i64] {
         &self.items[..self.length.min(ITEMS)]
     }
 
     /// The position of an index; none if it is outside.
     #[inline(always)]
-    pub fn position(&self, index: i32) -> Option<usize> {
-        let position = index as u32 as usize;
+    pub fn position(&self, index: i64) -> Option<usize> {
+        let position = index as u64 as usize;
         (position < self.length).then_some(position % ITEMS)
     }
 }
@@ -67,7 +67,7 @@ pub struct Promise {
     /// Is it forced, being forced, or neither?
     pub state: Forcing,
     /// The integer of a forced one.
-    pub cache: i32,
+    pub cache: i64,
 }
 
 /// How far the force of a promise is.

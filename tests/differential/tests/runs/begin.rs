@@ -96,8 +96,16 @@ fn other_words(random: &mut Random, mut words: Vec<Integer>) -> Vec<Integer> {
         1 => drop(words.pop()),
         2 => words = vec![-1; random.below(40)],
         _ => {
-            let head = random.pick(&[-2, ITEMS as Integer + 1, Integer::MIN, Integer::MAX]);
-            words.insert(0, head);
+            let low_bits_fit =
+                random.pick(&[(1 << 32) - 1, 1 << 32, (1 << 32) + 1, -(1 << 32) - 1]);
+            let heads = [
+                -2,
+                ITEMS as Integer + 1,
+                Integer::MIN,
+                Integer::MAX,
+                low_bits_fit,
+            ];
+            words.insert(0, random.pick(&heads));
         }
     }
     words

@@ -12,10 +12,10 @@ use begin::{begin, begin_wrongly};
 use changes::assert_changes;
 use generator::{accepted, damaged, entry, words, Random, Tally};
 use pair::Pair;
-use reference::bounds::BUFFER;
+use reference::bounds::{BUFFER, ITEMS};
 use reference::questions::QUESTIONS;
 use reference::watched::{Watched, ENDINGS};
-use reference::Program;
+use reference::{Integer, Program};
 use searches::assert_searches;
 use std::thread;
 
@@ -29,6 +29,9 @@ const FEWEST_STEPS: usize = 3_000_000;
 /// one skips, and the fewest in which one does not.
 const FEWEST_SKIPS: usize = 20_000;
 const FEWEST_EACH_WAY: usize = 15_000;
+
+/// The fewest head words that are refused, and would not be by their low 32 bits.
+const FEWEST_HEADS: usize = 500;
 
 /// How many damaged images no run may begin of.
 const DAMAGED: u64 = 6_000;
@@ -52,6 +55,9 @@ fn run(seed: u64, met: &mut Tally<String>) -> usize {
         Ok(begun) => begun,
         Err(refusal) => {
             met.meet(format!("begin refused by {}", refusal.number));
+            if words.first().is_some_and(|&head| is_head_in_32_bits(head)) {
+                met.meet("a head word by its low 32 bits alone".to_string());
+            }
             return 0;
         }
     };
@@ -66,6 +72,12 @@ fn run(seed: u64, met: &mut Tally<String>) -> usize {
     meet_skips(pair.reference(), met);
     pair.changes().meet(met);
     pair.reference().tried()
+}
+
+/// Is a word that is no head word one by its low 32 bits?
+fn is_head_in_32_bits(word: Integer) -> bool {
+    let low = Integer::from(word as i32);
+    low != word && (-1..=ITEMS as Integer).contains(&low)
 }
 
 /// Meets what a run did with SKIPs.
@@ -137,6 +149,8 @@ fn runs_agree_under_every_list_of_events() {
     for way in ["a SKIP skips", "a SKIP does not skip"] {
         assert!(met.count(way) >= FEWEST_EACH_WAY, "too seldom: {way}");
     }
+    let heads = met.count("a head word by its low 32 bits alone");
+    assert!(heads >= FEWEST_HEADS, "{heads} head words beyond 32 bits");
     assert_met(&met, ENDINGS.map(String::from));
     assert_met(&met, [11, 12, 13].map(|n| format!("begin refused by {n}")));
     let ends = ["Integer", "Vector", "Undef", "Deep", "Vectors", "Promises"];

@@ -27,7 +27,9 @@ pub struct Lent {
 impl Lent {
     /// A buffer of so many places.
     pub fn new(places: usize, event: usize) -> Lent {
-        let number = |place: usize| 0x5A00_0000 ^ (place * 0x0001_0101 + event) as Integer;
+        let number = |place: usize| {
+            0x5A00_0000_5A00_0000 ^ (place * 0x0001_0101_0001_0101 + event) as Integer
+        };
         Lent {
             places,
             memory: (0..places + 2 * MARGIN).map(number).collect(),

@@ -4,7 +4,7 @@ use super::edit::record;
 use super::Breaker;
 use crate::draft::Draft;
 use crate::random::Random;
-use reference::record::HEAD;
+use reference::record::{record_bytes, HEAD};
 use reference::{kinds, Instruction, Record};
 
 /// Ways to fail question 2.
@@ -18,8 +18,10 @@ pub const HEADS: [Breaker; 6] = [
 ];
 
 /// Ways to fail question 3.
-pub const KINDS: [Breaker; 6] = [
+pub const KINDS: [Breaker; 8] = [
     unknown_kind,
+    literal_before,
+    literal_of_another_length,
     high_byte_of_the_kind,
     longer_body,
     shorter_body,
@@ -79,9 +81,44 @@ fn head_without_its_body(random: &mut Random, draft: &Draft) -> Option<Vec<u8>> 
 fn unknown_kind(random: &mut Random, draft: &Draft) -> Option<Vec<u8>> {
     let mut records = split(draft);
     let index = random.below(records.len());
-    let any = 36 + random.below(220) as u8;
-    records[index][2] = random.pick(&[0, 3, 4, 15, 36, 37, 255, any]);
+    let any = 37 + random.below(219) as u8;
+    records[index][2] = random.pick(&[0, 3, 4, 15, 16, 37, 255, any]);
     Some(records.concat())
+}
+
+/// A literal of kind 16, with a number of 32 bits or of 64.
+fn literal_before(random: &mut Random, draft: &Draft) -> Option<Vec<u8>> {
+    other_literal(random, draft, |random, body| {
+        if random.percent(70) {
+            body.truncate(1 + size_of::<i32>());
+        }
+        kinds::NARROW_LIT
+    })
+}
+
+/// A literal of kind 36 whose number has 4 bytes, 7, 9, or any.
+fn literal_of_another_length(random: &mut Random, draft: &Draft) -> Option<Vec<u8>> {
+    other_literal(random, draft, |random, body| {
+        let any = random.below(16);
+        let bytes = random.pick(&[4, 4, 7, 9, any]);
+        body.resize(1 + bytes, 0);
+        kinds::LIT
+    })
+}
+
+/// The image with one of its literals by another kind and body.
+fn other_literal(
+    random: &mut Random,
+    draft: &Draft,
+    other: impl FnOnce(&mut Random, &mut Vec<u8>) -> u16,
+) -> Option<Vec<u8>> {
+    let records = draft.records();
+    let index = record(random, &records, |r| r.kind() == kinds::LIT)?;
+    let mut bytes = split(draft);
+    let mut body = bytes[index][HEAD..].to_vec();
+    let kind = other(random, &mut body);
+    bytes[index] = record_bytes(kind, &body);
+    Some(bytes.concat())
 }
 
 fn high_byte_of_the_kind(random: &mut Random, draft: &Draft) -> Option<Vec<u8>> {

@@ -5,7 +5,7 @@ use crate::draft::{DraftBlock, DraftVersion};
 use crate::fact::Fact;
 use crate::random::Random;
 use crate::world::Callable;
-use reference::{Instruction, Integer, Kind, Register, Type};
+use reference::{Instruction, Kind, Register, Type};
 
 impl Body<'_> {
     /// Sees to it that the body can always make an integer, and its result.
@@ -62,9 +62,7 @@ impl Body<'_> {
         let d = self.types.iter().position(|&ty| ty == Type::INTEGER);
         let d = d.expect("an integer register was provided") as Register;
         let value = self.random.between(-9, 9);
-        let fact = Fact::exactly(value);
-        let value = value as Integer;
-        self.emit(Instruction::Lit { d, value }, fact);
+        self.emit(Instruction::Lit { d, value }, Fact::exactly(value));
         d
     }
 

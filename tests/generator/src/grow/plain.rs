@@ -2,27 +2,21 @@
 
 use super::registers::Gives;
 use super::Body;
+use crate::ends::{self, Operation};
 use crate::fact::Fact;
-use reference::{kinds, Instruction, Integer, Kind, Register, Type};
-
-/// The least and the greatest integer.
-pub(super) const RANGE: (i64, i64) = (Integer::MIN as i64, Integer::MAX as i64);
+use reference::{kinds, Instruction, Integer, Kind, Range, Register, Type};
 
 impl Body<'_> {
-    /// A literal: mostly small, sometimes at an end of the range.
+    /// A literal: mostly small, sometimes at an end of either range.
     pub(super) fn lit(&mut self) -> Option<()> {
         let d = self.target(Gives::Plain(Kind::INTEGER))?;
         let value = match self.random.below(20) {
-            0 => self
-                .random
-                .pick(&[RANGE.0, RANGE.0 + 1, RANGE.1 - 1, RANGE.1]),
+            0 => ends::integer(self.random),
             1..=3 => self.random.between(-100_000, 100_000),
             4..=8 => self.random.between(-100, 100),
             _ => self.random.between(-2, 9),
         };
-        let fact = Fact::exactly(value);
-        let value = value as Integer;
-        self.emit(Instruction::Lit { d, value }, fact);
+        self.emit(Instruction::Lit { d, value }, Fact::exactly(value));
         Some(())
     }
 
@@ -36,8 +30,10 @@ impl Body<'_> {
 
     /// An operation that is expected to stay in range.
     pub(super) fn arith(&mut self) -> Option<()> {
-        if self.random.one_in(6) {
-            return self.division();
+        match self.random.below(12) {
+            0 | 1 => return self.division(),
+            2 => return self.at_an_end(),
+            _ => {}
         }
         let (a, b) = (self.integer()?, self.integer()?);
         let op = self.random.pick(&[
@@ -65,26 +61,45 @@ impl Body<'_> {
         Some(())
     }
 
-    /// A division of literals of both signs, exact or not, some at an end of the range.
+    /// An operation on literals whose result is the last to fit either range, or
+    /// the first past the narrow one.
+    fn at_an_end(&mut self) -> Option<()> {
+        let (narrow, wide) = (Range::NARROW, Range::WIDE);
+        let (range, fits) = self
+            .random
+            .pick(&[(narrow, true), (narrow, false), (wide, true)]);
+        let operation = ends::operation(self.random, range, fits);
+        self.operation(operation)
+    }
+
+    /// An operation on two literals.
+    pub(super) fn operation(&mut self, Operation { op, a, b }: Operation) -> Option<()> {
+        let expected = outcome(op, Fact::exactly(a), Fact::exactly(b));
+        let (a, b) = (self.literal(a)?, self.literal(b)?);
+        let d = self.target(Gives::Plain(Kind::INTEGER))?;
+        let fact = expected.unwrap_or(Fact::MODERATE);
+        self.emit(Instruction::Arith { d, op, a, b }, fact);
+        Some(())
+    }
+
+    /// A division of literals of both signs, exact or not, some at an end of either range.
     fn division(&mut self) -> Option<()> {
         let divisor = self.random.between(1, 9);
-        let ends = [RANGE.0, RANGE.0 + 1, RANGE.1, RANGE.1 - 1];
+        let ends = [ends::integer(self.random), ends::integer(self.random)];
         let b = match self.random.below(8) {
-            0 => self.random.pick(&ends),
+            0 => ends[0],
             1 => self.random.pick(&[1, -1]),
             _ => self.random.pick(&[divisor, -divisor]),
         };
         let exact = b.signum() * self.random.between(-9, 9) * divisor;
         let any = self.random.between(-100, 100);
         let a = match self.random.below(8) {
-            0 => self.random.pick(&ends),
+            0 => ends[1],
             1..=3 => exact,
             _ => any,
         };
-        let quotient = a.div_euclid(b) - i64::from(b < 0 && a.rem_euclid(b) != 0);
-        if quotient > RANGE.1 {
-            return None;
-        }
+        let toward_zero = a.checked_div(b)?;
+        let quotient = toward_zero - Integer::from(a % b != 0 && (a < 0) != (b < 0));
         let (a, b) = (self.literal(a)?, self.literal(b)?);
         let d = self.target(Gives::Plain(Kind::INTEGER))?;
         let op = kinds::DIVIDE;
@@ -125,7 +140,8 @@ impl Body<'_> {
 
 /// What an operation is expected to give; none if it may be out of range.
 fn outcome(op: u8, a: Fact, b: Fact) -> Option<Fact> {
-    let ((al, ah), (bl, bh)) = (a.range(), b.range());
+    let exact = |(low, high)| (i128::from(low), i128::from(high));
+    let ((al, ah), (bl, bh)) = (exact(a.range()), exact(b.range()));
     let (low, high) = match op {
         kinds::ADD => (al + bl, ah + bh),
         kinds::SUBTRACT => (al - bh, ah - bl),
@@ -142,5 +158,6 @@ fn outcome(op: u8, a: Fact, b: Fact) -> Option<Fact> {
         kinds::DIVIDE => return None,
         _ => (0, 1),
     };
-    (RANGE.0 <= low && high <= RANGE.1).then_some(Fact::Integer { low, high })
+    let (low, high) = (low.try_into().ok()?, high.try_into().ok()?);
+    Some(Fact::Integer { low, high })
 }

@@ -136,9 +136,7 @@ impl Body<'_> {
         targets.retain(|&r| self.type_of(r) == Type::INTEGER);
         let new = self.new_register(Type::INTEGER);
         let d = new.or_else(|| self.random.choose(&targets))?;
-        let fact = Fact::exactly(value);
-        let value = value as reference::Integer;
-        self.emit(Instruction::Lit { d, value }, fact);
+        self.emit(Instruction::Lit { d, value }, Fact::exactly(value));
         Some(d)
     }
 

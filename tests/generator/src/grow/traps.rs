@@ -1,15 +1,15 @@
 //! Instructions that make UNDEF, one way for each cause.
 
-use super::plain::RANGE;
 use super::registers::Gives;
 use super::Body;
+use crate::ends::{self, Operation};
 use crate::fact::Fact;
-use reference::{kinds, Instruction, Kind, Mark, Name, Register, Type};
+use reference::{kinds, Instruction, Integer, Kind, Mark, Name, Range, Register, Type};
 
 /// A cause of UNDEF.
 #[derive(Clone, Copy, PartialEq, Eq, Debug)]
 pub enum Trap {
-    /// A sum, difference or product out of range.
+    /// An operation whose result just does not fit.
     Range,
     /// A division by 0.
     DivideByZero,
@@ -52,12 +52,11 @@ impl Body<'_> {
     pub(super) fn trap(&mut self, trap: Trap) -> Option<()> {
         match trap {
             Trap::Range => {
-                let (a, b) = (RANGE.1 - self.random.between(0, 9), 10);
-                let op = self.random.pick(&[kinds::ADD, kinds::MULTIPLY]);
-                self.trap_arith(op, a, b)
+                let operation = ends::operation(self.random, Range::WIDE, false);
+                self.operation(operation)
             }
-            Trap::DivideByZero => self.trap_arith(kinds::DIVIDE, 7, 0),
-            Trap::DivideLeast => self.trap_arith(kinds::DIVIDE, RANGE.0, -1),
+            Trap::DivideByZero => self.trap_division(7, 0),
+            Trap::DivideLeast => self.trap_division(Integer::MIN, -1),
             Trap::GetOutside => self.trap_item(false),
             Trap::SetOutside => self.trap_item(true),
             Trap::Cast => self.trap_cast(),
@@ -68,19 +67,18 @@ impl Body<'_> {
         }
     }
 
-    /// An operation on two literals.
-    fn trap_arith(&mut self, op: u8, a: i64, b: i64) -> Option<()> {
-        let a = self.literal(a)?;
-        let b = self.literal(b)?;
-        let d = self.target(Gives::Plain(Kind::INTEGER))?;
-        self.emit(Instruction::Arith { d, op, a, b }, Fact::MODERATE);
-        Some(())
+    /// A division of two literals.
+    fn trap_division(&mut self, a: Integer, b: Integer) -> Option<()> {
+        let op = kinds::DIVIDE;
+        self.operation(Operation { op, a, b })
     }
 
     /// A GET or SET at an index that no vector has.
     fn trap_item(&mut self, set: bool) -> Option<()> {
         let a = self.owned(&[])?;
-        let outside = self.random.pick(&[-1, 16, RANGE.0, RANGE.1]);
+        let low_bits_inside = 1 << 32;
+        let end = ends::integer(self.random);
+        let outside = self.random.pick(&[-1, 16, low_bits_inside, end]);
         let i = self.literal(outside)?;
         let instruction = if set {
             Instruction::Set { a, i, e: i }

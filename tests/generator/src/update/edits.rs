@@ -72,7 +72,7 @@ fn integer(random: &mut Random, version: &DraftVersion) -> Option<Register> {
 
 fn literal_more(random: &mut Random, version: &mut DraftVersion) -> Option<()> {
     let d = integer(random, version)?;
-    let value = random.between(-3, 12) as Integer;
+    let value = random.between(-3, 12);
     let index = random.below(version.blocks.len());
     let block = &mut version.blocks[index];
     let at = random.below(block.instructions.len() + 1);

@@ -2,7 +2,7 @@
 
 use generator::{accepted, accepted_of, Special, Tally, Theme, Trap};
 use reference::bounds::{MAX_IMAGE, VERSIONS};
-use reference::{verdict, Kind, Mark, Program, Type, Verdict};
+use reference::{kinds, verdict, Kind, Mark, Program, Type, Verdict};
 
 /// Asserts that an image is accepted; its versions.
 #[track_caller]
@@ -89,7 +89,7 @@ fn all_instructions_types_and_marks_are_used() {
         }
     }
     println!("in promise blocks, kind\n{instructions}{types}");
-    for kind in 16..36 {
+    for kind in kinds::MOVE..=kinds::LIT {
         let only_in_bodies = [18, 23].contains(&kind);
         assert!(instructions.count(&(false, kind)) > 100);
         assert!(only_in_bodies == (instructions.count(&(true, kind)) == 0));

@@ -22,7 +22,7 @@ fn small(random: &mut Random) -> u8 {
 fn value(random: &mut Random) -> Option<Value> {
     match random.below(4) {
         0 => None,
-        1 => Some(Value::Integer(random.number() as i32)),
+        1 => Some(Value::Integer(random.number() as i64)),
         2 => Some(Value::Vector(place(random))),
         _ => Some(Value::Promise(place(random))),
     }

@@ -2,7 +2,8 @@
 
 use generator::{any, damaged_at, image, Aim, Tally};
 use reference::questions::QUESTIONS;
-use reference::{questions_1_to_7, verdict, Instruction, Record, Refusal, Verdict};
+use reference::record::Framed;
+use reference::{kinds, questions_1_to_7, verdict, Instruction, Record, Refusal, Verdict};
 
 /// The number of the question that refuses an image, 0 if it is accepted.
 fn number(image: &[u8]) -> u8 {
@@ -129,6 +130,38 @@ fn damaged_images_stand_at_each_boundary() {
     ] {
         assert!(met.count(&boundary) >= 5, "{boundary}");
     }
+}
+
+/// What is wrong with the literal that question 3 refuses, if it is one.
+fn wrong_literal(image: &[u8]) -> Option<String> {
+    let Verdict::Refused(Refusal { number: 3, offset }) = verdict(image) else {
+        return None;
+    };
+    let record = Framed::at(image, offset)?;
+    let literal = record.kind == kinds::NARROW_LIT || record.kind == kinds::LIT;
+    let bytes = record.body.len().checked_sub(1)?;
+    literal.then(|| format!("kind {} with {bytes} bytes", record.kind))
+}
+
+#[test]
+fn literals_of_the_form_before_and_of_wrong_lengths_are_met() {
+    let mut met = Tally::default();
+    for seed in 0..4000 {
+        let literal = wrong_literal(&damaged_at(3, seed));
+        literal.into_iter().for_each(|wrong| met.meet(wrong));
+    }
+    println!("{met}");
+    for wrong in [
+        "kind 16 with 4 bytes",
+        "kind 16 with 8 bytes",
+        "kind 36 with 0 bytes",
+        "kind 36 with 4 bytes",
+        "kind 36 with 7 bytes",
+        "kind 36 with 9 bytes",
+    ] {
+        assert!(met.count(wrong) >= 10, "{wrong}");
+    }
+    assert_eq!(met.count("kind 36 with 8 bytes"), 0);
 }
 
 #[test]

@@ -1,6 +1,7 @@
 //! Questions 1 to 3: the image's size, its records, and their kinds and lengths.
 
 use crate::bounds::MAX_IMAGE;
+use crate::form::Form;
 use crate::record::{Framed, Placed, Record};
 
 /// Question 1: has the image 1..32,768 bytes?
@@ -24,10 +25,10 @@ pub fn question2(image: &[u8]) -> Result<Vec<Framed<'_>>, usize> {
     Ok(framed)
 }
 
-/// Question 3: is each kind known, its length the one its fields make?
-pub fn question3(framed: &[Framed]) -> Result<Vec<Placed<Record>>, usize> {
+/// Question 3: is each kind known in the form, its length the one its fields make?
+pub fn question3(form: Form, framed: &[Framed]) -> Result<Vec<Placed<Record>>, usize> {
     let read = |record: &Framed| {
-        let item = Record::read(record.kind, record.body).ok_or(record.offset)?;
+        let item = Record::read_in(form, record.kind, record.body).ok_or(record.offset)?;
         let offset = record.offset;
         Ok(Placed { offset, item })
     };
@@ -36,5 +37,5 @@ pub fn question3(framed: &[Framed]) -> Result<Vec<Placed<Record>>, usize> {
 
 /// The records of an image that passes questions 2 and 3, whatever its size and order.
 pub fn records(image: &[u8]) -> Option<Vec<Placed<Record>>> {
-    question3(&question2(image).ok()?).ok()
+    question3(Form::Wide, &question2(image).ok()?).ok()
 }

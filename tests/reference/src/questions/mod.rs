@@ -12,6 +12,7 @@ pub use fit::{gives, needs, result_fits, Gives, Need};
 pub use framing::records;
 
 use crate::flow;
+use crate::form::Form;
 use crate::program::Program;
 
 /// A no: the question's number and the offset of the first record that fails.
@@ -52,15 +53,20 @@ impl Verdict {
 
 /// The first no among questions 1 to 7; none where all say yes.
 pub fn questions_1_to_7(image: &[u8]) -> Option<Refusal> {
-    exists(image).err()
+    exists(Form::Wide, image).err()
 }
 
 impl Program {
     /// The program of an image that passes questions 1 to 5, or the first no.
     pub fn ordered(image: &[u8]) -> Result<Program, Refusal> {
+        Program::ordered_in(Form::Wide, image)
+    }
+
+    /// The same in a form.
+    fn ordered_in(form: Form, image: &[u8]) -> Result<Program, Refusal> {
         put(1, framing::question1(image))?;
         let framed = put(2, framing::question2(image))?;
-        let records = put(3, framing::question3(&framed))?;
+        let records = put(3, framing::question3(form, &framed))?;
         put(4, order::question4(&records, image.len()))?;
         let program = Program::gather(&records);
         put(5, order::question5(&program))?;
@@ -69,7 +75,12 @@ impl Program {
 
     /// The program of an image that passes all the questions, or the first no.
     pub fn accept(image: &[u8]) -> Result<Program, Refusal> {
-        let program = exists(image)?;
+        Program::accept_in(Form::Wide, image)
+    }
+
+    /// The same in a form.
+    pub fn accept_in(form: Form, image: &[u8]) -> Result<Program, Refusal> {
+        let program = exists(form, image)?;
         put(14, skips::question14(&program))?;
         put(8, fit::question8(&program))?;
         put(9, effect::question9(&program))?;
@@ -79,8 +90,8 @@ impl Program {
 }
 
 /// The program of an image that passes questions 1 to 7, or the first no.
-fn exists(image: &[u8]) -> Result<Program, Refusal> {
-    let program = Program::ordered(image)?;
+fn exists(form: Form, image: &[u8]) -> Result<Program, Refusal> {
+    let program = Program::ordered_in(form, image)?;
     put(6, places::question6(&program))?;
     put(7, existence::question7(&program))?;
     Ok(program)

@@ -3,6 +3,7 @@
 use super::Said;
 use crate::begin::question13;
 use crate::bounds::{Integer, Steps};
+use crate::form::Range;
 use crate::program::Program;
 use crate::questions::Refusal;
 use crate::state::{End, State, Status};
@@ -40,6 +41,17 @@ impl State {
         budget: Steps,
         buffer: &mut [Integer],
     ) -> (State, Answer, Steps) {
+        self.budget_to(Range::WIDE, program, budget, buffer)
+    }
+
+    /// The same with integers in a range.
+    pub fn budget_to(
+        self,
+        range: Range,
+        program: &Program,
+        budget: Steps,
+        buffer: &mut [Integer],
+    ) -> (State, Answer, Steps) {
         if let Err(refusal) = question13(buffer) {
             return (self, Answer::Refused(refusal), 0);
         }
@@ -48,7 +60,7 @@ impl State {
             if taken == budget {
                 return (state, Answer::Steps, taken);
             }
-            let (next, said) = state.step(program);
+            let (next, said) = state.step_to(range, program);
             state = next;
             match said {
                 Said::GoesOn => taken += 1,

@@ -1,6 +1,8 @@
 //! The rule of each instruction, by kind number, after its operands are looked at.
 
+use super::values::arith;
 use super::{Halt, Step};
+use crate::form::Range;
 use crate::instruction::Instruction;
 use crate::program::{Program, Version};
 use crate::questions::needs;
@@ -12,6 +14,7 @@ impl State {
     /// Executes one instruction of the version that the newest activation is in.
     pub(super) fn execute(
         &mut self,
+        range: Range,
         program: &Program,
         version: &Version,
         instruction: &Instruction,
@@ -27,7 +30,9 @@ impl State {
             (&I::Len { d, .. }, &[Vector(place)]) => self.length(d, place),
             (&I::Get { d, .. }, &[Vector(place), Integer(i)]) => self.get(d, place, i),
             (&I::Set { .. }, &[Vector(place), Integer(i), Integer(e)]) => self.set(place, i, e),
-            (&I::Arith { d, op, .. }, &[Integer(a), Integer(b)]) => self.arith(d, op, a, b),
+            (&I::Arith { d, op, .. }, &[Integer(a), Integer(b)]) => {
+                self.assign(d, arith(range, op, a, b)?)
+            }
             (&I::Select { d, .. }, &[Integer(c), a, b]) => {
                 self.assign(d, if c != 0 { a } else { b })
             }

@@ -11,6 +11,7 @@ mod vectors;
 pub use budget::Answer;
 
 use crate::bounds::{Integer, INSTRUCTIONS};
+use crate::form::Range;
 use crate::instruction::Register;
 use crate::outside::points_inside;
 use crate::program::{Program, Version};
@@ -42,14 +43,19 @@ type Step = Result<(), Halt>;
 
 impl State {
     /// The state after a single step, and what the step says.
-    pub fn step(mut self, program: &Program) -> (State, Said) {
+    pub fn step(self, program: &Program) -> (State, Said) {
+        self.step_to(Range::WIDE, program)
+    }
+
+    /// The same with integers in a range.
+    pub fn step_to(mut self, range: Range, program: &Program) -> (State, Said) {
         if let Status::Ended(end) = self.status {
             return (self, Said::Ended(end));
         }
         if !points_inside(&self, program) {
             return (self, Said::Stuck);
         }
-        match self.advance(program) {
+        match self.advance(range, program) {
             Err(Halt::Stuck) => return (self, Said::Stuck),
             Err(Halt::Ends(end)) => self.status = Status::Ended(end),
             Ok(()) => {}
@@ -62,12 +68,12 @@ impl State {
     }
 
     /// Executes the next instruction, or the block end, of the newest activation.
-    fn advance(&mut self, program: &Program) -> Step {
+    fn advance(&mut self, range: Range, program: &Program) -> Step {
         let top = self.top().clone();
         let version = self.own_version(program);
         let block = &version.blocks[usize::from(top.block)];
         match block.instructions.get(top.next) {
-            Some(placed) => self.execute(program, version, &placed.item),
+            Some(placed) => self.execute(range, program, version, &placed.item),
             None => self.end_block(program, version, block),
         }
     }

@@ -2,25 +2,13 @@
 
 use super::{Halt, Step, UNDEF};
 use crate::bounds::Integer;
+use crate::form::Range;
 use crate::instruction::{Name, Register};
 use crate::kinds;
 use crate::program::{Program, Version};
 use crate::state::{State, Value};
 
 impl State {
-    /// ARITH: UNDEF if the result is out of range or a divisor is 0.
-    pub(super) fn arith(&mut self, d: Register, op: u8, a: Integer, b: Integer) -> Step {
-        let result = match op {
-            kinds::ADD => a.checked_add(b),
-            kinds::SUBTRACT => a.checked_sub(b),
-            kinds::MULTIPLY => a.checked_mul(b),
-            kinds::DIVIDE => quotient(a, b),
-            kinds::LESS => Some(Integer::from(a < b)),
-            _ => return Err(Halt::Stuck),
-        };
-        self.assign(d, Value::Integer(result.ok_or(UNDEF)?))
-    }
-
     /// CAST: UNDEF if the value is not of d's kind.
     pub(super) fn cast(
         &mut self,
@@ -51,6 +39,20 @@ impl State {
         self.pass(1);
         Ok(())
     }
+}
+
+/// ARITH: UNDEF if the result is out of range or a divisor is 0.
+pub(super) fn arith(range: Range, op: u8, a: Integer, b: Integer) -> Result<Value, Halt> {
+    let result = match op {
+        kinds::ADD => a.checked_add(b),
+        kinds::SUBTRACT => a.checked_sub(b),
+        kinds::MULTIPLY => a.checked_mul(b),
+        kinds::DIVIDE => quotient(a, b),
+        kinds::LESS => Some(Integer::from(a < b)),
+        _ => return Err(Halt::Stuck),
+    };
+    let result = result.and_then(|integer| range.ranged(integer));
+    Ok(Value::Integer(result.ok_or(UNDEF)?))
 }
 
 /// The quotient, rounded toward minus infinity; none for a divisor of 0, and for

@@ -43,15 +43,6 @@ fn kind_2_block() {
 }
 
 #[test]
-fn kind_16_lit() {
-    let bytes = [9, 0, 16, 0, 3, 0xFE, 0xFF, 0xFF, 0xFF];
-    instruction(&bytes, I::Lit { d: 3, value: -2 });
-    let bytes = [9, 0, 16, 0, 3, 0x15, 0xCD, 0x5B, 0x07];
-    let value = 123_456_789;
-    instruction(&bytes, I::Lit { d: 3, value });
-}
-
-#[test]
 fn kind_17_move() {
     instruction(&[6, 0, 17, 0, 1, 2], I::Move { d: 1, a: 2 });
 }
@@ -163,6 +154,17 @@ fn kind_34_dispatch() {
 #[test]
 fn kind_35_skip() {
     instruction(&[6, 0, 35, 0, 2, 255], I::Skip { a: 2, n: 255 });
+}
+
+#[test]
+fn kind_36_lit() {
+    let bytes = [
+        13, 0, 36, 0, 3, 0xFE, 0xFF, 0xFF, 0xFF, 0xFF, 0xFF, 0xFF, 0xFF,
+    ];
+    instruction(&bytes, I::Lit { d: 3, value: -2 });
+    let bytes = [13, 0, 36, 0, 3, 1, 2, 3, 4, 5, 6, 7, 8];
+    let value = 0x0807_0605_0403_0201;
+    instruction(&bytes, I::Lit { d: 3, value });
 }
 
 #[test]

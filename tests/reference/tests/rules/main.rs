@@ -21,6 +21,7 @@ mod question9;
 mod questions11to13;
 mod questions1to3;
 mod report;
+mod sixty_four;
 mod steps_budget;
 mod steps_calls;
 mod steps_change;

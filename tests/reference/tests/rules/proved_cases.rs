@@ -72,7 +72,7 @@ fn p8_dup_set_and_owned_return_on_an_empty_vector_is_undef() {
 
 #[test]
 fn p9_set_on_the_shared_vector_is_8_at_the_set() {
-    refuses(SET_ON_SHARED, 8, 14 + 7 + 6 + 9 + 9);
+    refuses(SET_ON_SHARED, 8, 14 + 7 + 6 + 13 + 13);
 }
 
 #[test]

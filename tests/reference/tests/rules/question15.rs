@@ -17,7 +17,7 @@ const TWICE: &str = "version 1.0(r0: int) -> int
                        block 0 quiet -> r0
                          r1 = move r0
                          r0 = add r0, r1\n";
-/// 2.0, at 70 to 106: three times its argument.
+/// 2.0, at 70 to 110: three times its argument.
 const THRICE: &str = "version 2.0(r0: int) -> int
                         registers r1: int
                         block 0 quiet -> r0
@@ -127,7 +127,7 @@ fn question15_sees_the_last_byte_of_a_version() {
     assert_eq!(differing(&other), [69]);
     assert_eq!(change(&old(), &other, &after(1)), no(36));
     let other = with("mul r0, r1", "mul r0, r0");
-    assert_eq!(differing(&other), [105]);
+    assert_eq!(differing(&other), [109]);
     assert_eq!(change(&old(), &other, &after(5)), no(70));
 }
 
@@ -204,18 +204,18 @@ fn question15_a_version_of_a_frame_below_a_force_is_live() {
     assert_eq!(run.state.activations[2].opener, Opener::Force(0));
     let change_to = |other: &str| change(&image(text), &image(other), &run.state);
     assert_eq!(change_to(text), Ok(()));
-    // 0.0 takes 12 + 7 + 6 + 9 + 7 + 9 bytes.
+    // 0.0 takes 12 + 7 + 6 + 9 + 7 + 13 bytes.
     assert_eq!(change_to(&text.replace("lit 7", "lit 8")), no(0));
     let other = text.replace("registers r1: int", "registers r1: int, r2: int");
-    assert_eq!(change_to(&other), no(50));
+    assert_eq!(change_to(&other), no(54));
 }
 
 #[test]
 fn question15_a_live_version_in_neither_image_is_at_the_new_images_length() {
     let mut state = after(0);
     state.frames.push(Frame::new(7, 3, &[Value::Integer(1)]));
-    assert_eq!(change(&old(), &old(), &state), no(106));
-    assert_eq!(change(&old(), &with("add", "sub"), &state), no(106));
+    assert_eq!(change(&old(), &old(), &state), no(110));
+    assert_eq!(change(&old(), &with("add", "sub"), &state), no(110));
 }
 
 #[test]
@@ -224,8 +224,8 @@ fn question15_a_live_version_of_the_new_image_alone_differs() {
     let more = image(&[MAIN, TWICE, THRICE, added].concat());
     let mut state = after(0);
     state.frames.push(Frame::new(3, 0, &[Value::Integer(1)]));
-    assert_eq!(change(&old(), &more, &state), no(106));
-    assert_eq!(more.len(), 106 + 18);
+    assert_eq!(change(&old(), &more, &state), no(110));
+    assert_eq!(more.len(), 110 + 18);
 }
 
 /// A quiet body with a PEEK.

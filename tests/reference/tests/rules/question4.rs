@@ -217,7 +217,7 @@ fn question4_missing_block_is_at_the_image_length() {
 #[test]
 fn question4_missing_instruction_is_at_the_image_length() {
     let text = "version 0.0(r0: int) -> int\n block 0 quiet -> r0 count=2\n r0 = lit 0";
-    refuses(text, 4, 27);
+    refuses(text, 4, 31);
 }
 
 #[test]

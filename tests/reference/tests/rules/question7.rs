@@ -145,9 +145,9 @@ fn question7_block_0_of_a_prom_is_not_above_its_own() {
 
 #[test]
 fn question7_own_block_of_a_prom_is_not_above_its_own() {
-    // Block 1 stands at 28, and its PROM of itself counts as naming it too.
+    // Block 1 stands at 32, and its PROM of itself counts as naming it too.
     let text = "r0 = lit 0\nblock 1 quiet -> r0\nr0 = prom 1";
-    refuses(&with_instruction(text), 7, 19 + 9 + 7);
+    refuses(&with_instruction(text), 7, 19 + 13 + 7);
 }
 
 #[test]
@@ -195,7 +195,7 @@ fn question7_first_failing_record_counts_whatever_part_it_fails() {
     let text = "r9 = lit 0\nblock 1 quiet -> r0";
     refuses(&with_instruction(text), 7, 19);
     let text = "r0 = lit 0\nblock 1 quiet -> r0\nr9 = lit 0";
-    refuses(&with_instruction(text), 7, 28);
+    refuses(&with_instruction(text), 7, 32);
 }
 
 #[test]

@@ -97,6 +97,33 @@ fn question12_head_words_are_minus_1_to_16() {
 }
 
 #[test]
+fn question12_head_words_are_not_their_low_32_bits() {
+    let one = "r0: value";
+    for high in [1 << 32, -1 << 32, 1 << 33, Integer::MIN] {
+        assert_eq!(refused_by(one, &[high]), Some(12));
+        assert_eq!(refused_by(one, &[high + 1, 5]), Some(12));
+        let mut sixteen = vec![high + 16];
+        sixteen.extend([5; 16]);
+        assert_eq!(refused_by(one, &sixteen), Some(12));
+    }
+    let all_ones = (1 << 32) - 1;
+    assert_eq!(refused_by(one, &[all_ones, 5]), Some(12));
+    assert_eq!(refused_by(one, &[-(1 << 32) - 1, 5]), Some(12));
+}
+
+#[test]
+fn words_and_items_are_64_bits() {
+    for integer in [1 << 40, -1 << 40, Integer::MIN, Integer::MAX] {
+        let state = begin(&IDENTITY, 0, 0, &[-1, integer], &UNTOUCHED).expect("a run begins");
+        assert_eq!(state.frames[0].registers[0], Some(Value::Integer(integer)));
+        let text = "version 0.0(r0: vector) -> vector\nblock 0 quiet -> r0";
+        let words = [2, integer, -1];
+        let state = begin(&image(text), 0, 0, &words, &UNTOUCHED).expect("a run begins");
+        assert_eq!(state.vectors[0], Some(vec![integer, -1]));
+    }
+}
+
+#[test]
 fn question12_version_without_parameters_wants_no_word() {
     assert_eq!(refused_by("", &[]), None);
     assert_eq!(refused_by("", &[-1, 7]), Some(12));

@@ -23,21 +23,21 @@ fn question1_image_of_32_769_bytes_is_at_0() {
 fn question2_head_cut_short_is_where_that_head_begins() {
     refuses_image(&[0x0B], 2, 0);
     for length in 1..4 {
-        refuses_image(&then_record(&[9, 0, 16][..length]), 2, 18);
+        refuses_image(&then_record(&[13, 0, 36][..length]), 2, 18);
     }
 }
 
 #[test]
 fn question2_length_below_4_is_at_its_record() {
     for length in 0..4 {
-        refuses_image(&then_record(&[length, 0, 16, 0, 0, 0, 0, 0, 0]), 2, 18);
+        refuses_image(&then_record(&[length, 0, 17, 0, 0, 0, 0, 0, 0]), 2, 18);
     }
 }
 
 #[test]
 fn question2_record_that_ends_past_the_image_is_at_its_record() {
-    refuses_image(&then_record(&[10, 0, 16, 0, 0, 0, 0, 0, 0]), 2, 18);
-    refuses_image(&then_record(&[9, 1, 16, 0, 0, 0, 0, 0, 0]), 2, 18);
+    refuses_image(&then_record(&[10, 0, 36, 0, 0, 0, 0, 0, 0]), 2, 18);
+    refuses_image(&then_record(&[9, 1, 36, 0, 0, 0, 0, 0, 0]), 2, 18);
 }
 
 #[test]
@@ -49,9 +49,18 @@ fn question2_is_put_to_the_whole_image_before_question_3() {
 
 #[test]
 fn question3_unknown_kinds() {
-    for kind in (0..=0xFFFF).filter(|kind| ![1, 2].contains(kind) && !(16..36).contains(kind)) {
+    for kind in (0..=0xFFFF).filter(|kind| ![1, 2].contains(kind) && !(17..=36).contains(kind)) {
         let [low, high] = u16::to_le_bytes(kind);
         refuses_image(&then_record(&[6, 0, low, high, 0, 0]), 3, 18);
+    }
+}
+
+#[test]
+fn question3_kind_16_is_unknown_whatever_its_length() {
+    for length in 4..20 {
+        let mut record = vec![1; length];
+        record[..4].copy_from_slice(&[length as u8, 0, 16, 0]);
+        refuses_image(&then_record(&record), 3, 18);
     }
 }
 
@@ -67,7 +76,6 @@ fn question3_length_other_than_the_fields_make_for_each_kind() {
     let lengths = [
         (1, 11),
         (2, 7),
-        (16, 9),
         (17, 6),
         (18, 6),
         (19, 6),
@@ -87,6 +95,7 @@ fn question3_length_other_than_the_fields_make_for_each_kind() {
         (33, 9),
         (34, 11),
         (35, 6),
+        (36, 13),
     ];
     for (kind, right) in lengths {
         // Every field is 1, every count too.

@@ -3,8 +3,8 @@
 use crate::support::{end_of, gives, undefined, Run};
 use reference::{End, Integer, Said, Value};
 
-const LEAST: Integer = -2_147_483_648;
-const GREATEST: Integer = 2_147_483_647;
+const LEAST: Integer = -9_223_372_036_854_775_808;
+const GREATEST: Integer = 9_223_372_036_854_775_807;
 
 /// A version that gives `r0 op r1`.
 fn arith(op: &str) -> String {
@@ -47,6 +47,8 @@ fn add_is_undef_only_out_of_range() {
     operation("add", 40, 2, 42);
     operation("add", GREATEST, 0, GREATEST);
     operation("add", LEAST, GREATEST, -1);
+    operation("add", GREATEST - 1, 1, GREATEST);
+    operation("add", LEAST + 1, -1, LEAST);
     no_operation("add", GREATEST, 1);
     no_operation("add", LEAST, -1);
 }
@@ -55,6 +57,7 @@ fn add_is_undef_only_out_of_range() {
 fn subtract_is_undef_only_out_of_range() {
     operation("sub", 40, 2, 38);
     operation("sub", -1, GREATEST, LEAST);
+    operation("sub", -1, LEAST, GREATEST);
     no_operation("sub", LEAST, 1);
     no_operation("sub", 0, LEAST);
     no_operation("sub", GREATEST, -1);
@@ -63,11 +66,55 @@ fn subtract_is_undef_only_out_of_range() {
 #[test]
 fn multiply_is_undef_only_out_of_range() {
     operation("mul", -6, 7, -42);
-    operation("mul", 65_536, -32_768, LEAST);
-    operation("mul", 46_340, 46_340, 2_147_395_600);
-    no_operation("mul", 65_536, 32_768);
+    operation("mul", LEAST, 1, LEAST);
+    operation("mul", LEAST, 0, 0);
     no_operation("mul", LEAST, -1);
-    no_operation("mul", 46_341, 46_341);
+    no_operation("mul", -1, LEAST);
+    no_operation("mul", LEAST, LEAST);
+    no_operation("mul", GREATEST, GREATEST);
+    no_operation("mul", GREATEST, LEAST);
+}
+
+#[test]
+fn products_that_just_fit_of_each_sign() {
+    let root = 3_037_000_499;
+    operation("mul", root, root, 9_223_372_030_926_249_001);
+    operation("mul", -root, -root, 9_223_372_030_926_249_001);
+    operation("mul", root, -root - 1, -9_223_372_033_963_249_500);
+    operation("mul", -root, root + 1, -9_223_372_033_963_249_500);
+    operation("mul", 1_317_624_576_693_539_401, 7, GREATEST);
+    operation("mul", -1_317_624_576_693_539_401, -7, GREATEST);
+    operation("mul", 4_294_967_296, -2_147_483_648, LEAST);
+    operation("mul", -4_294_967_296, 2_147_483_648, LEAST);
+}
+
+#[test]
+fn products_that_just_do_not_fit_of_each_sign() {
+    let root = 3_037_000_500;
+    no_operation("mul", root, root);
+    no_operation("mul", -root, -root);
+    no_operation("mul", root, -root);
+    no_operation("mul", -root, root);
+    no_operation("mul", 4_294_967_296, 2_147_483_648);
+    no_operation("mul", -4_294_967_296, -2_147_483_648);
+    no_operation("mul", -3, 3_074_457_345_618_258_603);
+    no_operation("mul", 3, -3_074_457_345_618_258_603);
+}
+
+#[test]
+fn a_product_whose_low_64_bits_are_0_is_undef() {
+    no_operation("mul", 4_294_967_296, 4_294_967_296);
+    no_operation("mul", LEAST, 2);
+    no_operation("mul", LEAST, -2);
+}
+
+#[test]
+fn operations_go_past_the_ends_of_32_bits() {
+    operation("add", 2_147_483_647, 1, 2_147_483_648);
+    operation("sub", -2_147_483_648, 1, -2_147_483_649);
+    operation("mul", 65_536, 65_536, 4_294_967_296);
+    operation("mul", -2_147_483_648, -1, 2_147_483_648);
+    operation("div", -2_147_483_648, -1, 2_147_483_648);
 }
 
 #[test]
@@ -95,12 +142,12 @@ fn divide_is_exact_where_nothing_is_left() {
 #[test]
 fn divide_at_both_ends_of_the_range() {
     operation("div", LEAST, 1, LEAST);
-    operation("div", LEAST, 2, -1_073_741_824);
-    operation("div", LEAST, 3, -715_827_883);
-    operation("div", LEAST, -3, 715_827_882);
-    operation("div", GREATEST, -1, -2_147_483_647);
-    operation("div", GREATEST, 2, 1_073_741_823);
-    operation("div", GREATEST, -2, -1_073_741_824);
+    operation("div", LEAST, 2, -4_611_686_018_427_387_904);
+    operation("div", LEAST, 3, -3_074_457_345_618_258_603);
+    operation("div", LEAST, -3, 3_074_457_345_618_258_602);
+    operation("div", GREATEST, -1, -9_223_372_036_854_775_807);
+    operation("div", GREATEST, 2, 4_611_686_018_427_387_903);
+    operation("div", GREATEST, -2, -4_611_686_018_427_387_904);
     operation("div", LEAST, GREATEST, -2);
     operation("div", GREATEST, LEAST, -1);
     operation("div", 1, LEAST, -1);

@@ -45,6 +45,9 @@ pub fn record(image: &[u8], offset: usize) -> Option<String> {
 /// Question 3: why the record at an offset has no known kind or not its length.
 pub fn fields(image: &[u8], offset: usize) -> Option<String> {
     let framed = Framed::at(image, offset)?;
+    if framed.kind == kinds::NARROW_LIT {
+        return Some("16 was the kind of LIT with 32 bits; now LIT is kind 36, of 64".to_string());
+    }
     let Some(name) = kind_name(framed.kind) else {
         return Some(format!("{} is the kind of no record", framed.kind));
     };
@@ -86,7 +89,7 @@ fn needed(kind: u16, body: &[u8]) -> Length {
         kinds::VEC => counted(1, 2, 1),
         kinds::CALL => counted(3, 4, 1),
         kinds::DISPATCH => counted(4, 5, 2),
-        kinds::LIT => Length::Whole(HEAD + 5),
+        kinds::LIT => Length::Whole(HEAD + 9),
         kinds::ARITH | kinds::SELECT => Length::Whole(HEAD + 4),
         kinds::BLOCK | kinds::GET | kinds::SET | kinds::PEEK | kinds::POKE => {
             Length::Whole(HEAD + 3)

@@ -7,7 +7,6 @@ pub fn kind_name(kind: u16) -> Option<&'static str> {
     Some(match kind {
         kinds::VERSION => "VERSION",
         kinds::BLOCK => "BLOCK",
-        kinds::LIT => "LIT",
         kinds::MOVE => "MOVE",
         kinds::USE => "USE",
         kinds::DUP => "DUP",
@@ -27,6 +26,7 @@ pub fn kind_name(kind: u16) -> Option<&'static str> {
         kinds::CALL => "CALL",
         kinds::DISPATCH => "DISPATCH",
         kinds::SKIP => "SKIP",
+        kinds::LIT => "LIT",
         _ => return None,
     })
 }

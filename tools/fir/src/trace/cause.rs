@@ -53,7 +53,7 @@ fn held(state: &State, spot: &Spot, register: u8) -> Option<Held> {
 }
 
 /// The integer that a register of the step's call holds.
-fn integer(state: &State, spot: &Spot, register: u8) -> Option<i32> {
+fn integer(state: &State, spot: &Spot, register: u8) -> Option<i64> {
     match held(state, spot, register)? {
         Held::Integer(integer) => Some(integer),
         _ => None,
@@ -69,7 +69,7 @@ fn promise(state: &State, spot: &Spot, register: u8) -> Option<usize> {
 }
 
 /// Why an operation on two integers has no result.
-fn arithmetic(op: u8, a: i32, b: i32) -> Option<String> {
+fn arithmetic(op: u8, a: i64, b: i64) -> Option<String> {
     let sign = match op {
         kinds::ADD => "+",
         kinds::SUBTRACT => "-",
