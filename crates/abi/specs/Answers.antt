@@ -1,7 +1,10 @@
 -- Answers as numbers, field by field as include/fir.h has them.
+use mathlib.Core.Bool.{cond}
 use mathlib.Core.List.{List}
 use Prim.Native.Nat.{ℕ, _+_, _*_}
+use lib.Dec.{eqb}
 use lib.IntN.{pos}
+use Rattle.layout.specs.declared.Form.{Form}
 use Rattle.checker.specs.Reports.{reportedOf}
 use Rattle.checker.specs.declared.Reported.{Reported}
 use Rattle.checker.specs.declared.Verdict.{Verdict}
@@ -10,6 +13,7 @@ use Rattle.machine.specs.declared.Changed.{Changed}
 use Rattle.machine.specs.declared.Entry.{Entry}
 use Rattle.machine.specs.declared.Said.{Said}
 use Rattle.machine.specs.declared.Search.{Search}
+use Rattle.moves.specs.declared.Moving.{Moving}
 use Rattle.snapshots.specs.Held.{endingOf}
 use Rattle.abi.specs.declared.answers.FirAnswer.{FirAnswer}
 use Rattle.abi.specs.declared.answers.FirEntry.{FirEntry}
@@ -21,6 +25,15 @@ use Rattle.abi.specs.declared.answers.FirVerdict.{FirVerdict}
 unfoldable pub verdictNumbers : Verdict → FirVerdict
 verdictNumbers (Verdict.Accepted n) = record { detail = n; question = 0 }
 verdictNumbers (Verdict.Refused q p) = record { detail = p; question = q }
+
+-- a move: the length of the image in the other form, or the offset and the number of a refusal
+unfoldable pub movedNumbers : Moving → FirVerdict
+movedNumbers (Moving.Written n) = record { detail = n; question = 0 }
+movedNumbers (Moving.Refused q p) = record { detail = p; question = q }
+
+-- the form that a number names: 1 that of 32 bits, any other that of 64
+unfoldable pub formOf : ℕ → Form
+formOf n = cond (eqb n 1) Form.Narrow Form.Wide
 
 -- the length of a text that was written; 0 where the buffer was too short
 unfoldable pub lengthIn : Reported → ℕ

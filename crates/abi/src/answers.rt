@@ -1,14 +1,16 @@
 //! Answers as numbers, in the layout of C.
 ghost use mathlib.Core.Path.{_≡_};
-ghost use Rattle.abi.specs.Answers.{answerNumbers, changedNumbers, entryNumbers, plainNumbers, saidNumbers, searchNumbers, verdictNumbers};
+ghost use Rattle.abi.specs.Answers.{answerNumbers, changedNumbers, entryNumbers, formOf, movedNumbers, plainNumbers, saidNumbers, searchNumbers, verdictNumbers};
 ghost use Rattle.abi.specs.Looks.{noPlace, valueNumbers};
 ghost use Rattle.engine.specs.Parts.{saidOf};
 use checker::Verdict;
+use layout::Form;
 use machine::Answer;
 use machine::Changed;
 use machine::Entry;
 use machine::Search;
 use machine::Value;
+use moves::Moving;
 
 /// A verdict: 0 and the number of versions, or the question that refuses and the offset.
 #[repr(C)]
@@ -72,6 +74,33 @@ pub fn verdict(verdict: Verdict) -> FirVerdict
             detail: p,
             question: q,
         },
+    }
+}
+
+/// What becomes of a move, in numbers.
+pub fn moved(moving: Moving) -> FirVerdict
+    ensures { λ r. ⌜ r ≡ movedNumbers moving ⌝ }
+{
+    match moving {
+        Moving::Written(n) => FirVerdict {
+            detail: n,
+            question: 0,
+        },
+        Moving::Refused(q, p) => FirVerdict {
+            detail: p,
+            question: q,
+        },
+    }
+}
+
+/// The form that a number names: 1 that of 32 bits, any other that of 64.
+pub fn form(number: u8) -> Form
+    ensures { λ r. ⌜ r ≡ formOf number ⌝ }
+{
+    if number == 1 {
+        Form::Narrow
+    } else {
+        Form::Wide
     }
 }
 

@@ -1,15 +1,17 @@
 //! The interface in C, as include/fir.h declares it: the caller owns the state of a run and lends it to each call.
 ghost use mathlib.Core.Path.{_≡_};
 ghost use lib.ListN.{length};
-ghost use Rattle.checker.specs.Verdicts.{verdictOf};
-ghost use Rattle.checker.specs.Reports.{reportText};
+ghost use Rattle.layout.specs.declared.Form.{Form};
+ghost use Rattle.checker.specs.Verdicts.{verdictIn, verdictOf};
+ghost use Rattle.checker.specs.Reports.{reportIn, reportText};
 ghost use Rattle.writer.specs.Text.{placed};
 ghost use Rattle.machine.specs.Begin.{beginOf, programOf, runOf};
 ghost use Rattle.machine.specs.Changes.{changeOf};
 ghost use Rattle.machine.specs.Runs.{budgetOf, stepOf};
 ghost use Rattle.machine.specs.Searches.{searchOf};
+ghost use Rattle.moves.specs.Moves.{bufferAfter, moveOf};
 ghost use Rattle.snapshots.specs.Held.{held};
-ghost use Rattle.abi.specs.Answers.{changedNumbers, entryNumbers, saidNumbers, searchNumbers, stateAlignment, stateSize, verdictNumbers, writtenOf};
+ghost use Rattle.abi.specs.Answers.{changedNumbers, entryNumbers, formOf, movedNumbers, saidNumbers, searchNumbers, stateAlignment, stateSize, verdictNumbers, writtenOf};
 ghost use Rattle.abi.specs.Exits.{Answers, Began};
 ghost use Rattle.abi.specs.Looks.{lookOf};
 use answers::FirAnswer;
@@ -61,6 +63,42 @@ pub extern "C" fn fir_report(image: &[u8], text: &mut [u8]) -> usize
         Reported::Written(n) => n,
         Reported::Short => 0,
     }
+}
+
+/// Checks an image in a form: 1 names that of 32 bits, any other number that of 64.
+#[no_mangle]
+pub extern "C" fn fir_check_in(image: &[u8], form: u8) -> FirVerdict
+    ensures { λ r. ⌜ r ≡ verdictNumbers (verdictIn (formOf form) (now (image .entry))) ⌝ }
+{
+    answers::verdict(questions::verdict_in(image, answers::form(form)))
+}
+
+/// As `fir_report`, of an image in a form.
+#[no_mangle]
+pub extern "C" fn fir_report_in(image: &[u8], form: u8, text: &mut [u8]) -> usize
+    ensures { λ r. ⌜ (r ≡ writtenOf (reportIn (formOf form) (now (image .entry))) (length (now (text .entry)))) × (now (text .exit) ≡ placed (now (text .entry)) 0 (reportIn (formOf form) (now (image .entry)))) ⌝ }
+{
+    match report::report_in(image, answers::form(form), text) {
+        Reported::Written(n) => n,
+        Reported::Short => 0,
+    }
+}
+
+/// Moves an image of the 32-bit form to the 64-bit form: 0 and its length there, from the place 0 of the buffer on, or the
+/// question that refuses and the offset. A refusal writes nothing.
+#[no_mangle]
+pub extern "C" fn fir_widen(image: &[u8], out: &mut [u8]) -> FirVerdict
+    ensures { λ r. ⌜ (r ≡ movedNumbers (moveOf Form.Narrow (now (image .entry)) (length (now (out .entry))))) × (now (out .exit) ≡ bufferAfter Form.Narrow (now (image .entry)) (now (out .entry))) ⌝ }
+{
+    answers::moved(moves::widen(image, out))
+}
+
+/// Moves an image of the 64-bit form to the 32-bit form, as `fir_widen`.
+#[no_mangle]
+pub extern "C" fn fir_narrow(image: &[u8], out: &mut [u8]) -> FirVerdict
+    ensures { λ r. ⌜ (r ≡ movedNumbers (moveOf Form.Wide (now (image .entry)) (length (now (out .entry))))) × (now (out .exit) ≡ bufferAfter Form.Wide (now (image .entry)) (now (out .entry))) ⌝ }
+{
+    answers::moved(moves::narrow(image, out))
 }
 
 /// Begins a run of a version of a function: its first state is written. A refusal writes nothing. The buffer is asked for its

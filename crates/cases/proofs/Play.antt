@@ -9,7 +9,7 @@ use Rattle.sets.specs.Sets.{empty, only, both, those, inhabited}
 use Rattle.layout.specs.Tests.{_and_, all, any, count, found, allFrom}
 use Rattle.layout.specs.Records.{sizeOf, walk, rest, every, choose}
 use Rattle.layout.specs.Scan.{scan}
-use Rattle.layout.specs.Forms.{literalKind, literalLength, recordBytes, signByte, newRecord, newBytes}
+use Rattle.layout.specs.Forms.{literalKind, literalLength, recordBytes, printed, other, signByte, movedNumber, movedKind, movedBody, moved}
 use Rattle.layout.specs.Questions.{question1, question2, plainLength, lengthOf, question3, versionInBounds, inBounds, inOrder, dueAfter, noneDue, question4, follows, question5}
 use Rattle.program.specs.Program.{numberIn, instrBy, putBy, viewBy, findVersion, firstMark, beside, arguments as pairsOf}
 use Rattle.program.specs.Search.{firstLine, firstBlock, first as firstNo}
@@ -98,11 +98,11 @@ sixty-four-hold = refl
 
 -- literals in both forms
 pub moves-below : MovesBelow
-unfolding rules MovesBelow recordBytes signByte newRecord newBytes
+unfolding rules MovesBelow recordBytes printed other signByte movedNumber movedKind movedBody moved
 moves-below = refl
 
 pub moves-above : MovesAbove
-unfolding rules MovesAbove recordBytes signByte newRecord newBytes
+unfolding rules MovesAbove recordBytes printed other signByte movedNumber movedKind movedBody moved
 moves-above = refl
 
 -- ---- each row

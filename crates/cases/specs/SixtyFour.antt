@@ -5,7 +5,8 @@ use Prim.Native.Nat.{ℕ}
 use lib.IntN.{ℤ, pos}
 use Rattle.layout.specs.Kinds as kind
 use Rattle.layout.specs.Records.{records}
-use Rattle.layout.specs.Forms.{newBytes}
+use Rattle.layout.specs.Forms.{moved}
+use Rattle.layout.specs.declared.Form.{Form}
 use Rattle.cases.specs.Table.{Row, row, neg, lentFrom, lent, refused_at_, integer, vector, undef, rec, lit, I, computing}
 use Rattle.cases.specs.Further.{emptying}
 
@@ -92,8 +93,8 @@ sixtyFour =
 
 -- the literal −3 of 32 bits, with each further byte its sign
 unfoldable pub MovesBelow : Type 0
-MovesBelow = newBytes (records (giving (rec kind.NARROW-LIT (0 ∷ 0xFD ∷ 0xFF ∷ 0xFF ∷ 0xFF ∷ [])))) ≡ giving (rec kind.LIT (0 ∷ 0xFD ∷ 0xFF ∷ 0xFF ∷ 0xFF ∷ 0xFF ∷ 0xFF ∷ 0xFF ∷ 0xFF ∷ []))
+MovesBelow = moved Form.Narrow (records (giving (rec kind.NARROW-LIT (0 ∷ 0xFD ∷ 0xFF ∷ 0xFF ∷ 0xFF ∷ [])))) ≡ giving (rec kind.LIT (0 ∷ 0xFD ∷ 0xFF ∷ 0xFF ∷ 0xFF ∷ 0xFF ∷ 0xFF ∷ 0xFF ∷ 0xFF ∷ []))
 
 -- and 5
 unfoldable pub MovesAbove : Type 0
-MovesAbove = newBytes (records (giving (rec kind.NARROW-LIT (0 ∷ 5 ∷ 0 ∷ 0 ∷ 0 ∷ [])))) ≡ giving (lit 0 5)
+MovesAbove = moved Form.Narrow (records (giving (rec kind.NARROW-LIT (0 ∷ 5 ∷ 0 ∷ 0 ∷ 0 ∷ [])))) ≡ giving (lit 0 5)

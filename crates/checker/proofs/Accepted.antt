@@ -1,5 +1,5 @@
 -- What an accepted image gives: each question's fact, for its records and for every version, block and instruction that is looked up.
-use mathlib.Core.Path.{_≡_, ap}
+use mathlib.Core.Path.{_≡_, ap, _∙_}
 use mathlib.Core.List.{List}
 use mathlib.Core.Option.{some}
 use Prim.Native.Nat.{ℕ}
@@ -19,7 +19,7 @@ use Rattle.rules.specs.Flows.{question10}
 use Rattle.checker.specs.Verdicts.{verdictOf, verdictIn}
 use Rattle.checker.specs.declared.Verdict.{Verdict}
 use Rattle.checker.specs.declared.Verdict.the-variants.{Accepted, Refused}
-use Rattle.checker.proofs.Asks.{asked}
+use Rattle.checker.proofs.Asks.{asked, ask-yes}
 
 -- what the questions found of the image s of a form, whose program has k versions
 pub record Passed (form : Form) (s : List ℕ) (k : ℕ) : Type 0 where
@@ -70,6 +70,13 @@ passed s k e =
       q10 = e10 .0;
       count = ap carried (e10 .1);
     }
+
+-- an image that passed all questions is accepted
+pub accept : {form : Form} {s : List ℕ} {k : ℕ} → Passed form s k → verdictIn form s ≡ Accepted k
+unfolding verdictIn
+accept a =
+    ask-yes 1 _ (a .q1) ∙ ask-yes 2 _ (a .q2) ∙ ask-yes 3 _ (a .q3) ∙ ask-yes 4 _ (a .q4) ∙ ask-yes 5 _ (a .q5) ∙ ask-yes 6 _ (a .q6) ∙ ask-yes 7 _ (a .q7)
+    ∙ ask-yes 14 _ (a .q14) ∙ ask-yes 8 _ (a .q8) ∙ ask-yes 9 _ (a .q9) ∙ ask-yes 10 _ (a .q10) ∙ ap Accepted (a .count)
 
 -- what questions 4 and 6 to 10 found of a version of the program P
 pub record Checked (P : Program) (v : Version) : Type 0 where

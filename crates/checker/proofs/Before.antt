@@ -23,7 +23,7 @@ use Rattle.rules.specs.Flows.{flows, question10}
 use Rattle.rules.proofs.Before.{bodyAction₀, flows₀, still-does, still-flows}
 use Rattle.writer.specs.Text.{text, decimal}
 use Rattle.checker.specs.Verdicts.{ask, verdictIn}
-use Rattle.checker.specs.Reports.{counts, lineText, versionLine, versionLines, refusal, answer, reportText}
+use Rattle.checker.specs.Reports.{counts, lineText, versionLine, versionLines, refusal, answer, reportIn, reportText}
 use Rattle.checker.specs.declared.Verdict.{Verdict}
 use Rattle.checker.specs.declared.Verdict.the-variants.{Accepted, Refused}
 use Rattle.checker.proofs.Asks.{asked, ask-yes}
@@ -132,7 +132,7 @@ ended form s k e =
 
 -- THE LAW: and `check` prints the same of it, the four counts of each version included
 pub same-report : (s : List ℕ) (k : ℕ) → verdict₀ Form.Wide s ≡ Accepted k → reportText₀ s ≡ reportText s
-unfolding answer answer₀ reportText reportText₀
+unfolding answer answer₀ reportIn reportText₀
 same-report s k e =
     let P = program (records s) in
     rw (e, still-accepted Form.Wide s k e) (ap (λ (t : List ℕ). t ++ text "accepted " ++ decimal k ++ text "\n") (same-lines P P (ended Form.Wide s k e)))

@@ -24,7 +24,7 @@ use Rattle.program.specs.Program.{Line, Block, Version, Program, View, nowhere,
 use Rattle.program.specs.Search.{Question, firstLine, firstBlock, first}
 use Rattle.program.specs.Questions.{question7}
 use Rattle.program.specs.Skips.{noEnds, endsAfter, endsWithin, question14}
-use Rattle.program.proofs.Lookups.{Each}
+use Rattle.layout.proofs.Lists.{Each}
 use Rattle.rules.specs.Questions.{question6, question8, question9}
 use Rattle.rules.specs.Flows.{question10}
 use Rattle.checker.specs.Verdicts.{ask, verdictIn}

@@ -9,10 +9,11 @@ use Rattle.writer.proofs.Placed.{placed-then, placed-length, placed-none, place
 use mathlib.Core.Bool.{Bool, true, false, cond}
 use lib.Dec.{leb}
 use borrow.Author.Tests.{le-leb, lt-leb, leb-true}
-use Rattle.checker.specs.Reports.{spaced, lineText, countsOf, refusal, answer, reportText, reportedOf, Told, versionLines}
+use Rattle.checker.specs.Reports.{spaced, lineText, countsOf, refusal, answer, reportIn, reportedOf, Told, versionLines}
 use Rattle.layout.specs.Records.{records}
+use Rattle.layout.specs.declared.Form.{Form}
 use Rattle.program.specs.Program.{Program, program}
-use Rattle.checker.specs.Verdicts.{verdictOf}
+use Rattle.checker.specs.Verdicts.{verdictIn}
 use Rattle.checker.specs.declared.Reported.{Reported}
 use Rattle.checker.specs.declared.Verdict.the-variants.{Accepted, Refused}
 use Rattle.checker.specs.declared.Reported.the-variants.{Written, Short}
@@ -137,13 +138,13 @@ accepted-put P n h q r s t =
     (omega (arith, l, one-byte .2, eight-bytes .2, q .ends, r .ends, s .ends, t .ends))
 
 -- the text by its verdict
-pub told-accepted : {r : Reported} {x y : List ℕ} (s : List ℕ) (n : ℕ) → verdictOf s ≡ Accepted n → Told r x y (answer (program (records s)) (Accepted n)) → Told r x y (reportText s)
-unfolding reportText
-told-accepted s n e t = rw e t
+pub told-accepted : {r : Reported} {x y : List ℕ} (form : Form) (s : List ℕ) (n : ℕ) → verdictIn form s ≡ Accepted n → Told r x y (answer (program (records s)) (Accepted n)) → Told r x y (reportIn form s)
+unfolding reportIn
+told-accepted form s n e t = rw e t
 
-pub told-refused : {r : Reported} {x y : List ℕ} (s : List ℕ) (n p : ℕ) → verdictOf s ≡ Refused n p → Told r x y (refusal n p) → Told r x y (reportText s)
-unfolding reportText answer
-told-refused s n p e t = rw e t
+pub told-refused : {r : Reported} {x y : List ℕ} (form : Form) (s : List ℕ) (n p : ℕ) → verdictIn form s ≡ Refused n p → Told r x y (refusal n p) → Told r x y (reportIn form s)
+unfolding reportIn answer
+told-refused form s n p e t = rw e t
 
 -- a text that was written fits
 pub written-fits : (t : List ℕ) (places n : ℕ) → reportedOf t places ≡ Written n → n ≤ places

@@ -6,12 +6,13 @@ use Prim.Native.Nat.{ℕ}
 use lib.ListN.{length}
 use lib.Dec.{leb}
 use Rattle.layout.specs.Records.{records}
+use Rattle.layout.specs.declared.Form.{Form}
 use Rattle.sets.specs.Sets.{size}
 use Rattle.program.specs.Program.{Version, Program, program}
 use Rattle.rules.specs.Actions.{bodyAction}
 use mathlib.Core.Path.{_≡_}
 use Rattle.writer.specs.Text.{text, decimal, placed}
-use Rattle.checker.specs.Verdicts.{verdictOf}
+use Rattle.checker.specs.Verdicts.{verdictIn}
 use Rattle.checker.specs.declared.Verdict.{Verdict}
 use Rattle.checker.specs.declared.Verdict.the-variants.{Accepted, Refused}
 use Rattle.checker.specs.declared.Counts.{Counts}
@@ -49,9 +50,13 @@ unfoldable pub answer : Program → Verdict → List ℕ
 answer P (Accepted n) = versionLines P P ++ text "accepted " ++ decimal n ++ text "\n"
 answer P (Refused n p) = refusal n p
 
--- Program: what `check` prints of an image
-unfoldable pub reportText : List ℕ → List ℕ
-reportText s = answer (program (records s)) (verdictOf s)
+-- Program: what `check` prints of an image in a form
+unfoldable pub reportIn : Form → List ℕ → List ℕ
+reportIn form s = answer (program (records s)) (verdictIn form s)
+
+-- in the form in force, that of 64 bits
+abbrev pub reportText : List ℕ → List ℕ
+reportText s = reportIn Form.Wide s
 
 -- what is said of a text for a buffer of so many places
 unfoldable pub reportedOf : List ℕ → ℕ → Reported

@@ -8,13 +8,14 @@ ghost use Rattle.layout.specs.Records.{records};
 ghost use Rattle.program.specs.Program.{program};
 ghost use Rattle.program.specs.Places.{versionAt};
 ghost use Rattle.writer.specs.Text.{placed, text, decimal};
-ghost use Rattle.checker.specs.Reports.{counts, countsOf, spaced, versionLine, versionLines, lineOf, refusal, answer, reportText, Told};
+ghost use Rattle.checker.specs.Reports.{counts, countsOf, spaced, versionLine, versionLines, lineOf, refusal, answer, reportIn, reportText, Told};
 use crate::Counts;
 use crate::Line;
 use crate::Reported;
 use crate::Verdict;
 use crate::questions;
 use flow::Flowed;
+use layout::Form;
 
 /// The counts of registers in each set of the body of the version at `v`.
 fn counts_at(image: &[u8], v: usize) -> Counts
@@ -188,12 +189,19 @@ fn report_refused(out: &mut [u8], n: u8, p: usize) -> Reported
     Reported::Written(total)
 }
 
-/// Writes the text that `check` prints of an image into the buffer, and gives its length; a buffer that is too short is left as it was.
-pub fn report(image: &[u8], out: &mut [u8]) -> Reported
-    ensures { λ r. ⌜ Told r (now (out .entry)) (now (out .exit)) (reportText (now (image .entry))) ⌝ }
+/// Writes the text that `check` prints of an image in a form into the buffer, and gives its length; a buffer that is too short is left as it was.
+pub fn report_in(image: &[u8], form: Form, out: &mut [u8]) -> Reported
+    ensures { λ r. ⌜ Told r (now (out .entry)) (now (out .exit)) (reportIn form (now (image .entry))) ⌝ }
 {
-    match questions::verdict(image) {
+    match questions::verdict_in(image, form) {
         Verdict::Accepted(n) => report_accepted(image, out, n),
         Verdict::Refused(n, p) => report_refused(out, n, p),
     }
+}
+
+/// The same of an image in the form in force.
+pub fn report(image: &[u8], out: &mut [u8]) -> Reported
+    ensures { λ r. ⌜ Told r (now (out .entry)) (now (out .exit)) (reportText (now (image .entry))) ⌝ }
+{
+    report_in(image, Form::Wide, out)
 }

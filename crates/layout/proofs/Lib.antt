@@ -4,3 +4,4 @@ pub mod Lists
 pub mod Rows
 pub mod Turns
 pub mod Walk
+pub mod Printed

@@ -1,5 +1,5 @@
 -- Lists: what stands at a place of a list, of its first or last ones, and of one with an element set.
-use mathlib.Core.Path.{_≡_, refl, ap}
+use mathlib.Core.Path.{_≡_, refl, ap, subst}
 use mathlib.Core.Logic.{_≢_}
 use mathlib.Core.List.{List, [], _∷_}
 use mathlib.Core.Option.{none, some}
@@ -88,3 +88,27 @@ get-other (y ∷ xs) zero zero x n = absurd (n refl)
 get-other (y ∷ xs) zero (suc j) x n = refl
 get-other (y ∷ xs) (suc i) zero x n = refl
 get-other (y ∷ xs) (suc i) (suc j) x n = get-other xs i j x (λ e. n (ap suc e))
+
+-- ---- all of a list
+
+-- what holds of each of a list
+unfoldable pub Each : {A : Type 0} → (A → Type 0) → List A → Type 0
+Each T [] = Unit {0}
+Each T (x ∷ l) = T x × Each T l
+
+pub each-get : {A : Type 0} (T : A → Type 0) (l : List A) (i : ℕ) (x : A) → Each T l → getElem? l i ≡ some x → T x
+unfolding Each
+each-get T [] i x h e = let z : _≡_ {A = ℕ} 0 1 = cc in absurd (omega arith)
+each-get T (y ∷ l) zero x h e = let z : y ≡ x = cc in subst T z (h .0)
+each-get T (y ∷ l) (suc i) x h e = each-get T l i x (h .1) e
+
+-- of two facts, and of one that follows
+pub each-both : {A : Type 0} (T U : A → Type 0) (l : List A) → Each T l → Each U l → Each (λ (x : A). T x × U x) l
+unfolding Each
+each-both T U [] t u = tt
+each-both T U (x ∷ l) t u = ((t .0, u .0), each-both T U l (t .1) (u .1))
+
+pub each-then : {A : Type 0} (T U : A → Type 0) (l : List A) → ((x : A) → T x → U x) → Each T l → Each U l
+unfolding Each
+each-then T U [] f t = tt
+each-then T U (x ∷ l) f t = (f x (t .0), each-then T U l f (t .1))

@@ -14,6 +14,7 @@ use Rattle.layout.specs.Records.{_!_, sizeAt, kindAt, bodyAt, recAt, records}
 use Rattle.layout.specs.declared.Found.{Found}
 use Rattle.layout.specs.declared.Found.the-variants.{Nothing, At}
 use Rattle.layout.proofs.Fields.{fields-at, every-past}
+use Rattle.layout.proofs.Lists.{Each, each-get}
 use Rattle.program.specs.Program.{Line, Block, Version, Program, View, nowhere, lineOf, program, findVersion, firstMark}
 use Rattle.program.specs.Places.{viewAt, past, versionAt, blockAt, placeOf, versionPlace, blockPlace}
 use Rattle.program.proofs.Views.{view-end, view-past, Whole, at-version, at-block, at-line}
@@ -26,17 +27,6 @@ get-here x l e = rw e
 pub get-more : {A : Type 0} (i : ℕ) (x : A) (l : List A) → (i ≡ 0 → ⊥) → getElem? (x ∷ l) i ≡ getElem? l (i - 1)
 get-more zero x l z = absurd (z refl)
 get-more (suc i) x l z = let e : suc i - 1 ≡ i = omega arith in rw e
-
--- what holds of each of a list
-unfoldable pub Each : {A : Type 0} → (A → Type 0) → List A → Type 0
-Each T [] = Unit {0}
-Each T (x ∷ l) = T x × Each T l
-
-pub each-get : {A : Type 0} (T : A → Type 0) (l : List A) (i : ℕ) (x : A) → Each T l → getElem? l i ≡ some x → T x
-unfolding Each
-each-get T [] i x h e = let z : _≡_ {A = ℕ} 0 1 = cc in absurd (omega arith)
-each-get T (y ∷ l) zero x h e = let z : y ≡ x = cc in subst T z (h .0)
-each-get T (y ∷ l) (suc i) x h e = each-get T l i x (h .1) e
 
 pub each-find : (T : Version → Type 0) (vs : Program) (f w : ℕ) (x : Version) → Each T vs → findVersion vs f w ≡ some x → T x
 unfolding Each findVersion

@@ -17,7 +17,7 @@ use Rattle.program.specs.Questions.{registerExists, exists, namesBlock, namings
 use Rattle.rules.specs.Fits.{fresh, fitsArgument, fitsReturn, fitsCall, fits, fitsResult, plain, promiseKind}
 use Rattle.rules.specs.Effects.{reflective, covered}
 use Rattle.rules.specs.Questions.{versionTypes, typesAllowed, question6, question8, question9}
-use Rattle.rules.specs.Actions.{Action, Walk, reads_empties_assigns_, reading, emptied, touch, actionOf, skipOf, here, past, walk, start, along, enter, actions, _then_}
+use Rattle.rules.specs.Actions.{Action, Walk, reads_empties_assigns_, reading, emptied, touch, actionOf, skipOf, here, past, walk, start, along, enter, actions, bodyAction, _then_}
 use Rattle.sets.specs.Sets.{below}
 use Rattle.rules.specs.Flows.{flows, question10}
 
@@ -273,9 +273,13 @@ module _ (P : Program) where
       ap (λ (above : List (Option Action)). along (λ i. skipOf (touch P i)) (λ i. actionOf (enter n above) (touch P i)) (b .result) (b .code) ∷ above) (actions-shape (n + 1) bs)
       ∙ ap (λ (x : Option Action). x ∷ actions (map shape P) (n + 1) (map shapeBlock bs)) (along-shape _ _ _ _ (λ i. ap skipOf (touch-shape P i)) (λ i. ap (actionOf (enter n (actions (map shape P) (n + 1) (map shapeBlock bs)))) (touch-shape P i)) (b .result) (b .code))
 
+  -- what its body does
+  pub body-shape : (v : Version) → bodyAction P v ≡ bodyAction (map shape P) (shape v)
+  body-shape v = ap (λ (done : List (Option Action)). getD done 0 none) (actions-shape 0 (v .blocks))
+
   flows-shape : (v : Version) → flows P v ≡ flows (map shape P) (shape v)
   unfolding flows
-  flows-shape v = ap (λ (done : List (Option Action)). found (getD done 0 none) (λ a. below (v .parameters) (a .R))) (actions-shape 0 (v .blocks))
+  flows-shape v = ap (λ (done : Option Action). found done (λ a. below (v .parameters) (a .R))) (body-shape v)
 
 -- ---- the questions
 

@@ -10,5 +10,6 @@ pub mod Alike
 pub mod Wider
 pub mod WiderRuns
 pub mod Widened
+pub mod Moved
 pub mod SixtyFour
 pub mod Longer

@@ -23,7 +23,8 @@ use Rattle.runs.proofs.Alike.{bare-alike}
 pub record Literal (r q : Rec) : Type 0 where
   pub old : r .kind ≡ literalKind Form.Narrow
   pub new : q .kind ≡ literalKind Form.Wide
-  pub old-whole : 0 < r .size
+  pub old-size : r .size ≡ literalLength Form.Narrow
+  pub old-bytes : (i : ℕ) → r .body ! i < 256
   pub new-size : q .size ≡ literalLength Form.Wide
   pub register : q .body ! 0 ≡ r .body ! 0
   pub number : numberIn Form.Wide (q .body) ≡ numberIn Form.Narrow (r .body)
@@ -144,6 +145,10 @@ module _ (g : Instr → Instr) where
 whole-eqb : {n : ℕ} → 0 < n → eqb n 0 ≡ false
 whole-eqb {n} h = ne-eqb n 0 (λ z. omega (arith, z, h))
 
+pub old-whole : (r q : Rec) → Literal r q → 0 < r .size
+unfolding literalLength
+old-whole r q l = omega (arith, l .old-size)
+
 pub new-whole : (r q : Rec) → Literal r q → 0 < q .size
 unfolding literalLength
 new-whole r q l = omega (arith, l .new-size)
@@ -162,7 +167,7 @@ turn-same : (r q : Rec) → (Literal r q ⊎ Kept r q) → (x : View) → turn (
 unfolding putBare literalKind
 turn-same r q (inl l) x =
     rw (
-      whole-eqb (l .old-whole),
+      whole-eqb (old-whole r q l),
       whole-eqb (new-whole r q l),
       literal-instr Form.Narrow (r .kind) (r .body) (l .old),
       literal-instr Form.Wide (q .kind) (q .body) (l .new),
@@ -176,7 +181,7 @@ turn-same r q (inr k) x = rw (k .same-kind, k .same-size, k .same-body) (ap (con
 -- its shape, both in the form in force
 turn-shape : (r q : Rec) → (Literal r q ⊎ Kept r q) → (x : View) → turn blank Form.Wide r x ≡ turn blank Form.Wide q x
 unfolding putBare literalKind instrBy choose blank
-turn-shape r q (inl l) x = rw (whole-eqb (l .old-whole), whole-eqb (new-whole r q l), l .old, l .new, l .register) refl
+turn-shape r q (inl l) x = rw (whole-eqb (old-whole r q l), whole-eqb (new-whole r q l), l .old, l .new, l .register) refl
 turn-shape r q (inr k) x = rw (k .same-kind, k .same-size, k .same-body) refl
 
 -- THE LAW: records in both forms make alike programs

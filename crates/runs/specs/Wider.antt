@@ -7,7 +7,7 @@ use lib.IntN.{ℤ}
 use lib.ListN.{length}
 use Rattle.layout.specs.Bounds.{IMAGE}
 use Rattle.layout.specs.Records.{_!_, records}
-use Rattle.layout.specs.Forms.{newBytes}
+use Rattle.layout.specs.Forms.{moved}
 use Rattle.layout.specs.declared.Form.{Form}
 use Rattle.program.specs.Program.{Program, programBy}
 use Rattle.checker.specs.Verdicts.{verdictIn, verdictOf}
@@ -65,13 +65,13 @@ runBefore image f v words n buffer =
 unfoldable pub FormsAlike : Type 0
 FormsAlike =
     (image : List ℕ) → ((i : ℕ) → image ! i < 256) → (n : ℕ) → verdictIn Form.Narrow image ≡ Verdict.Accepted n
-    → AllAlike (programBy Form.Narrow (records image)) (programBy Form.Wide (records (newBytes (records image))))
+    → AllAlike (programBy Form.Narrow (records image)) (programBy Form.Wide (records (moved Form.Narrow (records image))))
 
 -- A run that under the old range ended otherwise than in UNDEF, or did not end in its budget, has the same result and steps once each literal of its image is kind 36, where the longer image is accepted.
 unfoldable pub SixtyFour : Type 0
 SixtyFour =
     (image : List ℕ) → ((i : ℕ) → image ! i < 256) → (n m : ℕ) → verdictIn Form.Narrow image ≡ Verdict.Accepted n
-    → let new = newBytes (records image) in verdictOf new ≡ Verdict.Accepted m
+    → let new = moved Form.Narrow (records image) in verdictOf new ≡ Verdict.Accepted m
     → (f v : ℕ) (words : List ℤ) (budget : ℕ) (buffer : List ℤ)
     → runBefore image f v words budget buffer .answer ≢ Answer.Ended End.Undef
     → runOf new f v words budget buffer ≡ runBefore image f v words budget buffer
@@ -80,4 +80,4 @@ SixtyFour =
 unfoldable pub LongerAccepted : Type 0
 LongerAccepted =
     (image : List ℕ) → ((i : ℕ) → image ! i < 256) → (n : ℕ) → verdictIn Form.Narrow image ≡ Verdict.Accepted n
-    → let new = newBytes (records image) in length new ≤ IMAGE → verdictOf new ≡ Verdict.Accepted n
+    → let new = moved Form.Narrow (records image) in length new ≤ IMAGE → verdictOf new ≡ Verdict.Accepted n
