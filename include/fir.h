@@ -8,7 +8,7 @@
  *   - A pointer with a length points to that many elements, aligned for their type; where the length is 0 it need not
  *     point to anything, but it is not NULL.
  *   - A pointer to a fir_state points to one, aligned as fir_state_alignment says. Its content may be anything.
- *   - What a call writes (a state, a text, a result buffer) overlaps nothing else that the call is lent.
+ *   - What a call writes (a state, a text, a result buffer, a moved image) overlaps nothing else that the call is lent.
  *   - Nobody else reads or writes what is lent until the call returns.
  *   - A step, a budget, fir_search and, as its old image, fir_change are lent the image in force: the one that the run was
  *     begun with, or the last one that fir_change accepted for it. The caller keeps it, byte for byte, until another is
@@ -32,8 +32,8 @@ extern "C" {
  * 9,223,372,036,854,775,807. An operation whose result is out of that range is UNDEF, and no result wraps. A literal in an
  * image is a record of kind 36 with a number of 8 bytes.
  *
- * Integers once had 32 bits, and a literal was a record of kind 16 with a number of 4 bytes. Such an image is refused by
- * question 3 at its first literal; a script is assembled anew from its text. A state that the library of that time stored
+ * Integers once had 32 bits, and a literal was a record of kind 16 with a number of 4 bytes. An image of that form is refused
+ * by question 3 at its first literal; fir_widen moves it to the form in force. A state that the library of that time stored
  * cannot be read: it has 9,544 bytes and not 17,040, its fields stand elsewhere, and bytes do not show which library wrote
  * them. Such a run is begun anew. Whoever called that library compiles again with this header: structs and arrays have
  * other widths. */
@@ -67,9 +67,11 @@ extern "C" {
 #define FIR_REFUSED_ARGUMENTS 12 /* the argument words are used up, each argument matching its parameter */
 #define FIR_REFUSED_BUFFER 13    /* the result buffer has at least 16 places */
 #define FIR_REFUSED_CHANGE 15    /* every version with a live call has the same bytes and number in both images */
+#define FIR_REFUSED_LITERAL 16   /* every literal of an image that is moved fits 32 bits */
+#define FIR_REFUSED_ROOM 17      /* the moved image has at most 32,768 bytes and fits the buffer */
 
 /* A verdict on an image: FIR_ACCEPTED and its number of versions, or the question that refuses it and the offset of the
- * first record that fails. */
+ * first record that fails. Of a move: FIR_ACCEPTED and the length of the moved image, or the question and the offset. */
 typedef struct fir_verdict {
     size_t detail;
     uint8_t question;
@@ -168,6 +170,30 @@ fir_verdict fir_check(const uint8_t *image, size_t image_length);
 /* Writes the text that `check` prints, without a 0 behind it, and gives its length. A buffer that is too short is left as
  * it was, and the answer is 0. */
 size_t fir_report(const uint8_t *image, size_t image_length, uint8_t *text, size_t text_length);
+
+/* ---- Stored images: the form of 32 bits ---- */
+
+/* The two forms of an image differ in their literals alone: kind 36 with 8 bytes, or kind 16 with 4. A form knows its own
+ * literal and refuses the other's by 3. An image without literals is of both forms. All else is asked of both alike. */
+#define FIR_FORM_64 0 /* the form in force, that all other functions ask for; so is every other number but 1 */
+#define FIR_FORM_32 1 /* the form before */
+
+/* Checks an image in a form; fir_check is for FIR_FORM_64. */
+fir_verdict fir_check_in(const uint8_t *image, size_t image_length, uint8_t form);
+
+/* Writes the text of an image in a form, as fir_report does. */
+size_t fir_report_in(const uint8_t *image, size_t image_length, uint8_t form, uint8_t *text, size_t text_length);
+
+/* Moves an image from the form of 32 bits to that of 64, or back: each literal is written in the other form with the same
+ * number, and all else stays byte for byte. The moved image stands in the buffer from place 0 on, and `detail` is its length.
+ * It passes the questions of its form, with the same text; moved back it is the same image again, byte for byte.
+ *
+ * The image is first put to the questions of the form that it comes from, 1 to 10 and 14. Then 16, at the first literal that
+ * does not fit 32 bits, which only fir_narrow meets; then 17, at 0. A buffer of FIR_IMAGE_BYTES is always long enough for what
+ * the bound lets through, and for fir_narrow one as long as the image. A refusal writes nothing; places of the buffer past the
+ * moved image stay. */
+fir_verdict fir_widen(const uint8_t *image, size_t image_length, uint8_t *out, size_t out_length);
+fir_verdict fir_narrow(const uint8_t *image, size_t image_length, uint8_t *out, size_t out_length);
 
 /* ---- Running ---- */
 

@@ -28,7 +28,19 @@ static inline void record(image *to, unsigned kind, const uint8_t *body, size_t 
         record(to, kind, body, sizeof body);         \
     } while (0)
 
-enum { VERSION = 1, BLOCK = 2, VEC = 20, ARITH = 24, SELECT = 25, PROM = 29, FORCE = 30, CALL = 33, DISPATCH = 34, LIT = 36 };
+enum {
+    VERSION = 1,
+    BLOCK = 2,
+    LIT_32 = 16, /* of the form of 32 bits */
+    VEC = 20,
+    ARITH = 24,
+    SELECT = 25,
+    PROM = 29,
+    FORCE = 30,
+    CALL = 33,
+    DISPATCH = 34,
+    LIT = 36
+};
 
 /* r0 counted down to 0 by a call of itself through an arithmetic of `busy` instructions: long runs, deep calls. */
 static inline void countdown(image *to, unsigned busy)
@@ -79,6 +91,24 @@ static inline void nested(image *to)
     }
     RECORD(to, VERSION, 1, 0, 1, 1, 2, 1, 2);
     RECORD(to, BLOCK, 0, 0, 0);
+}
+
+/* Versions of `count` literals each, at either end of 32 bits, in a form. */
+static inline void literals(image *to, unsigned form, unsigned versions, unsigned count)
+{
+    unsigned v, i;
+    to->length = 0;
+    for (v = 0; v < versions; v++) {
+        RECORD(to, VERSION, (uint8_t)(v / 4), (uint8_t)(v % 4), 0, 1, 2, 1, 2);
+        RECORD(to, BLOCK, 0, 0, (uint8_t)count);
+        for (i = 0; i < count; i++) {
+            const uint8_t low = i % 2 == 0 ? 255 : 0, high = i % 2 == 0 ? 127 : 128, sign = i % 2 == 0 ? 0 : 255;
+            if (form == FIR_FORM_32)
+                RECORD(to, LIT_32, 0, low, low, low, high);
+            else
+                RECORD(to, LIT, 0, low, low, low, high, sign, sign, sign, sign);
+        }
+    }
 }
 
 #define SEARCH_STEPS 2 /* the steps of 0.0 of `searching` before its DISPATCH */

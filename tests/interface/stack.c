@@ -20,6 +20,9 @@ static fir_state at_dispatch; /* of a run that no version of four fits */
 static int64_t buffer[FIR_ITEMS];
 static const int64_t words[] = {-1, 40};
 static uint8_t text[1u << 16];
+static image stored; /* in the form of 32 bits, which has 32,768 bytes in that of 64 */
+static image current; /* the same in the form of 64 bits */
+static uint8_t out[FIR_IMAGE_BYTES];
 
 static void nothing(void) { }
 static void check(void) { fir_check(tried.bytes, tried.length); }
@@ -29,6 +32,16 @@ static void step(void) { fir_step(tried.bytes, tried.length, &state); }
 static void budget(void) { fir_budget(tried.bytes, tried.length, &state, 100000, buffer, FIR_ITEMS); }
 static void run(void) { fir_run(tried.bytes, tried.length, 0, 0, words, 2, 100000, buffer, FIR_ITEMS, &state); }
 static void change(void) { fir_change(tried.bytes, tried.length, tried.bytes, tried.length, &midway); }
+static void check_in(void) { fir_check_in(stored.bytes, stored.length, FIR_FORM_32); }
+static void report_in(void) { fir_report_in(stored.bytes, stored.length, FIR_FORM_32, text, sizeof text); }
+static void widen(void) { fir_widen(stored.bytes, stored.length, out, sizeof out); }
+
+static void narrow(void)
+{
+    fir_narrow(current.bytes, current.length, out, sizeof out);
+    fir_narrow(tried.bytes, tried.length, out, sizeof out);
+}
+
 static void look(void) { fir_look(&state, 0, 3); }
 
 static void search(void)
@@ -37,7 +50,7 @@ static void search(void)
     fir_search(tried.bytes, tried.length, &midway);
 }
 
-/* Runs that are refused by 11, 12 and 13, and changes that are refused by 1 and by 15. */
+/* Runs that are refused by 11, 12 and 13, changes that are refused by 1 and by 15, and moves that are by 3 and by 17. */
 static void refusals(void)
 {
     fir_begin(tried.bytes, tried.length, 31, 3, words, 2, buffer, FIR_ITEMS, &state);
@@ -46,6 +59,8 @@ static void refusals(void)
     fir_budget(tried.bytes, tried.length, &state, 1000, buffer, FIR_ITEMS - 1);
     fir_change(tried.bytes, tried.length, tried.bytes, 0, &midway);
     fir_change(tried.bytes, 0, tried.bytes, tried.length, &midway);
+    fir_widen(current.bytes, current.length, out, sizeof out);
+    fir_widen(stored.bytes, stored.length, out, sizeof out - 1);
 }
 
 static void *call(void *function)
@@ -79,11 +94,18 @@ int main(void)
         void (*function)(void);
     } calls[] = {{"fir_check", check}, {"fir_report", report}, {"fir_begin", begin}, {"fir_step", step},
                  {"fir_budget", budget}, {"fir_run", run}, {"fir_change", change}, {"fir_look", look},
-                 {"fir_search", search}, {"refusals", refusals}};
+                 {"fir_search", search}, {"fir_check_in", check_in}, {"fir_report_in", report_in}, {"fir_widen", widen},
+                 {"fir_narrow", narrow}, {"refusals", refusals}};
     size_t least = depth(nothing);
     size_t deepest[sizeof calls / sizeof *calls] = {0};
     size_t i, kind;
     int failed = 0;
+    literals(&stored, FIR_FORM_32, 64, 38);
+    literals(&current, FIR_FORM_64, 64, 38);
+    if (fir_widen(stored.bytes, stored.length, out, sizeof out).question != FIR_ACCEPTED) {
+        printf("stack: the stored image is refused\n");
+        return 1;
+    }
     searching(&searched, FIR_VERSIONS, FIR_VERSIONS);
     fir_run(searched.bytes, searched.length, 0, 0, words, 2, SEARCH_STEPS, buffer, FIR_ITEMS, &at_dispatch);
     if (fir_search(searched.bytes, searched.length, &at_dispatch).looked != FIR_VERSIONS) {

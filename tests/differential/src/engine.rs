@@ -3,11 +3,47 @@
 use crate::snapshot::untouched;
 use library::{Entry, Ran, Run};
 use reference::bounds::Steps;
-use reference::{Answer, End, Integer, Refusal, Said, Verdict};
+use reference::{Answer, End, Form, Integer, Refusal, Said, Verdict};
 
 /// The proved library's verdict on an image.
 pub fn verdict(image: &[u8]) -> Verdict {
-    match library::verdict(image) {
+    verdict_of(library::verdict(image))
+}
+
+/// The same in a form.
+pub fn verdict_in(form: Form, image: &[u8]) -> Verdict {
+    verdict_of(library::verdict_in(image, form_of(form)))
+}
+
+/// What the proved library writes of an image in a form; none where the places do
+/// not suffice.
+pub fn report_in(form: Form, image: &[u8], places: usize) -> Option<Vec<u8>> {
+    let mut text = vec![0; places];
+    let length = library::report_in(image, form_of(form), &mut text)?;
+    text.truncate(length);
+    Some(text)
+}
+
+/// Moves an image of a form into a buffer; its length there.
+pub fn move_from(form: Form, image: &[u8], out: &mut [u8]) -> Result<usize, Refusal> {
+    let moved = match form {
+        Form::Narrow => library::widen(image, out),
+        Form::Wide => library::narrow(image, out),
+    };
+    moved.map_err(refusal)
+}
+
+/// A form as the library names it.
+fn form_of(form: Form) -> library::Form {
+    match form {
+        Form::Narrow => library::Form::Narrow,
+        Form::Wide => library::Form::Wide,
+    }
+}
+
+/// A verdict.
+fn verdict_of(verdict: library::Verdict) -> Verdict {
+    match verdict {
         library::Verdict::Accepted { versions } => Verdict::Accepted(versions),
         library::Verdict::Refused(no) => Verdict::Refused(refusal(no)),
     }

@@ -9,14 +9,15 @@ use crate::snapshot::{state_of, untouched, EMPTY, FILLING, INTEGER, PROMISED, VE
 use library::State as Snapshot;
 use library::{
     FirAnswer, FirEntry, FirSaid, FirSearched, FirValue, FirVerdict, ACTIVATION, CELLS,
-    FIR_ACCEPTED, FIR_DEEP, FIR_INTEGER, FIR_IS_INTEGER, FIR_IS_PROMISE, FIR_IS_VECTOR,
-    FIR_NOTHING, FIR_OUTSIDE, FIR_PROMISES, FIR_REFUSED, FIR_STEPS, FIR_STUCK, FIR_UNDEF,
-    FIR_VECTOR, FIR_VECTORS, OWNER, PROMISE,
+    FIR_ACCEPTED, FIR_DEEP, FIR_FORM_32, FIR_FORM_64, FIR_INTEGER, FIR_IS_INTEGER, FIR_IS_PROMISE,
+    FIR_IS_VECTOR, FIR_NOTHING, FIR_OUTSIDE, FIR_PROMISES, FIR_REFUSED, FIR_STEPS, FIR_STUCK,
+    FIR_UNDEF, FIR_VECTOR, FIR_VECTORS, OWNER, PROMISE,
 };
 use reference::bounds::{ITEMS, REGISTERS};
 use reference::state::Opener;
 use reference::{
-    change, verdict, Answer, End, Program, Refusal, Said, State, Status, Value, Verdict,
+    change, move_from, verdict_in, Answer, End, Form, Program, Refusal, Said, State, Status, Value,
+    Verdict,
 };
 use std::cell::RefCell;
 use std::rc::Rc;
@@ -182,7 +183,12 @@ extern "C" fn fir_state_alignment() -> usize {
 
 #[no_mangle]
 unsafe extern "C" fn fir_check(image: *const u8, length: usize) -> FirVerdict {
-    let (detail, question) = match verdict(lent(image, length)) {
+    fir_check_in(image, length, FIR_FORM_64)
+}
+
+#[no_mangle]
+unsafe extern "C" fn fir_check_in(image: *const u8, length: usize, form: u8) -> FirVerdict {
+    let (detail, question) = match verdict_in(form_of(form), lent(image, length)) {
         Verdict::Accepted(versions) => (versions, FIR_ACCEPTED),
         Verdict::Refused(refusal) => (refusal.offset, refusal.number),
     };
@@ -196,7 +202,18 @@ unsafe extern "C" fn fir_report(
     text: *mut u8,
     places: usize,
 ) -> usize {
-    let report = reference::report(lent(image, length));
+    fir_report_in(image, length, FIR_FORM_64, text, places)
+}
+
+#[no_mangle]
+unsafe extern "C" fn fir_report_in(
+    image: *const u8,
+    length: usize,
+    form: u8,
+    text: *mut u8,
+    places: usize,
+) -> usize {
+    let report = reference::report_in(form_of(form), lent(image, length));
     let text = slice::from_raw_parts_mut(text, places);
     match text.get_mut(..report.len()) {
         Some(text) => {
@@ -205,6 +222,48 @@ unsafe extern "C" fn fir_report(
         }
         None => 0,
     }
+}
+
+/// The form of a number.
+fn form_of(number: u8) -> Form {
+    match number {
+        FIR_FORM_32 => Form::Narrow,
+        _ => Form::Wide,
+    }
+}
+
+/// Moves an image of a form into a buffer.
+fn put_moved(form: Form, image: &[u8], out: &mut [u8]) -> FirVerdict {
+    let (detail, question) = match move_from(form, image, out.len()) {
+        Ok(moved) => {
+            out[..moved.len()].copy_from_slice(&moved);
+            (moved.len(), FIR_ACCEPTED)
+        }
+        Err(refusal) => (refusal.offset, refusal.number),
+    };
+    FirVerdict { detail, question }
+}
+
+#[no_mangle]
+unsafe extern "C" fn fir_widen(
+    image: *const u8,
+    length: usize,
+    out: *mut u8,
+    places: usize,
+) -> FirVerdict {
+    let out = slice::from_raw_parts_mut(out, places);
+    put_moved(Form::Narrow, lent(image, length), out)
+}
+
+#[no_mangle]
+unsafe extern "C" fn fir_narrow(
+    image: *const u8,
+    length: usize,
+    out: *mut u8,
+    places: usize,
+) -> FirVerdict {
+    let out = slice::from_raw_parts_mut(out, places);
+    put_moved(Form::Wide, lent(image, length), out)
 }
 
 #[no_mangle]

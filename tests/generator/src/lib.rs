@@ -12,6 +12,7 @@ mod draft;
 mod ends;
 mod fact;
 mod grow;
+mod moves;
 mod mutate;
 mod padding;
 mod random;
@@ -24,6 +25,7 @@ mod update;
 mod world;
 
 pub use grow::Trap;
+pub use moves::Move;
 pub use random::Random;
 pub use run::Event;
 pub use special::Special;
@@ -73,6 +75,12 @@ pub fn accepted_before(seed: u64) -> Vec<u8> {
     let mut random = Random::new(seed);
     let theme = Theme::any(&mut random);
     before::bytes(&theme::program(&mut random, theme))
+}
+
+/// An image of either form that is to be moved to the other, with a buffer for it:
+/// most can be moved, some are refused by a question of their form, by 16 or by 17.
+pub fn to_move(seed: u64) -> Move {
+    moves::any(&mut Random::new(seed))
 }
 
 /// An image that a question of 1 to 10, or 14, should refuse.

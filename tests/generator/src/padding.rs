@@ -20,7 +20,12 @@ const LARGEST: usize = SMALLEST + (REGISTERS - 1) + (INSTRUCTIONS - 1) * LIT;
 /// bytes, or nearly so many.
 pub fn pad(random: &mut Random, draft: &mut Draft) {
     let short = random.below(100);
-    let wished = MAX_IMAGE - random.pick(&[0, 0, 1, short]);
+    pad_to(draft, MAX_IMAGE - random.pick(&[0, 0, 1, short]));
+}
+
+/// Adds versions that do nothing of note, most of it by literals, until the image
+/// has exactly so many bytes, if it can.
+pub fn pad_to(draft: &mut Draft, wished: usize) {
     loop {
         let missing = wished.saturating_sub(draft.bytes().len());
         let (function, version) = draft.next_numbers();

@@ -3,7 +3,6 @@
 
 use crate::bounds::Integer;
 use crate::kinds;
-use crate::record::{record_bytes, Framed};
 
 /// A form of images.
 #[derive(Clone, Copy, PartialEq, Eq, Debug)]
@@ -20,6 +19,31 @@ impl Form {
         match self {
             Form::Narrow => kinds::NARROW_LIT,
             Form::Wide => kinds::LIT,
+        }
+    }
+
+    /// The other form.
+    pub fn other(self) -> Form {
+        match self {
+            Form::Narrow => Form::Wide,
+            Form::Wide => Form::Narrow,
+        }
+    }
+
+    /// The integers that a literal of the form can hold.
+    pub fn range(self) -> Range {
+        match self {
+            Form::Narrow => Range::NARROW,
+            Form::Wide => Range::WIDE,
+        }
+    }
+
+    /// The last bytes of a literal: its number, in as many bytes as the form's have;
+    /// what they cannot hold is cut off.
+    pub(crate) fn number_bytes(self, number: Integer) -> Vec<u8> {
+        match self {
+            Form::Narrow => (number as i32).to_le_bytes().to_vec(),
+            Form::Wide => number.to_le_bytes().to_vec(),
         }
     }
 
@@ -58,23 +82,4 @@ impl Range {
     pub fn ranged(self, integer: Integer) -> Option<Integer> {
         (self.least <= integer && integer <= self.greatest).then_some(integer)
     }
-}
-
-/// An image of the form before with each of its literals of kind 36; none if its
-/// records do not follow one another to its end.
-pub fn widened(image: &[u8]) -> Option<Vec<u8>> {
-    let (mut offset, mut wide) = (0, Vec::new());
-    while offset < image.len() {
-        let record = Framed::at(image, offset)?;
-        offset = record.end();
-        match (record.kind, record.body) {
-            (kinds::NARROW_LIT, &[d, ref number @ ..]) => {
-                let number = Form::Narrow.number(number)?;
-                let body = [&[d][..], &number.to_le_bytes()].concat();
-                wide.extend(record_bytes(kinds::LIT, &body));
-            }
-            _ => wide.extend(record_bytes(record.kind, record.body)),
-        }
-    }
-    Some(wide)
 }

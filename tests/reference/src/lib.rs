@@ -14,6 +14,7 @@
 //! | Steps | [`state`], [`counts`], [`outside`], [`steps`], [`search`] |
 //! | What demand 3 speaks of | [`monitor`], [`watched`] |
 //! | Program | [`report`] |
+//! | Moving stored images | [`moves`] |
 
 pub mod begin;
 pub mod bounds;
@@ -24,6 +25,7 @@ pub mod form;
 pub mod instruction;
 pub mod kinds;
 pub mod monitor;
+pub mod moves;
 pub mod outside;
 pub mod program;
 pub mod questions;
@@ -38,12 +40,13 @@ pub mod watched;
 pub use begin::begin;
 pub use bounds::Integer;
 pub use change::change;
-pub use form::{widened, Form, Range};
+pub use form::{Form, Range};
 pub use instruction::{Instruction, Name, Register};
+pub use moves::{move_accepted, move_from, moved, widened};
 pub use program::Program;
-pub use questions::{questions_1_to_7, verdict, Refusal, Verdict};
+pub use questions::{questions_1_to_7, verdict, verdict_in, Refusal, Verdict};
 pub use record::Record;
-pub use report::{report, report_of};
+pub use report::{report, report_in, report_of};
 pub use search::Search;
 pub use state::{End, State, Status, Value};
 pub use steps::{Answer, Said};

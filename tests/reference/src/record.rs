@@ -128,6 +128,17 @@ impl Record {
         }
     }
 
+    /// The record's bytes in a form; the number of a literal must fit it.
+    pub fn bytes_in(&self, form: Form) -> Vec<u8> {
+        match *self {
+            Record::Instruction(Instruction::Lit { d, value }) => {
+                let body = [&[d][..], &form.number_bytes(value)].concat();
+                record_bytes(form.literal(), &body)
+            }
+            _ => self.bytes(),
+        }
+    }
+
     /// The record's bytes in the form in force, head and body.
     pub fn bytes(&self) -> Vec<u8> {
         let body = match self {

@@ -1,13 +1,19 @@
 //! "Program": what `check` prints.
 
 use crate::flow::{body_action, Action};
+use crate::form::Form;
 use crate::program::{Program, Version};
 use crate::questions::Refusal;
 use std::fmt::Write;
 
 /// The lines that `check` prints for an image, each with its newline.
 pub fn report(image: &[u8]) -> String {
-    report_of(&Program::accept(image))
+    report_in(Form::Wide, image)
+}
+
+/// The same for an image in a form.
+pub fn report_in(form: Form, image: &[u8]) -> String {
+    report_of(&Program::accept_in(form, image))
 }
 
 /// The lines that `check` prints for what the questions said of an image.

@@ -3,7 +3,7 @@
 use crate::arguments::Argument;
 use crate::failure::Failure;
 use crate::help;
-use library::Entry;
+use library::{Entry, Form};
 use std::ffi::{OsStr, OsString};
 
 /// The steps that `fir run` takes at most, unless the command line says otherwise.
@@ -17,7 +17,12 @@ pub enum Command {
     /// A help text.
     Help(&'static str),
     /// `fir check`
-    Check(OsString),
+    Check {
+        /// The image.
+        file: OsString,
+        /// The form whose questions it is put to.
+        form: Form,
+    },
     /// `fir run`
     Run {
         /// The run.
@@ -27,6 +32,8 @@ pub enum Command {
     },
     /// `fir trace`
     Trace(Call),
+    /// `fir move`
+    Move(Move),
     /// `fir asm`
     Assemble(Conversion),
     /// `fir dis`
@@ -55,6 +62,17 @@ pub struct Then {
     pub file: OsString,
     /// After how many steps, counted from the start.
     pub step: u32,
+}
+
+/// Images that are to be moved.
+#[derive(Clone, PartialEq, Eq, Debug)]
+pub struct Move {
+    /// The images.
+    pub files: Vec<OsString>,
+    /// The file that is written, or the folder.
+    pub out: OsString,
+    /// The form that they are moved to.
+    pub to: Form,
 }
 
 /// From one file to another.
@@ -93,9 +111,10 @@ fn parse_command(name: &str, rest: &[OsString]) -> Result<Command, String> {
     let mut words = Words::new(rest);
     match name {
         "check" => {
+            let form = parse_form(&mut words, "--form")?;
             let file = words.file()?;
             words.finish()?;
-            Ok(Command::Check(file))
+            Ok(Command::Check { file, form })
         }
         "run" => {
             let stats = words.flag("--stats")?;
@@ -103,6 +122,7 @@ fn parse_command(name: &str, rest: &[OsString]) -> Result<Command, String> {
             Ok(Command::Run { call, stats })
         }
         "trace" => parse_call(words, TRACE_BUDGET).map(Command::Trace),
+        "move" => parse_move(words).map(Command::Move),
         "asm" => parse_conversion(words).map(Command::Assemble),
         _ => parse_conversion(words).map(Command::Disassemble),
     }
@@ -161,6 +181,34 @@ fn parse_conversion(mut words: Words) -> Result<Conversion, String> {
     let file = words.file()?;
     words.finish()?;
     Ok(Conversion { file, out })
+}
+
+/// Images that are to be moved.
+fn parse_move(mut words: Words) -> Result<Move, String> {
+    let to = parse_form(&mut words, "--to")?;
+    let out = words.option("-o")?;
+    let mut files = vec![words.file()?];
+    while !words.rest.is_empty() {
+        files.push(words.file()?);
+    }
+    let out = out.ok_or("-o is missing: the file or the folder to write to")?;
+    if files.len() > 1 && files.iter().any(|file| file == "-") {
+        return Err("standard input is named beside other images".to_string());
+    }
+    Ok(Move { files, out, to })
+}
+
+/// The form that an option names, that of 64 bits where it does not stand.
+fn parse_form(words: &mut Words, option: &str) -> Result<Form, String> {
+    match words.option(option)? {
+        None => Ok(Form::Wide),
+        Some(bits) if bits == "64" => Ok(Form::Wide),
+        Some(bits) if bits == "32" => Ok(Form::Narrow),
+        Some(bits) => Err(format!(
+            "{option} is 32 or 64, not `{}`",
+            bits.to_string_lossy()
+        )),
+    }
 }
 
 /// A number of steps.

@@ -2,12 +2,13 @@
 
 use crate::command::{Command, Conversion};
 use crate::failure::{Failure, Status};
+use crate::moving;
 use crate::refusal;
 use crate::running::{self, answered, Manner};
 use crate::source::{self, Source};
 use crate::streams::Streams;
 use crate::DONE;
-use library::Verdict;
+use library::{Form, Verdict};
 use std::ffi::OsStr;
 
 /// Does what a command line asks for; the exit status.
@@ -17,32 +18,36 @@ pub fn execute(command: &Command, streams: &mut Streams) -> Result<Status, Failu
             streams.write(text.as_bytes())?;
             DONE
         }
-        Command::Check(file) => check(file, streams),
+        Command::Check { file, form } => check(file, *form, streams),
         Command::Run { call, stats: false } => running::run(call, Manner::Budgets, streams),
         Command::Run { call, stats: true } => running::run(call, Manner::Counted, streams),
         Command::Trace(call) => running::run(call, Manner::Steps, streams),
+        Command::Move(asked) => moving::all(asked, streams),
         Command::Assemble(conversion) => assemble(conversion, streams),
         Command::Disassemble(conversion) => disassemble(conversion, streams),
     }
 }
 
 /// `fir check`
-fn check(file: &OsStr, streams: &mut Streams) -> Result<Status, Failure> {
+fn check(file: &OsStr, form: Form, streams: &mut Streams) -> Result<Status, Failure> {
     let source = Source::read(file, streams)?;
-    match library::verdict(&source.image) {
+    match library::verdict_in(&source.image, form) {
         Verdict::Accepted { .. } => {
-            streams.write(&report(&source.image))?;
+            streams.write(&report(&source.image, form))?;
             DONE
         }
-        Verdict::Refused(no) => answered(Status::No, streams.line(&refusal::line(&source, no))),
+        Verdict::Refused(no) => {
+            let line = refusal::line(moving::form_of(form), &source, no);
+            answered(Status::No, streams.line(&line))
+        }
     }
 }
 
-/// The text that the library reports of an image.
-fn report(image: &[u8]) -> Vec<u8> {
+/// The text that the library reports of an image in a form.
+fn report(image: &[u8], form: Form) -> Vec<u8> {
     let mut text = vec![0; 2048];
     loop {
-        if let Some(length) = library::report(image, &mut text) {
+        if let Some(length) = library::report_in(image, form, &mut text) {
             text.truncate(length);
             return text;
         }

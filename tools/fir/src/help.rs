@@ -9,7 +9,7 @@ pub struct Topic {
 }
 
 /// The commands.
-pub const COMMANDS: [Topic; 5] = [
+pub const COMMANDS: [Topic; 6] = [
     Topic {
         name: "check",
         help: CHECK,
@@ -23,6 +23,10 @@ pub const COMMANDS: [Topic; 5] = [
         help: TRACE,
     },
     Topic {
+        name: "move",
+        help: MOVE,
+    },
+    Topic {
         name: "asm",
         help: ASM,
     },
@@ -34,14 +38,15 @@ pub const COMMANDS: [Topic; 5] = [
 
 /// `fir --help`
 pub const ALL: &str = "\
-fir: checks and runs FIR images, by the proved library
+fir: checks, runs and moves FIR images, by the proved library
 
 usage:
-  fir check FILE                               is the image accepted, and if not, why?
+  fir check FILE [--form 32]                   is the image accepted, and if not, why?
   fir run FILE F.V [ARGUMENT..] [--budget N]   runs version V of function F
   fir trace FILE F.V [ARGUMENT..] [--budget N] the same, step by step
       [--then IMAGE@STEP]..                    both: goes on under another image
       [--stats]                                run: steps, calls and searches
+  fir move FILE.. -o OUT [--to 32|64]          stored images to 64 bits, or back
   fir asm FILE [-o OUT]                        from text to image
   fir dis FILE [-o OUT]                        from image to text
 
@@ -51,14 +56,14 @@ FILE holds the text form where its name ends in .fir, and an image's bytes
 otherwise; `-` is standard input, an image's bytes.
 
 exit status:
-  0  accepted; DONE; assembled
+  0  accepted; DONE; moved; assembled
   1  refused; UNDEF, STEPS, DEEP, VECTORS or PROMISES; a text that does not
      assemble; a trace or a conversion whose reader has gone
   2  bad usage, or a file that cannot be read or written
 ";
 
 const CHECK: &str = "\
-usage: fir check FILE
+usage: fir check FILE [--form 32|64]
 
 Puts the questions 1 to 7, 14 and 8 to 10 to an image. For an accepted one it
 prints, per version, `f.v R W U C`: how many registers its body reads before it
@@ -66,6 +71,10 @@ assigns them, assigns, leaves empty at its end, and captures; then `accepted` an
 the number of versions. For a refused one it prints a line: the question that says
 no, the offset of the first record that fails, the line of the text if FILE is
 one, and why.
+
+The questions are those of the form in force, whose literals have 64 bits. With
+--form 32 they are those of the form before: an image of that time is accepted or
+refused as it was then, by the same questions but for its literals.
 
 FILE holds the text form where its name ends in .fir, and an image's bytes
 otherwise; `-` is standard input, an image's bytes.
@@ -145,6 +154,39 @@ A file, FILE or IMAGE, holds the text form where its name ends in .fir, and an
 image's bytes otherwise; `-` is standard input, an image's bytes.
 
 exit status: 0 DONE, 1 refused, UNDEF or a stop, 2 bad usage
+";
+
+const MOVE: &str = "\
+usage: fir move FILE.. -o OUT [--to 32|64]
+
+Moves stored images to the form in force, whose literals have 64 bits, or with
+--to 32 back to the form before. Only literals change, and there and back gives
+the same bytes. An image is first put to the questions of the form that it comes
+from; then 16 asks that each literal fits 32 bits, and 17 that the moved image has
+at most 32,768 bytes. A refused image is not written.
+
+A single image is written to OUT, or into OUT under its own name where that is a
+folder; several are written into the folder OUT, which is made if it is missing.
+There is a line for each, and for several a count at the end; on a terminal it
+shows how far it is. An image that is refused, or cannot be read or written, does
+not stop the others.
+
+No image is written over: a command that would write to a file that it reads, or
+twice to the same, does nothing. Other files of these names are replaced. A file
+is written beside its place and then renamed, so none is ever there in part.
+
+FILE holds the text form where its name ends in .fir, and an image's bytes
+otherwise; `-` is standard input, an image's bytes. What is written are bytes, so
+its name may not end in .fir.
+
+example:
+  $ fir move old/*.bin -o new
+  old/defrost.bin: moved to new/defrost.bin, 259 bytes
+  old/spread.bin: refused by 4 at 90: the image ends where 1 more block of 1.3 is due
+  1 moved, 1 refused
+
+exit status: 0 all moved, 1 some refused, 2 bad usage or a file that cannot be
+read or written
 ";
 
 const ASM: &str = "\

@@ -1,14 +1,16 @@
-//! The command-line tool `fir`: it checks, runs, traces, assembles and
+//! The command-line tool `fir`: it checks, runs, traces, moves, assembles and
 //! disassembles FIR images.
 //!
-//! Verdicts, runs and single steps are those of the proved library. What the
-//! tool adds are words: why an image or a run is refused, and what a step did.
+//! Verdicts, runs, single steps and moved images are those of the proved library. What
+//! the tool adds are words: why an image or a run is refused, and what a step did; and
+//! files that are written whole.
 
 mod arguments;
 mod command;
 mod commands;
 mod failure;
 mod help;
+mod moving;
 mod number;
 mod place;
 mod refusal;

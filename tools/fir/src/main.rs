@@ -2,16 +2,18 @@
 
 use std::env;
 use std::ffi::OsString;
-use std::io;
+use std::io::{self, IsTerminal};
 use std::process::ExitCode;
 
 fn main() -> ExitCode {
     let arguments: Vec<OsString> = env::args_os().skip(1).collect();
     let (input, output, errors) = (io::stdin(), io::stdout(), io::stderr());
+    let terminal = errors.is_terminal();
     let mut streams = fir::Streams {
         input: &mut input.lock(),
         output: &mut io::BufWriter::new(output.lock()),
         errors: &mut errors.lock(),
+        terminal,
     };
     fir::run(&arguments, &mut streams).into()
 }

@@ -41,7 +41,7 @@ impl Source {
 
     /// The image of a file: from its text where the name ends in `.fir`, else from its bytes.
     pub fn read(file: &OsStr, streams: &mut Streams) -> Result<Source, Failure> {
-        if Path::new(file).extension() == Some(OsStr::new(TEXT)) {
+        if is_text(Path::new(file)) {
             Source::text(&text_of(file, streams)?, &name(file))
         } else {
             bytes_of(file, streams).map(Source::bytes)
@@ -55,6 +55,11 @@ impl Source {
         let inside = offset < self.image.len();
         before.last().filter(|_| inside).map(|&(_, line)| line)
     }
+}
+
+/// Does a file hold the text form, by its name?
+pub fn is_text(file: &Path) -> bool {
+    file.extension() == Some(OsStr::new(TEXT))
 }
 
 /// What a file is called in a message.

@@ -11,6 +11,8 @@ pub struct Streams<'a> {
     pub output: &'a mut dyn Write,
     /// Where complaints go.
     pub errors: &'a mut dyn Write,
+    /// Do complaints go to a terminal, which also shows how far a command is?
+    pub terminal: bool,
 }
 
 impl Streams<'_> {
@@ -33,6 +35,22 @@ impl Streams<'_> {
     pub fn complain(&mut self, line: &str) {
         let _ = self.flush();
         let _ = writeln!(self.errors, "{line}");
+    }
+}
+
+/// Takes back what the last line of a terminal shows.
+const CLEARED: &str = "\r\x1b[K";
+
+impl Streams<'_> {
+    /// Shows on a terminal how far a command is, in place of what was shown before;
+    /// nothing where there is none.
+    pub fn progress(&mut self, shown: &str) -> Result<(), Failure> {
+        if self.terminal {
+            self.flush()?;
+            let _ = write!(self.errors, "{CLEARED}{shown}");
+            let _ = self.errors.flush();
+        }
+        Ok(())
     }
 }
 

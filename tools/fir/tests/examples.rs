@@ -163,6 +163,14 @@ fn the_images_of_update_are_those_of_its_scripts() {
 }
 
 #[test]
+fn the_image_of_stored_is_that_of_its_script_in_32_bits() {
+    let source = fs::read_to_string(format!("{EXAMPLES}stored.c")).expect("it is there");
+    let image = fir(&["asm", &format!("{EXAMPLES}pump.fir")], b"").output;
+    let old = reference::move_from(reference::Form::Wide, &image, image.len());
+    assert_eq!(Ok(array(&source, "stored")), old);
+}
+
+#[test]
 fn riser_finds_the_greatest_demand_at_each_place() {
     for place in 0..16 {
         let demands: Vec<i64> = (0..16).map(|riser| i64::from(riser == place)).collect();
@@ -212,7 +220,7 @@ fn the_commands_of_the_readme_print_what_it_shows() {
     let commands = shown(include_str!("../../README.md"), "    ");
     let (with_output, without): (Vec<_>, Vec<_>) =
         commands.iter().partition(|shown| !shown.output.is_empty());
-    assert_eq!((with_output.len(), without.len()), (6, 2));
+    assert_eq!((with_output.len(), without.len()), (6, 4));
     for command in with_output {
         assert_printed(command, "README");
     }

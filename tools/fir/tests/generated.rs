@@ -5,6 +5,7 @@ mod support;
 use generator::{accepted, any, damaged_at, mutated, Random};
 use library::Verdict;
 use reference::questions::QUESTIONS;
+use reference::{moved, Form};
 use std::collections::BTreeMap;
 use support::{file, fir};
 
@@ -29,15 +30,19 @@ const GENERAL: [&str; 11] = [
     "no register is read before it is assigned, used while it is empty, or emptied after it is captured",
 ];
 
-/// Asserts what `fir check` says of an image; the question that refuses it.
+/// Asserts what `fir check` says of an image in a form; the question that refuses it.
 #[track_caller]
-fn checked(image: &[u8], origin: &str) -> Option<u8> {
-    let done = fir(&["check", "-"], image);
+fn checked(form: Form, image: &[u8], origin: &str) -> Option<u8> {
+    let (bits, of_library) = match form {
+        Form::Narrow => ("32", library::Form::Narrow),
+        Form::Wide => ("64", library::Form::Wide),
+    };
+    let done = fir(&["check", "-", "--form", bits], image);
     assert_eq!(done.errors, "", "{origin}");
-    match library::verdict(image) {
+    match library::verdict_in(image, of_library) {
         Verdict::Accepted { versions } => {
             assert_eq!(done.status, 0, "{origin}");
-            assert_eq!(done.text(), reference::report(image), "{origin}");
+            assert_eq!(done.text(), reference::report_in(form, image), "{origin}");
             let last = format!("accepted {versions}\n");
             assert!(done.text().ends_with(&last), "{origin}");
             None
@@ -68,7 +73,8 @@ fn checked(image: &[u8], origin: &str) -> Option<u8> {
 fn refusals_begin_with_the_proved_number_and_place_and_have_words() {
     let mut met = BTreeMap::new();
     let mut meet = |image: &[u8], origin: &str| {
-        *met.entry(checked(image, origin)).or_insert(0) += 1;
+        let question = checked(Form::Wide, image, origin);
+        *met.entry(question).or_insert(0) += 1;
     };
     for seed in 0..DAMAGED {
         for question in QUESTIONS {
@@ -85,6 +91,24 @@ fn refusals_begin_with_the_proved_number_and_place_and_have_words() {
         assert!(met.contains_key(&Some(question)), "never met: {question}");
     }
     assert!(met.contains_key(&None), "no image was accepted");
+}
+
+#[test]
+fn refusals_in_32_bits_have_words_too() {
+    let mut met = BTreeMap::new();
+    for seed in 0..DAMAGED / 2 {
+        for question in QUESTIONS {
+            let image = damaged_at(question, seed);
+            let image = moved(Form::Wide, &image).unwrap_or(image);
+            let origin = format!("damaged at {question}, seed {seed}");
+            let question = checked(Form::Narrow, &image, &origin);
+            *met.entry(question).or_insert(0) += 1;
+        }
+    }
+    println!("{met:?}");
+    for question in QUESTIONS {
+        assert!(met.contains_key(&Some(question)), "never met: {question}");
+    }
 }
 
 /// Asserts that an image comes back from its text byte for byte.

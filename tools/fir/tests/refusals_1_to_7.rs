@@ -62,7 +62,7 @@ fn question_3_names_the_kind_or_the_length() {
     );
     refused(
         &identity_with(13, &[16]),
-        "refused by 3 at 11: 16 was the kind of LIT with 32 bits; now LIT is kind 36, of 64",
+        "refused by 3 at 11: 16 was the kind of LIT with 32 bits; now LIT is kind 36, and `fir move` moves the image",
     );
     refused(
         &identity_with(13, &[36]),

@@ -41,6 +41,8 @@ fn word(random: &mut Random, files: &[String]) -> OsString {
         "--budget=",
         "--then",
         "--stats",
+        "--form",
+        "--to",
         "-@3",
         "0.",
         ".",
@@ -75,7 +77,7 @@ fn word(random: &mut Random, files: &[String]) -> OsString {
 /// A command line; what is written goes to a file of the test's own.
 fn line(random: &mut Random, files: &[String], out: &str) -> Vec<OsString> {
     let command = random.pick(&[
-        "check", "check", "run", "run", "trace", "asm", "dis", "help",
+        "check", "check", "run", "run", "trace", "move", "asm", "dis", "help",
     ]);
     let mut line: Vec<OsString> = vec![command.into(), random.pick(files).into()];
     if command == "run" || command == "trace" {
@@ -87,7 +89,13 @@ fn line(random: &mut Random, files: &[String], out: &str) -> Vec<OsString> {
             line.splice(1..1, ["--then".into(), then.into()]);
         }
     }
-    if command == "asm" || command == "dis" {
+    if command == "check" && random.one_in(3) {
+        line.extend(["--form".into(), random.pick(&["32", "64", "8"]).into()]);
+    }
+    if command == "move" && random.one_in(2) {
+        line.extend(["--to".into(), random.pick(&["32", "64", ""]).into()]);
+    }
+    if ["asm", "dis", "move"].contains(&command) {
         line.extend(["-o".into(), out.into()]);
     }
     match random.below(12) {

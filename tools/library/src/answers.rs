@@ -10,7 +10,7 @@ use crate::raw::{FirAnswer, FirEntry, FirSaid, FirSearched, FirValue, FirVerdict
 /// A no: the question, and the offset of the first record that fails.
 #[derive(Clone, Copy, PartialEq, Eq, Debug)]
 pub struct Refusal {
-    /// The question, 1 to 15.
+    /// The question, 1 to 17.
     pub question: u8,
     /// The offset of the record; the image's length where records or, by 15, a
     /// version are missing.
@@ -119,6 +119,18 @@ impl From<FirVerdict> for Verdict {
             question => Verdict::Refused(Refusal {
                 question,
                 offset: verdict.detail,
+            }),
+        }
+    }
+}
+
+impl From<FirVerdict> for Result<usize, Refusal> {
+    fn from(moved: FirVerdict) -> Result<usize, Refusal> {
+        match moved.question {
+            FIR_ACCEPTED => Ok(moved.detail),
+            question => Err(Refusal {
+                question,
+                offset: moved.detail,
             }),
         }
     }

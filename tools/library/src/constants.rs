@@ -49,6 +49,15 @@ pub const FIR_REFUSED_ARGUMENTS: u8 = 12;
 pub const FIR_REFUSED_BUFFER: u8 = 13;
 /// Every version with a live call has the same bytes and number in both images.
 pub const FIR_REFUSED_CHANGE: u8 = 15;
+/// Every literal of an image that is moved fits 32 bits.
+pub const FIR_REFUSED_LITERAL: u8 = 16;
+/// The moved image has at most 32,768 bytes and fits the buffer.
+pub const FIR_REFUSED_ROOM: u8 = 17;
+
+/// The form in force, whose literals have 64 bits.
+pub const FIR_FORM_64: u8 = 0;
+/// The form before, whose literals have 32 bits.
+pub const FIR_FORM_32: u8 = 1;
 
 /// The run goes on: the step was taken, or the budget is used up.
 pub const FIR_STEPS: u8 = 0;

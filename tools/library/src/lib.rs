@@ -1,4 +1,4 @@
-//! The proved FIR library, safe to call: it checks images and runs them.
+//! The proved FIR library, safe to call: it checks images, moves and runs them.
 //!
 //! What `fir.h` asks of its caller holds by construction: slices and `&mut` rule
 //! out null, misaligned and overlapping memory, that a state has the layout that
@@ -9,6 +9,7 @@
 mod answers;
 mod checking;
 mod constants;
+mod moving;
 mod parts;
 mod raw;
 mod run;
@@ -17,6 +18,7 @@ mod state;
 pub use answers::{Answer, End, Held, Ran, Refusal, Said, Search, Verdict};
 pub use checking::{report, verdict};
 pub use constants::*;
+pub use moving::{narrow, report_in, verdict_in, widen, Form};
 pub use parts::{Activation, Opener, Promise};
 #[cfg(feature = "stand_in")]
 pub use raw::{FirAnswer, FirEntry, FirSaid, FirSearched, FirValue, FirVerdict};

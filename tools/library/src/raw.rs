@@ -2,10 +2,11 @@
 
 use crate::state::State;
 
-/// A verdict: `FIR_ACCEPTED` and the number of versions, or a question and its offset.
+/// A verdict: `FIR_ACCEPTED` and the number of versions, of a move the length of the
+/// moved image, or a question and its offset.
 #[repr(C)]
 pub struct FirVerdict {
-    /// How many versions, or the offset.
+    /// How many versions, how long, or the offset.
     pub detail: usize,
     /// The question, or `FIR_ACCEPTED`.
     pub question: u8,
@@ -81,6 +82,26 @@ extern "C" {
         text: *mut u8,
         text_length: usize,
     ) -> usize;
+    pub fn fir_check_in(image: *const u8, image_length: usize, form: u8) -> FirVerdict;
+    pub fn fir_report_in(
+        image: *const u8,
+        image_length: usize,
+        form: u8,
+        text: *mut u8,
+        text_length: usize,
+    ) -> usize;
+    pub fn fir_widen(
+        image: *const u8,
+        image_length: usize,
+        out: *mut u8,
+        out_length: usize,
+    ) -> FirVerdict;
+    pub fn fir_narrow(
+        image: *const u8,
+        image_length: usize,
+        out: *mut u8,
+        out_length: usize,
+    ) -> FirVerdict;
     pub fn fir_begin(
         image: *const u8,
         image_length: usize,

@@ -1,8 +1,9 @@
 //! Each call of the proved library, on images whose answers are worked out by hand.
 
 use library::{
-    report, verdict, Activation, Answer, End, Entry, Held, Opener, Promise, Ran, Refusal, Run,
-    Said, Search, State, Verdict, CELLS, FIR_ITEMS, FIR_REGISTERS,
+    narrow, report, report_in, verdict, verdict_in, widen, Activation, Answer, End, Entry, Form,
+    Held, Opener, Promise, Ran, Refusal, Run, Said, Search, State, Verdict, CELLS, FIR_ITEMS,
+    FIR_REGISTERS,
 };
 
 /// The version that the runs enter.
@@ -61,6 +62,57 @@ fn a_report_needs_room_for_all_of_it() {
     let mut short = vec![7; expected.len() - 1];
     assert_eq!(report(&image(), &mut short), None);
     assert_eq!(short, vec![7; expected.len() - 1]);
+}
+
+/// Gives the literal -3, in the form of 32 bits.
+const OLD: [u8; 27] = [
+    11, 0, 1, 0, 0, 0, 0, 1, 2, 1, 2, 7, 0, 2, 0, 0, 0, 1, 9, 0, 16, 0, 0, 0xFD, 255, 255, 255,
+];
+
+/// The same in the form of 64 bits.
+const NEW: [u8; 31] = [
+    11, 0, 1, 0, 0, 0, 0, 1, 2, 1, 2, 7, 0, 2, 0, 0, 0, 1, 13, 0, 36, 0, 0, 0xFD, 255, 255, 255,
+    255, 255, 255, 255,
+];
+
+#[test]
+fn an_image_is_moved_there_and_back_and_places_past_it_stay() {
+    let mut out = [7; 40];
+    assert_eq!(widen(&OLD, &mut out), Ok(31));
+    assert_eq!((&out[..31], &out[31..]), (&NEW[..], &[7; 9][..]));
+    let mut back = [7; 27];
+    assert_eq!(narrow(&NEW, &mut back), Ok(27));
+    assert_eq!(back, OLD);
+}
+
+#[test]
+fn a_refused_move_writes_nothing() {
+    let mut out = [7; 40];
+    assert_eq!(widen(&NEW, &mut out), Err(no(3, 18)));
+    assert_eq!(narrow(&OLD, &mut out), Err(no(3, 18)));
+    assert_eq!(widen(&OLD, &mut out[..30]), Err(no(17, 0)));
+    assert_eq!(narrow(&NEW, &mut out[..26]), Err(no(17, 0)));
+    let mut large = NEW;
+    large[27] = 0;
+    assert_eq!(narrow(&large, &mut out), Err(no(16, 18)));
+    assert_eq!(narrow(&large, &mut out[..0]), Err(no(16, 18)));
+    assert_eq!(out, [7; 40]);
+}
+
+#[test]
+fn each_form_has_its_verdict_and_its_report() {
+    let accepted = Verdict::Accepted { versions: 1 };
+    for (form, image, other) in [(Form::Narrow, &OLD[..], &NEW[..]), (Form::Wide, &NEW, &OLD)] {
+        assert_eq!(verdict_in(image, form), accepted);
+        assert_eq!(verdict_in(other, form), Verdict::Refused(no(3, 18)));
+        let expected = b"0.0 0 1 0 0\naccepted 1\n";
+        let mut text = [7; 40];
+        assert_eq!(report_in(image, form, &mut text), Some(expected.len()));
+        assert_eq!(&text[..expected.len()], expected);
+        let mut short = vec![7; expected.len() - 1];
+        assert_eq!(report_in(image, form, &mut short), None);
+        assert_eq!(short, vec![7; expected.len() - 1]);
+    }
 }
 
 #[test]

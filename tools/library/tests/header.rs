@@ -54,6 +54,8 @@ fn bounds_and_questions() -> Vec<(&'static str, usize)> {
         FIR_REFUSED_ARGUMENTS,
         FIR_REFUSED_BUFFER,
         FIR_REFUSED_CHANGE,
+        FIR_REFUSED_LITERAL,
+        FIR_REFUSED_ROOM,
     ];
     [&bounds[..], &questions].concat()
 }
@@ -75,6 +77,8 @@ fn constants() -> Vec<(&'static str, usize)> {
         FIR_IS_VECTOR,
         FIR_IS_PROMISE,
         FIR_OUTSIDE,
+        FIR_FORM_64,
+        FIR_FORM_32,
     ];
     [&bounds_and_questions()[..], &answers].concat()
 }

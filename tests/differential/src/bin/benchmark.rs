@@ -1,8 +1,10 @@
-//! How long a verdict takes, by the proved library and by the reference.
+//! How long a verdict takes, by the proved library and by the reference, and how
+//! long the move of an image to the form of 32 bits, which asks for one.
 
 use cases::image;
+use library::FIR_IMAGE_BYTES;
 use reference::questions::records;
-use reference::{verdict, Verdict};
+use reference::{move_from, verdict, Form, Verdict};
 use std::fmt::Write;
 use std::hint::black_box;
 use std::time::Instant;
@@ -44,6 +46,7 @@ fn main() {
     println!("microseconds per verdict, {ROUNDS} rounds of each checker in turn\n");
     compare("typical", &typical(), 1000);
     compare("largest", &largest(), 20);
+    compare("literals", &literals(), 20);
 }
 
 /// Times both checkers on an accepted image, so many verdicts in a round.
@@ -55,12 +58,14 @@ fn compare(name: &str, image: &[u8], verdicts: u32) {
     let records = records(image).expect("an accepted image").len();
     let bytes = image.len();
     println!("{name} accepted image: {bytes} bytes, {records} records, {versions} versions");
-    let (mut proved, mut reference) = (Times(vec![]), Times(vec![]));
+    let [mut proved, mut reference, mut moved] = [const { Times(Vec::new()) }; 3];
     for _ in 0..ROUNDS {
         proved.add(verdicts, || library::verdict(black_box(image)));
         reference.add(verdicts, || verdict(black_box(image)));
+        moved.add(verdicts, || narrowed(black_box(image)));
     }
     print_line("proved library", proved.min(), proved.median());
+    print_line("moved", moved.min(), moved.median());
     print_line("reference", reference.min(), reference.median());
     // How many times as long the reference takes.
     let ratio = |time: fn(&Times) -> f64| time(&reference) / time(&proved);
@@ -68,20 +73,41 @@ fn compare(name: &str, image: &[u8], verdicts: u32) {
     println!();
 }
 
+/// The first byte of an image that the proved library moves to the form of 32 bits.
+fn narrowed(image: &[u8]) -> u8 {
+    let mut out = [0; FIR_IMAGE_BYTES];
+    library::narrow(image, &mut out).expect("its literals fit");
+    out[0]
+}
+
 /// A line of the table.
 fn print_line(name: &str, min: f64, median: f64) {
     println!("  {name:<18}min {min:>10.2}   median {median:>10.2}");
 }
 
-/// The first generated image of the typical number of records.
+/// The first generated image of the typical number of records whose literals fit 32
+/// bits.
 fn typical() -> Vec<u8> {
     let mut images = (0..).map(generator::accepted);
-    let is_typical = |image: &Vec<u8>| records(image).is_some_and(|r| r.len() == TYPICAL);
+    let is_typical = |image: &Vec<u8>| {
+        records(image).is_some_and(|r| r.len() == TYPICAL)
+            && move_from(Form::Wide, image, image.len()).is_ok()
+    };
     images.find(is_typical).expect("one of the seeds gives it")
 }
 
 /// 64 versions of 512 bytes, which together are the most bytes of an image.
 fn largest() -> Vec<u8> {
+    image(&(0..64).map(version).collect::<String>())
+}
+
+/// 64 versions of 38 literals each, which together are the most bytes of an image.
+fn literals() -> Vec<u8> {
+    let version = |index: usize| {
+        let literals = "r0 = lit -7\n".repeat(38);
+        let (function, version) = (index / 4, index % 4);
+        format!("version {function}.{version}() -> int\nregisters r0: int\nblock 0 quiet -> r0\n{literals}")
+    };
     image(&(0..64).map(version).collect::<String>())
 }
 

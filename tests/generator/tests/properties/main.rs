@@ -7,6 +7,7 @@ mod damaged;
 mod division;
 mod ends;
 mod events;
+mod moves;
 mod refill;
 mod round_trip;
 mod runs;

@@ -37,5 +37,10 @@ pub fn question3(form: Form, framed: &[Framed]) -> Result<Vec<Placed<Record>>, u
 
 /// The records of an image that passes questions 2 and 3, whatever its size and order.
 pub fn records(image: &[u8]) -> Option<Vec<Placed<Record>>> {
-    question3(Form::Wide, &question2(image).ok()?).ok()
+    records_in(Form::Wide, image)
+}
+
+/// The same of an image in a form.
+pub fn records_in(form: Form, image: &[u8]) -> Option<Vec<Placed<Record>>> {
+    question3(form, &question2(image).ok()?).ok()
 }

@@ -9,7 +9,7 @@ mod places;
 mod skips;
 
 pub use fit::{gives, needs, result_fits, Gives, Need};
-pub use framing::records;
+pub use framing::{records, records_in};
 
 use crate::flow;
 use crate::form::Form;
@@ -38,7 +38,12 @@ pub enum Verdict {
 
 /// What the questions say of an image.
 pub fn verdict(image: &[u8]) -> Verdict {
-    Verdict::of(&Program::accept(image))
+    verdict_in(Form::Wide, image)
+}
+
+/// What the questions of a form say of an image.
+pub fn verdict_in(form: Form, image: &[u8]) -> Verdict {
+    Verdict::of(&Program::accept_in(form, image))
 }
 
 impl Verdict {
@@ -63,7 +68,7 @@ impl Program {
     }
 
     /// The same in a form.
-    fn ordered_in(form: Form, image: &[u8]) -> Result<Program, Refusal> {
+    pub fn ordered_in(form: Form, image: &[u8]) -> Result<Program, Refusal> {
         put(1, framing::question1(image))?;
         let framed = put(2, framing::question2(image))?;
         let records = put(3, framing::question3(form, &framed))?;

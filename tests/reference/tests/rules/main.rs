@@ -4,6 +4,7 @@ mod support;
 
 mod image_bytes;
 mod mistakes;
+mod moves;
 mod proved_cases;
 mod question10;
 mod question10_refill;

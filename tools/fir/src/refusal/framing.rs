@@ -3,8 +3,8 @@
 use super::vocabulary::kind_name;
 use crate::number::many;
 use reference::bounds::MAX_IMAGE;
-use reference::kinds;
 use reference::record::{Framed, Record, HEAD};
+use reference::{kinds, Form};
 
 /// Question 1: why an image's size is wrong.
 pub fn size(image: &[u8]) -> Option<String> {
@@ -43,15 +43,15 @@ pub fn record(image: &[u8], offset: usize) -> Option<String> {
 }
 
 /// Question 3: why the record at an offset has no known kind or not its length.
-pub fn fields(image: &[u8], offset: usize) -> Option<String> {
+pub fn fields(form: Form, image: &[u8], offset: usize) -> Option<String> {
     let framed = Framed::at(image, offset)?;
-    if framed.kind == kinds::NARROW_LIT {
-        return Some("16 was the kind of LIT with 32 bits; now LIT is kind 36, of 64".to_string());
+    if framed.kind == form.other().literal() {
+        return Some(foreign(form).to_string());
     }
     let Some(name) = kind_name(framed.kind) else {
         return Some(format!("{} is the kind of no record", framed.kind));
     };
-    if Record::read(framed.kind, framed.body).is_some() {
+    if Record::read_in(form, framed.kind, framed.body).is_some() {
         return None;
     }
     let has = HEAD + framed.body.len();
@@ -63,6 +63,16 @@ pub fn fields(image: &[u8], offset: usize) -> Option<String> {
         }
         Length::Least(length) => format!("{name} has {length} bytes at least, this one {has}"),
     })
+}
+
+/// Why a form does not know the literal of the other.
+fn foreign(form: Form) -> &'static str {
+    match form {
+        Form::Narrow => "36 is the kind of LIT with 64 bits; in the form of 32 bits LIT is kind 16",
+        Form::Wide => {
+            "16 was the kind of LIT with 32 bits; now LIT is kind 36, and `fir move` moves the image"
+        }
+    }
 }
 
 /// How long a record is.
@@ -89,6 +99,7 @@ fn needed(kind: u16, body: &[u8]) -> Length {
         kinds::VEC => counted(1, 2, 1),
         kinds::CALL => counted(3, 4, 1),
         kinds::DISPATCH => counted(4, 5, 2),
+        kinds::NARROW_LIT => Length::Whole(HEAD + 5),
         kinds::LIT => Length::Whole(HEAD + 9),
         kinds::ARITH | kinds::SELECT => Length::Whole(HEAD + 4),
         kinds::BLOCK | kinds::GET | kinds::SET | kinds::PEEK | kinds::POKE => {

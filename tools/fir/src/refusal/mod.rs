@@ -1,4 +1,4 @@
-//! Why an image, a run or a change of image is refused, in words.
+//! Why an image, a run, a change of image or a move is refused, in words.
 //!
 //! The question and the offset are the proved library's. The words come from
 //! looking at the record there for what the question asks; where that finds
@@ -11,6 +11,7 @@ mod existence;
 mod fit;
 mod flow;
 mod framing;
+mod moves;
 mod order;
 mod skips;
 mod types;
@@ -22,11 +23,22 @@ use crate::source::Source;
 use library::{Entry, Refusal, State};
 use reference::program::{Block, Program, Version};
 use reference::record::Placed;
-use reference::Instruction;
+use reference::{Form, Instruction};
 
-/// The line for an image that is refused.
-pub fn line(source: &Source, no: Refusal) -> String {
-    with_words(source, no, diagnosis(source, no))
+/// The line for an image of a form that is refused.
+pub fn line(form: Form, source: &Source, no: Refusal) -> String {
+    with_words(source, no, diagnosis(form, source, no))
+}
+
+/// The line for a move from a form that is refused.
+pub fn of_move(form: Form, source: &Source, no: Refusal) -> String {
+    let words = match no.question {
+        3 => moves::already(form, &source.image, no.offset).or_else(|| diagnosis(form, source, no)),
+        16 => moves::literal(&source.image, no.offset),
+        17 => moves::room(form, &source.image),
+        _ => diagnosis(form, source, no),
+    };
+    with_words(source, no, words)
 }
 
 /// The line for a run that is refused.
@@ -34,7 +46,7 @@ pub fn of_run(source: &Source, no: Refusal, entry: Entry, given: &[Argument]) ->
     let words = match no.question {
         11 => arguments::entry(&source.image, entry),
         12 => arguments::arguments(&source.image, entry, given),
-        _ => diagnosis(source, no),
+        _ => diagnosis(Form::Wide, source, no),
     };
     with_words(source, no, words)
 }
@@ -43,7 +55,7 @@ pub fn of_run(source: &Source, no: Refusal, entry: Entry, given: &[Argument]) ->
 pub fn of_change(old: &Source, new: &Source, no: Refusal, state: &State) -> String {
     let words = match no.question {
         15 => change::change(old, new, no.offset, state),
-        _ => diagnosis(new, no),
+        _ => diagnosis(Form::Wide, new, no),
     };
     with_words(new, no, words)
 }
@@ -51,7 +63,7 @@ pub fn of_change(old: &Source, new: &Source, no: Refusal, state: &State) -> Stri
 /// The line with the words that were found, or with the question's own.
 fn with_words(source: &Source, no: Refusal, words: Option<String>) -> String {
     let place = match no.question {
-        2..=10 | 14 | 15 => place(source, no.offset),
+        2..=10 | 14..=16 => place(source, no.offset),
         _ => no.offset.to_string(),
     };
     let words = words.unwrap_or_else(|| rule(no.question).to_string());
@@ -59,16 +71,16 @@ fn with_words(source: &Source, no: Refusal, words: Option<String>) -> String {
 }
 
 /// What the record at the refusal's offset does wrong, if it is found.
-fn diagnosis(source: &Source, no: Refusal) -> Option<String> {
+fn diagnosis(form: Form, source: &Source, no: Refusal) -> Option<String> {
     let (image, offset) = (&source.image[..], no.offset);
     match no.question {
         1 => framing::size(image),
         2 => framing::record(image, offset),
-        3 => framing::fields(image, offset),
-        4 => order::bounds(image, offset),
-        5 => order::numbering(image, offset),
+        3 => framing::fields(form, image, offset),
+        4 => order::bounds(form, image, offset),
+        5 => order::numbering(form, image, offset),
         6..=10 | 14 => {
-            let program = Program::ordered(image).ok()?;
+            let program = Program::ordered_in(form, image).ok()?;
             let found = Found::at(&program, offset)?;
             match no.question {
                 6 => types::type_bytes(&found),
@@ -149,6 +161,8 @@ fn rule(question: u8) -> &'static str {
         12 => "each argument matches its parameter, and there are as many",
         13 => "the result buffer has at least 16 places",
         15 => "every version with a live call has the same bytes and number in both images",
+        16 => "every literal of an image that is moved fits 32 bits",
+        17 => "a moved image has at most 32,768 bytes and fits the buffer",
         _ => "no question has this number",
     }
 }
@@ -160,14 +174,14 @@ mod tests {
     /// The line for a refusal of some image.
     fn said(image: &[u8], question: u8, offset: usize) -> String {
         let source = Source::bytes(image.to_vec());
-        line(&source, Refusal { question, offset })
+        line(Form::Wide, &source, Refusal { question, offset })
     }
 
     #[test]
     fn a_refusal_that_no_diagnosis_explains_gets_the_rule() {
         let text = "version 0.0(r0: int) -> int\nblock 0 quiet -> r0";
         let image = text::assemble(text).expect("a text that is well formed");
-        for question in 1..=15 {
+        for question in 1..=17 {
             for offset in [0, 11, 18, 400_000] {
                 let expected = format!("refused by {question} at {offset}: {}", rule(question));
                 assert_eq!(said(&image, question, offset), expected);

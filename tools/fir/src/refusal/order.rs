@@ -6,13 +6,13 @@ use reference::bounds::{
     BLOCKS, FUNCTIONS, INSTRUCTIONS, LISTED, PARAMETERS, REGISTERS, VERSIONS, VERSIONS_EACH,
 };
 use reference::kinds::OPERATIONS;
-use reference::questions::records;
+use reference::questions::records_in;
 use reference::record::{BlockRecord, Record, VersionRecord};
-use reference::{Instruction, Mark};
+use reference::{Form, Instruction, Mark};
 
 /// Question 4: what is out of bounds or out of order at an offset.
-pub fn bounds(image: &[u8], offset: usize) -> Option<String> {
-    let records = records(image)?;
+pub fn bounds(form: Form, image: &[u8], offset: usize) -> Option<String> {
+    let records = records_in(form, image)?;
     let mut due = Due::default();
     for placed in &records {
         if placed.offset == offset {
@@ -183,8 +183,8 @@ fn instruction_out_of_bounds(instruction: &Instruction) -> Option<String> {
 }
 
 /// Question 5: which version was due at an offset.
-pub fn numbering(image: &[u8], offset: usize) -> Option<String> {
-    let records = records(image)?;
+pub fn numbering(form: Form, image: &[u8], offset: usize) -> Option<String> {
+    let records = records_in(form, image)?;
     let versions = records.iter().filter_map(|placed| match &placed.item {
         Record::Version(head) => Some((placed.offset, head.function, head.version)),
         _ => None,

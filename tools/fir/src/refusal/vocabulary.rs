@@ -26,7 +26,7 @@ pub fn kind_name(kind: u16) -> Option<&'static str> {
         kinds::CALL => "CALL",
         kinds::DISPATCH => "DISPATCH",
         kinds::SKIP => "SKIP",
-        kinds::LIT => "LIT",
+        kinds::NARROW_LIT | kinds::LIT => "LIT",
         _ => return None,
     })
 }

@@ -26,7 +26,12 @@ impl Done {
 }
 
 /// Does what the arguments say, with this standard input.
-pub fn fir_of(arguments: &[OsString], mut input: &[u8]) -> Done {
+pub fn fir_of(arguments: &[OsString], input: &[u8]) -> Done {
+    fir_on(arguments, input, false)
+}
+
+/// The same where standard error is, or is not, a terminal.
+pub fn fir_on(arguments: &[OsString], mut input: &[u8], terminal: bool) -> Done {
     let (mut output, mut errors) = (Vec::new(), Vec::new());
     let status = fir::run(
         arguments,
@@ -34,6 +39,7 @@ pub fn fir_of(arguments: &[OsString], mut input: &[u8]) -> Done {
             input: &mut input,
             output: &mut output,
             errors: &mut errors,
+            terminal,
         },
     );
     let errors = String::from_utf8(errors).expect("plain text");
