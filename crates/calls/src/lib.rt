@@ -450,7 +450,8 @@ pub fn search(
     pick(image, table, &offered, function, mark, returns, n)
 }
 
-/// How many versions the function has. Serves `searches`, which makes `table` the image's index.
+/// How many versions the function has. `searches` calls it with the image's index as `table`, as the loop keeps it: a test would
+/// make the index once more.
 pub fn versions_of(image: &[u8], table: &[u16; 1152], function: u8) -> usize
     requires { ⌜ Indexed (now image) (now table) ⌝ }
     ensures { λ r. ⌜ (r ≡ versionsOf (programOf (now (image .entry))) function) × (r ≤ 4) ⌝ }
