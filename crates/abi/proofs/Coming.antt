@@ -6,11 +6,11 @@ use mathlib.Core.Option.{Option, none, some}
 use Prim.Native.Nat.{ℕ, zero, suc, _+_, _≤_}
 use lib.IntN.{ℤ}
 use lib.ListN.{length}
-use lib.Dec.{ltb}
+use lib.Dec.{leb, ltb}
 use Rattle.program.specs.Program.{Program, Version, findVersion, parameterTypes}
 use Rattle.checker.specs.Verdicts.{verdictOf}
 use Rattle.checker.specs.declared.Verdict.{Verdict}
-use Rattle.machine.specs.Begin.{Given, arguments, beginAfter, beginOf, enteredOf, programOf, question11, question12, question13, refused, runOf}
+use Rattle.machine.specs.Begin.{Given, arguments, beginAfter, beginOf, enteredOf, programOf, question11, question12, question13, question19, refused, runLevel, runOf}
 use Rattle.machine.specs.Calls.{closed}
 use Rattle.machine.specs.Runs.{budgetIn, budgetInTo, budgetOf, budgetOfTo, continued, longEnough, runFrom, runFromTo, stepOf, written}
 use Rattle.machine.specs.States.{itemsOf, over, withEnd, withStack}
@@ -174,26 +174,30 @@ begun-13 s buffer g = go (longEnough buffer) refl g
     go true e g = e
     go false e g = absurd (refused-begun 13 0 (rw (e, question13) at g))
 
-begun-entered : (P : Program) (f v : ℕ) (words buffer : List ℤ) → enteredOf P f v words buffer .entry ≡ Entry.Begun → longEnough buffer ≡ true
-unfolding enteredOf question11 question12 refused
-begun-entered P f v words buffer = go (findVersion P f v)
+begun-entered : (P : Program) (level f v : ℕ) (words buffer : List ℤ) → enteredOf P level f v words buffer .entry ≡ Entry.Begun → longEnough buffer ≡ true
+unfolding enteredOf question11 question19 question12 refused
+begun-entered P level f v words buffer = go (findVersion P f v)
   where
     given : (W : Version) (o : Option (List Given)) → question12 W o buffer .entry ≡ Entry.Begun → longEnough buffer ≡ true
     given W none g = absurd (refused-begun 12 0 g)
     given W (some xs) g = begun-13 _ buffer g
 
-    go : (o : Option Version) → question11 o words buffer .entry ≡ Entry.Begun → longEnough buffer ≡ true
+    low : (W : Version) (b : Bool) → leb (W .level) (runLevel level) ≡ b → question19 level W words buffer .entry ≡ Entry.Begun → longEnough buffer ≡ true
+    low W true l g = given W (arguments (parameterTypes W) words) (rw (l, question19) at g)
+    low W false l g = absurd (refused-begun 19 0 (rw (l, question19) at g))
+
+    go : (o : Option Version) → question11 level o words buffer .entry ≡ Entry.Begun → longEnough buffer ≡ true
     go none g = absurd (refused-begun 11 0 g)
-    go (some W) g = given W (arguments (parameterTypes W) words) g
+    go (some W) g = low W (leb (W .level) (runLevel level)) refl g
 
 -- a run that has begun was lent a buffer that is long enough
-begun-long : (image : List ℕ) (f v : ℕ) (words buffer : List ℤ) → beginOf image f v words buffer .entry ≡ Entry.Begun → longEnough buffer ≡ true
+begun-long : (image : List ℕ) (level f v : ℕ) (words buffer : List ℤ) → beginOf image level f v words buffer .entry ≡ Entry.Begun → longEnough buffer ≡ true
 unfolding beginOf beginAfter refused
-begun-long image f v words buffer = go (verdictOf image)
+begun-long image level f v words buffer = go (verdictOf image)
   where
-    go : (a : Verdict) → beginAfter a (programOf image) f v words buffer .entry ≡ Entry.Begun → longEnough buffer ≡ true
+    go : (a : Verdict) → beginAfter a (programOf image) level f v words buffer .entry ≡ Entry.Begun → longEnough buffer ≡ true
     go (Verdict.Refused q p) h = absurd (refused-begun q p h)
-    go (Verdict.Accepted n) h = begun-entered (programOf image) f v words buffer h
+    go (Verdict.Accepted n) h = begun-entered (programOf image) level f v words buffer h
 
 -- whatever the state was before, a budget that is taken leaves the same
 taken-left : (P : Program) (s : State) (n : ℕ) (buffer : List ℤ) (E E′ X : Snapshot) → longEnough buffer ≡ true → Left (budgetOf P s n buffer .answer) (budgetOf P s n buffer .state) E X → Left (budgetOf P s n buffer .answer) (budgetOf P s n buffer .state) E′ X
@@ -214,15 +218,15 @@ began-begun : (x : Entry) (s : State) (E X : Snapshot) → x ≡ Entry.Begun →
 unfolding Began
 began-begun x s E X e h = rw e at h
 
-module _ (image : List ℕ) (f v : ℕ) (words : List ℤ) (n : ℕ) (buffer : List ℤ) (E X : Snapshot) (x : Entry) (h : (x ≡ beginOf image f v words buffer .entry) × Began x (beginOf image f v words buffer .state) E X) where
+module _ (image : List ℕ) (level f v : ℕ) (words : List ℤ) (n : ℕ) (buffer : List ℤ) (E X : Snapshot) (x : Entry) (h : (x ≡ beginOf image level f v words buffer .entry) × Began x (beginOf image level f v words buffer .state) E X) where
   abbrev begun : Begun
-  begun = beginOf image f v words buffer
+  begun = beginOf image level f v words buffer
 
-  pub run-answers-refused : {r : FirAnswer} (q p : ℕ) → x ≡ Entry.Refused q p → r ≡ answerNumbers (Answer.Refused q p) 0 → Answers r (runOf image f v words n buffer) E X buffer buffer
-  run-answers-refused q p e g = answers-refused (begun .state) q p buffer (run-refused image f v words n buffer begun refl q p (sym (h .0) ∙ e)) g (began-refused x (begun .state) E X q p e (h .1))
+  pub run-answers-refused : {r : FirAnswer} (q p : ℕ) → x ≡ Entry.Refused q p → r ≡ answerNumbers (Answer.Refused q p) 0 → Answers r (runOf image level f v words n buffer) E X buffer buffer
+  run-answers-refused q p e g = answers-refused (begun .state) q p buffer (run-refused image level f v words n buffer begun refl q p (sym (h .0) ∙ e)) g (began-refused x (begun .state) E X q p e (h .1))
 
-  pub run-answers : {r : FirAnswer} (Y : Snapshot) {last : List ℤ} → x ≡ Entry.Begun → Answers r (budgetOf (programOf image) (held X) n buffer) X Y buffer last → Answers r (runOf image f v words n buffer) E Y buffer last
+  pub run-answers : {r : FirAnswer} (Y : Snapshot) {last : List ℤ} → x ≡ Entry.Begun → Answers r (budgetOf (programOf image) (held X) n buffer) X Y buffer last → Answers r (runOf image level f v words n buffer) E Y buffer last
   run-answers {r} Y {last} e g =
       let start : held X ≡ begun .state = began-begun x (begun .state) E X e (h .1) in
-      rw (← run-begun image f v words n buffer begun refl (sym (h .0) ∙ e) (λ i. budgetOf (programOf image) (start i) n buffer))
-      (record { numbers = g .numbers; state = taken-left (programOf image) (held X) n buffer X E Y (begun-long image f v words buffer (sym (h .0) ∙ e)) (g .state); written = g .written })
+      rw (← run-begun image level f v words n buffer begun refl (sym (h .0) ∙ e) (λ i. budgetOf (programOf image) (start i) n buffer))
+      (record { numbers = g .numbers; state = taken-left (programOf image) (held X) n buffer X E Y (begun-long image level f v words buffer (sym (h .0) ∙ e)) (g .state); written = g .written })

@@ -1,4 +1,4 @@
--- The first state of a run, in the parts of a state, and questions 11 to 13.
+-- The first state of a run, in the parts of a state, and questions 11, 19, 12 and 13.
 use mathlib.Core.Path.{_≡_, refl, ap, subst, _∙_}
 use mathlib.Core.List.{List}
 use Prim.Native.Nat.{ℕ}

@@ -115,9 +115,10 @@ fn entered<'s>(
     Entry::Begun
 }
 
-/// Begins a run: its first state is written. A refusal writes nothing.
+/// Begins a run at a level: its first state is written. A refusal writes nothing.
 fn enter<'s>(
     image: &[u8],
+    level: usize,
     function: usize,
     version: usize,
     words: &[i64],
@@ -137,39 +138,45 @@ fn enter<'s>(
     length: &'s mut u8,
     value: &'s mut i64,
 ) -> Entry
-    ensures { λ r. ⌜ (r ≡ beginOf (now (image .entry)) function version (now (words .entry)) (now (buffer .entry)) .entry) × Began r (beginOf (now (image .entry)) function version (now (words .entry)) (now (buffer .entry)) .state) (snapshotOf (now (numbers .entry)) (now (items .entry)) (now (caches .entry)) (now (result .entry)) (now (codes .entry)) (now (owners .entry)) (now (stack .entry)) (now (lengths .entry)) (now (promises .entry)) (now (calls .entry)) (now (depth .entry)) (now (status .entry)) (now (length .entry)) (now (value .entry))) (snapshotOf (now (numbers .exit)) (now (items .exit)) (now (caches .exit)) (now (result .exit)) (now (codes .exit)) (now (owners .exit)) (now (stack .exit)) (now (lengths .exit)) (now (promises .exit)) (now (calls .exit)) (now (depth .exit)) (now (status .exit)) (now (length .exit)) (now (value .exit))) ⌝ }
+    ensures { λ r. ⌜ (r ≡ beginOf (now (image .entry)) level function version (now (words .entry)) (now (buffer .entry)) .entry) × Began r (beginOf (now (image .entry)) level function version (now (words .entry)) (now (buffer .entry)) .state) (snapshotOf (now (numbers .entry)) (now (items .entry)) (now (caches .entry)) (now (result .entry)) (now (codes .entry)) (now (owners .entry)) (now (stack .entry)) (now (lengths .entry)) (now (promises .entry)) (now (calls .entry)) (now (depth .entry)) (now (status .entry)) (now (length .entry)) (now (value .entry))) (snapshotOf (now (numbers .exit)) (now (items .exit)) (now (caches .exit)) (now (result .exit)) (now (codes .exit)) (now (owners .exit)) (now (stack .exit)) (now (lengths .exit)) (now (promises .exit)) (now (calls .exit)) (now (depth .exit)) (now (status .exit)) (now (length .exit)) (now (value .exit))) ⌝ }
 {
     match questions::verdict(image) {
         Verdict::Refused(q, p) => Entry::Refused(q, p as u16),
         Verdict::Accepted(_) => match lookup::version(image, function, version) {
             Found::Nothing => Entry::Refused(11, 0),
-            Found::At(v) => entered(
-                image,
-                v,
-                words,
-                buffer,
-                numbers,
-                items,
-                caches,
-                result,
-                codes,
-                owners,
-                stack,
-                lengths,
-                promises,
-                calls,
-                depth,
-                status,
-                length,
-                value,
-            ),
+            Found::At(v) => {
+                if !begin::may_enter(image, level, v) {
+                    return Entry::Refused(19, 0);
+                }
+                entered(
+                    image,
+                    v,
+                    words,
+                    buffer,
+                    numbers,
+                    items,
+                    caches,
+                    result,
+                    codes,
+                    owners,
+                    stack,
+                    lengths,
+                    promises,
+                    calls,
+                    depth,
+                    status,
+                    length,
+                    value,
+                )
+            }
         },
     }
 }
 
-/// Begins a run.
+/// Begins a run at a level.
 pub fn begin<'s>(
     image: &[u8],
+    level: usize,
     function: usize,
     version: usize,
     words: &[i64],
@@ -189,10 +196,11 @@ pub fn begin<'s>(
     length: &'s mut u8,
     value: &'s mut i64,
 ) -> FirEntry
-    ensures { λ r. ⌜ (r ≡ entryNumbers (beginOf (now (image .entry)) function version (now (words .entry)) (now (buffer .entry)) .entry)) × Began (beginOf (now (image .entry)) function version (now (words .entry)) (now (buffer .entry)) .entry) (beginOf (now (image .entry)) function version (now (words .entry)) (now (buffer .entry)) .state) (snapshotOf (now (numbers .entry)) (now (items .entry)) (now (caches .entry)) (now (result .entry)) (now (codes .entry)) (now (owners .entry)) (now (stack .entry)) (now (lengths .entry)) (now (promises .entry)) (now (calls .entry)) (now (depth .entry)) (now (status .entry)) (now (length .entry)) (now (value .entry))) (snapshotOf (now (numbers .exit)) (now (items .exit)) (now (caches .exit)) (now (result .exit)) (now (codes .exit)) (now (owners .exit)) (now (stack .exit)) (now (lengths .exit)) (now (promises .exit)) (now (calls .exit)) (now (depth .exit)) (now (status .exit)) (now (length .exit)) (now (value .exit))) ⌝ }
+    ensures { λ r. ⌜ (r ≡ entryNumbers (beginOf (now (image .entry)) level function version (now (words .entry)) (now (buffer .entry)) .entry)) × Began (beginOf (now (image .entry)) level function version (now (words .entry)) (now (buffer .entry)) .entry) (beginOf (now (image .entry)) level function version (now (words .entry)) (now (buffer .entry)) .state) (snapshotOf (now (numbers .entry)) (now (items .entry)) (now (caches .entry)) (now (result .entry)) (now (codes .entry)) (now (owners .entry)) (now (stack .entry)) (now (lengths .entry)) (now (promises .entry)) (now (calls .entry)) (now (depth .entry)) (now (status .entry)) (now (length .entry)) (now (value .entry))) (snapshotOf (now (numbers .exit)) (now (items .exit)) (now (caches .exit)) (now (result .exit)) (now (codes .exit)) (now (owners .exit)) (now (stack .exit)) (now (lengths .exit)) (now (promises .exit)) (now (calls .exit)) (now (depth .exit)) (now (status .exit)) (now (length .exit)) (now (value .exit))) ⌝ }
 {
     let entry = enter(
         image,
+        level,
         function,
         version,
         words,
@@ -215,9 +223,10 @@ pub fn begin<'s>(
     answers::entry(entry)
 }
 
-/// Begins a run and goes on with it under its first budget.
+/// Begins a run at a level, and goes on with it under its first budget.
 pub fn run<'s>(
     image: &[u8],
+    level: usize,
     function: usize,
     version: usize,
     words: &[i64],
@@ -238,10 +247,11 @@ pub fn run<'s>(
     length: &'s mut u8,
     value: &'s mut i64,
 ) -> FirAnswer
-    ensures { λ r. ⌜ Answers r (runOf (now (image .entry)) function version (now (words .entry)) steps (now (buffer .entry))) (snapshotOf (now (numbers .entry)) (now (items .entry)) (now (caches .entry)) (now (result .entry)) (now (codes .entry)) (now (owners .entry)) (now (stack .entry)) (now (lengths .entry)) (now (promises .entry)) (now (calls .entry)) (now (depth .entry)) (now (status .entry)) (now (length .entry)) (now (value .entry))) (snapshotOf (now (numbers .exit)) (now (items .exit)) (now (caches .exit)) (now (result .exit)) (now (codes .exit)) (now (owners .exit)) (now (stack .exit)) (now (lengths .exit)) (now (promises .exit)) (now (calls .exit)) (now (depth .exit)) (now (status .exit)) (now (length .exit)) (now (value .exit))) (now (buffer .entry)) (now (buffer .exit)) ⌝ }
+    ensures { λ r. ⌜ Answers r (runOf (now (image .entry)) level function version (now (words .entry)) steps (now (buffer .entry))) (snapshotOf (now (numbers .entry)) (now (items .entry)) (now (caches .entry)) (now (result .entry)) (now (codes .entry)) (now (owners .entry)) (now (stack .entry)) (now (lengths .entry)) (now (promises .entry)) (now (calls .entry)) (now (depth .entry)) (now (status .entry)) (now (length .entry)) (now (value .entry))) (snapshotOf (now (numbers .exit)) (now (items .exit)) (now (caches .exit)) (now (result .exit)) (now (codes .exit)) (now (owners .exit)) (now (stack .exit)) (now (lengths .exit)) (now (promises .exit)) (now (calls .exit)) (now (depth .exit)) (now (status .exit)) (now (length .exit)) (now (value .exit))) (now (buffer .entry)) (now (buffer .exit)) ⌝ }
 {
     let entry = enter(
         image,
+        level,
         function,
         version,
         words,

@@ -101,21 +101,23 @@ pub extern "C" fn fir_narrow(image: &[u8], out: &mut [u8]) -> FirVerdict
     answers::moved(moves::narrow(image, out))
 }
 
-/// Begins a run of a version of a function: its first state is written. A refusal writes nothing. The buffer is asked for its
-/// length only.
+/// Begins a run, at a level, of a version of a function: its first state is written. A refusal writes nothing. The buffer is asked
+/// for its length only.
 #[no_mangle]
 pub extern "C" fn fir_begin(
     image: &[u8],
+    level: usize,
     function: usize,
     version: usize,
     words: &[i64],
     buffer: &[i64],
     state: &mut Snapshot,
 ) -> FirEntry
-    ensures { λ r. ⌜ (r ≡ entryNumbers (beginOf (now (image .entry)) function version (now (words .entry)) (now (buffer .entry)) .entry)) × Began (beginOf (now (image .entry)) function version (now (words .entry)) (now (buffer .entry)) .entry) (beginOf (now (image .entry)) function version (now (words .entry)) (now (buffer .entry)) .state) (now (state .entry)) (now (state .exit)) ⌝ }
+    ensures { λ r. ⌜ (r ≡ entryNumbers (beginOf (now (image .entry)) level function version (now (words .entry)) (now (buffer .entry)) .entry)) × Began (beginOf (now (image .entry)) level function version (now (words .entry)) (now (buffer .entry)) .entry) (beginOf (now (image .entry)) level function version (now (words .entry)) (now (buffer .entry)) .state) (now (state .entry)) (now (state .exit)) ⌝ }
 {
     entry::begin(
         image,
+        level,
         function,
         version,
         words,
@@ -193,10 +195,11 @@ pub extern "C" fn fir_budget(
     )
 }
 
-/// Begins a run and takes at most `budget` steps. A refusal writes nothing.
+/// Begins a run at a level, and takes at most `budget` steps. A refusal writes nothing.
 #[no_mangle]
 pub extern "C" fn fir_run(
     image: &[u8],
+    level: usize,
     function: usize,
     version: usize,
     words: &[i64],
@@ -204,10 +207,11 @@ pub extern "C" fn fir_run(
     buffer: &mut [i64],
     state: &mut Snapshot,
 ) -> FirAnswer
-    ensures { λ r. ⌜ Answers r (runOf (now (image .entry)) function version (now (words .entry)) budget (now (buffer .entry))) (now (state .entry)) (now (state .exit)) (now (buffer .entry)) (now (buffer .exit)) ⌝ }
+    ensures { λ r. ⌜ Answers r (runOf (now (image .entry)) level function version (now (words .entry)) budget (now (buffer .entry))) (now (state .entry)) (now (state .exit)) (now (buffer .entry)) (now (buffer .exit)) ⌝ }
 {
     entry::run(
         image,
+        level,
         function,
         version,
         words,

@@ -19,7 +19,7 @@ use Rattle.checker.proofs.Limits.{limited}
 use Rattle.machine.specs.States.{ITEMS, newFrame, over}
 use Rattle.machine.specs.Calls.{frameFor}
 use Rattle.machine.specs.Runs.{longEnough}
-use Rattle.machine.specs.Begin.{Given, arguments, firstState, refused, question11, question12, question13, enteredOf, beginAfter, beginOf, valuesOf, vectorsOf}
+use Rattle.machine.specs.Begin.{Given, arguments, firstState, refused, runLevel, question19, question11, question12, question13, enteredOf, beginAfter, beginOf, valuesOf, vectorsOf}
 use Rattle.machine.specs.declared.Begun.{Begun}
 use Rattle.machine.specs.declared.Entry.{Entry}
 use Rattle.machine.specs.declared.Frame.{Frame}
@@ -67,20 +67,31 @@ module _ (W : Version) (o : Option (List Given)) (buffer : List ℤ) (m : Filled
       go none k = absurd (true≢false (sym k))
       go (some xs) k = rw (question13-by (firstState (frameFor W (valuesOf xs 0) ∷ []) (vectorsOf xs)) buffer, le-leb ITEMS (length buffer) l) refl
 
+-- ---- question 19
+
+module _ (level : ℕ) (W : Version) (words buffer : List ℤ) {b : Bool} (e : b ≡ leb (W .level) (runLevel level)) where
+  pub level-above : b ≡ false → refused 19 0 ≡ question19 level W words buffer
+  unfolding question19
+  level-above h = rw (← e, h, question19) refl
+
+  pub level-within : b ≡ true → question12 W (arguments (parameterTypes W) words) buffer ≡ question19 level W words buffer
+  unfolding question19
+  level-within h = rw (← e, h, question19) refl
+
 -- ---- question 11, behind those to the image
 
-module _ (s : List ℕ) (f v : ℕ) (words buffer : List ℤ) where
-  pub refused-by : (q p : ℕ) → verdictOf s ≡ Refused q p → refused q p ≡ beginOf s f v words buffer
+module _ (s : List ℕ) (level f v : ℕ) (words buffer : List ℤ) where
+  pub refused-by : (q p : ℕ) → verdictOf s ≡ Refused q p → refused q p ≡ beginOf s level f v words buffer
   unfolding beginOf beginAfter
   refused-by q p e = rw e refl
 
   module _ (k : ℕ) (e : verdictOf s ≡ Accepted k) where
-    pub no-entry : versionPlace s f v ≡ Nothing → refused 11 0 ≡ beginOf s f v words buffer
+    pub no-entry : versionPlace s f v ≡ Nothing → refused 11 0 ≡ beginOf s level f v words buffer
     unfolding beginOf beginAfter enteredOf question11
     no-entry h = rw (e, version-missing s f v h) refl
 
     module _ (q : ℕ) (h : versionPlace s f v ≡ At q) where
-      pub entry-at : question12 (versionAt s q) (arguments (parameterTypes (versionAt s q)) words) buffer ≡ beginOf s f v words buffer
+      pub entry-at : question19 level (versionAt s q) words buffer ≡ beginOf s level f v words buffer
       unfolding beginOf beginAfter enteredOf question11
       entry-at = rw (e, version-found s f v q h .0) refl
 

@@ -1,13 +1,14 @@
-//! Beginning a run: the questions to its image, 11 to 13 behind them, and the state before its first step.
+//! Beginning a run: the questions to its image, 11, 19, 12 and 13 behind them, and the state before its first step.
 ghost use mathlib.Core.Path.{_≡_};
 ghost use mathlib.Core.List.{[]};
 ghost use mathlib.Core.Option.{bind, none};
 ghost use Prim.Native.Nat.{_+_, _≤_};
+ghost use lib.Dec.{leb};
 ghost use lib.ListN.{length, take, drop};
 ghost use Rattle.program.specs.Places.{versionAt};
 ghost use Rattle.program.specs.Program.{parameterTypes};
 ghost use Rattle.machine.specs.States.{ITEMS, newVector};
-ghost use Rattle.machine.specs.Begin.{first, matched, arguments, firstState, question12, beginOf};
+ghost use Rattle.machine.specs.Begin.{first, matched, arguments, firstState, question12, runLevel, question19, beginOf};
 ghost use Rattle.machine.specs.Begin as begins;
 ghost use Rattle.begin.specs.Filled.{Limited, argumentOf, filledOf, startedOf};
 use checker::Verdict;
@@ -248,15 +249,51 @@ fn entered(image: &[u8], v: usize, words: &[i64], buffer: &[i64]) -> Begun
     }
 }
 
-/// Begins a run of a version of a function of an image: its state before the first step, or a refusal.
-pub fn begin(image: &[u8], function: usize, version: usize, words: &[i64], buffer: &[i64]) -> Begun
-    ensures { λ r. ⌜ r ≡ beginOf (now (image .entry)) function version (now (words .entry)) (now (buffer .entry)) ⌝ }
+/// The level of a run that states this one: above 2 it counts as 2.
+fn run_level(level: usize) -> usize
+    ensures { λ r. ⌜ r ≡ runLevel level ⌝ }
+{
+    if level < layout::bounds::LEVELS {
+        level
+    } else {
+        layout::bounds::LEVELS - 1
+    }
+}
+
+/// Question 19: is the version at `v` not above the level of a run that states this one?
+pub fn may_enter(image: &[u8], level: usize, v: usize) -> bool
+    ensures { λ r. ⌜ r ≡ leb (versionAt (now (image .entry)) v .level) (runLevel level) ⌝ }
+{
+    lookup::level(image, v) <= run_level(level)
+}
+
+/// A run, at a level, of the version at `v`: question 19, then 12 and 13.
+fn entered_at(image: &[u8], level: usize, v: usize, words: &[i64], buffer: &[i64]) -> Begun
+    requires { ⌜ Limited (versionAt (now image) v) ⌝ }
+    ensures { λ r. ⌜ r ≡ question19 level (versionAt (now (image .entry)) v) (now (words .entry)) (now (buffer .entry)) ⌝ }
+{
+    if !may_enter(image, level, v) {
+        return refused(19, 0);
+    }
+    entered(image, v, words, buffer)
+}
+
+/// Begins a run, at a level, of a version of a function of an image: its state before the first step, or a refusal.
+pub fn begin(
+    image: &[u8],
+    level: usize,
+    function: usize,
+    version: usize,
+    words: &[i64],
+    buffer: &[i64],
+) -> Begun
+    ensures { λ r. ⌜ r ≡ beginOf (now (image .entry)) level function version (now (words .entry)) (now (buffer .entry)) ⌝ }
 {
     match questions::verdict(image) {
         Verdict::Refused(q, p) => refused(q, p as u16),
         Verdict::Accepted(_) => match lookup::version(image, function, version) {
             Found::Nothing => refused(11, 0),
-            Found::At(v) => entered(image, v, words, buffer),
+            Found::At(v) => entered_at(image, level, v, words, buffer),
         },
     }
 }

@@ -234,7 +234,7 @@ unfolding allTo
 all-same p q i zero h = refl
 all-same p q i (suc n) h = rw (h i (omega arith) (omega arith), all-same p q (suc i) n (λ j a b. h j (omega arith) (omega arith))) refl
 
-and-none : (b : Bool) → (b and false) ≡ false
+pub and-none : (b : Bool) → (b and false) ≡ false
 unfolding _and_
 and-none true = refl
 and-none false = refl

@@ -10,7 +10,7 @@ use lib.ListN.{length, set}
 use lib.Seq.{getD-set-same, getD-set-other}
 use lib.Dec.{eqb, leb}
 use borrow.Author.Tests.{eq-eqb, ne-eqb, eqb-true, eqb-false}
-use Rattle.layout.proofs.Bools.{and-on, and-off}
+use Rattle.layout.proofs.Bools.{and-on, and-off, and-true}
 use Rattle.layout.proofs.Fields.{every-at, length-every}
 use Rattle.layout.proofs.Rows.{Rows, choose-each}
 use Rattle.layout.specs.Records.{_!_, bodyAt, kindAt}
@@ -24,8 +24,8 @@ use Rattle.machine.proofs.Matching.{same-length}
 use Rattle.machine.specs.Calls.{dispatches, matching, sameOwnerships}
 use Rattle.kinds.specs.Kinds.{kindOr}
 use Rattle.calls.specs.Entering.{allTo, parametersOf}
-use Rattle.calls.specs.Searching.{Offers, allOf, both, passesBy, taken}
-use Rattle.calls.proofs.Arguments.{all-next, all-same, parameter-at, parameters-length}
+use Rattle.calls.specs.Searching.{Offers, allOf, both, passesBy, suitsBy, taken}
+use Rattle.calls.proofs.Arguments.{all-next, all-same, and-none, parameter-at, parameters-length}
 use Rattle.kinds.proofs.Kinded.{Over}
 
 -- ---- an argument in one number
@@ -173,10 +173,10 @@ taken-all (a ∷ pairs) (k ∷ ks) (t ∷ ts) x e f h =
     (swap (eqb (ownershipOf (a .type)) (ownershipOf t)) (within k (kindOf t)) (sameOwnerships pairs ts) (matching ks ts))
 
 -- as the machine has it
-pub passes-in : (xs : List ℕ) (mark ret n : ℕ) (pairs : List Argument) (ks : List ℕ) → length pairs ≡ n → length ks ≡ n
-    → ((j : ℕ) → j < n → Offers (xs ! j) (ks ! j) (typesOf pairs ! j)) → (X : Version) → passesBy xs mark ret n X ≡ dispatches mark ret pairs ks X
-unfolding passesBy dispatches
-passes-in xs mark ret n pairs ks l m o X = go (eqb n (parametersOf X)) refl
+pub passes-in : (xs : List ℕ) (level mark ret n : ℕ) (pairs : List Argument) (ks : List ℕ) → length pairs ≡ n → length ks ≡ n
+    → ((j : ℕ) → j < n → Offers (xs ! j) (ks ! j) (typesOf pairs ! j)) → (X : Version) → passesBy xs level mark ret n X ≡ dispatches level mark ret pairs ks X
+unfolding passesBy suitsBy dispatches
+passes-in xs level mark ret n pairs ks l m o X = ap (λ b. leb (X .level) level and b) (go (eqb n (parametersOf X)) refl)
   where
     off : (b : Bool) → sameOwnerships pairs (parameterTypes X) ≡ b → (n ≡ parametersOf X → ⊥) → sameOwnerships pairs (parameterTypes X) ≡ false
     off true f h = absurd (h (sym l ∙ same-length pairs (parameterTypes X) f ∙ parameters-length X))
@@ -188,49 +188,60 @@ passes-in xs mark ret n pairs ks l m o X = go (eqb n (parametersOf X)) refl
         ∙ ap (allTo (λ j. taken (xs ! j) (parameterTypes X ! j)) 0) (sym l)
         ∙ taken-all pairs ks (parameterTypes X) (λ j. xs ! j) (omega (arith, l, f, parameters-length X)) (omega (arith, m, f, parameters-length X)) (λ j h. o j (omega (arith, h, l)))
 
-    go : (b : Bool) → eqb n (parametersOf X) ≡ b → passesBy xs mark ret n X ≡ dispatches mark ret pairs ks X
+    go : (b : Bool) → eqb n (parametersOf X) ≡ b
+        → suitsBy xs mark ret n X ≡ (sameOwnerships pairs (parameterTypes X) and eqb (ownershipOf (X .return)) (ownershipOf ret) and within (kindOf (X .return)) (kindOf ret) and leb (markOf X) mark and matching ks (parameterTypes X))
     go true e = and-on _ e ∙ rw (fit (eqb-true _ _ e)) (shuffle _ _ _ _ _)
     go false e = and-off _ e ∙ sym (and-off _ (off (sameOwnerships pairs (parameterTypes X)) refl (eqb-false _ _ e)))
 
 -- ---- by the answers that the code has in hand
 
 module _ (xs : List ℕ) (mark ret n : ℕ) (s : List ℕ) (v : ℕ) where
-  abbrev passesAt : Bool
-  passesAt = passesBy xs mark ret n (versionAt s v)
+  abbrev suitsAt : Bool
+  suitsAt = suitsBy xs mark ret n (versionAt s v)
 
-  pub passes-uneven : {m : ℕ} → m ≡ parametersOf (versionAt s v) → (n ≡ m → ⊥) → false ≡ passesAt
-  unfolding passesBy
-  passes-uneven e h = sym (and-off _ (ne-eqb n (parametersOf (versionAt s v)) (λ z. h (z ∙ sym e))))
+  pub suits-uneven : {m : ℕ} → m ≡ parametersOf (versionAt s v) → (n ≡ m → ⊥) → false ≡ suitsAt
+  unfolding suitsBy
+  suits-uneven e h = sym (and-off _ (ne-eqb n (parametersOf (versionAt s v)) (λ z. h (z ∙ sym e))))
 
   module _ {m : ℕ} (counted : m ≡ parametersOf (versionAt s v)) (even : n ≡ m) where
     as-many : eqb n (parametersOf (versionAt s v)) ≡ true
     as-many = eq-eqb n (parametersOf (versionAt s v)) (even ∙ counted)
 
-    pub passes-refused : allTo (λ i. taken (xs ! i) (versionAt s v .types ! i)) 0 n ≡ false → false ≡ passesAt
-    unfolding passesBy
-    passes-refused e = sym (and-on _ as-many ∙ and-off _ e)
+    pub suits-refused : allTo (λ i. taken (xs ! i) (versionAt s v .types ! i)) 0 n ≡ false → false ≡ suitsAt
+    unfolding suitsBy
+    suits-refused e = sym (and-on _ as-many ∙ and-off _ e)
 
     module _ (all : allTo (λ i. taken (xs ! i) (versionAt s v .types ! i)) 0 n ≡ true) (t : ℕ) (told : t ≡ bodyAt s v ! 4) where
       returned : versionAt s v .return ≡ t
       unfolding versionAt
       returned = sym told
 
-      pub passes-other : (t / 16 ≡ ret / 16 → ⊥) → false ≡ passesAt
-      unfolding passesBy ownershipOf
-      passes-other h = sym (and-on _ as-many ∙ and-on _ all ∙ and-off _ (ne-eqb (versionAt s v .return / 16) (ret / 16) (rw returned h)))
+      pub suits-other : (t / 16 ≡ ret / 16 → ⊥) → false ≡ suitsAt
+      unfolding suitsBy ownershipOf
+      suits-other h = sym (and-on _ as-many ∙ and-on _ all ∙ and-off _ (ne-eqb (versionAt s v .return / 16) (ret / 16) (rw returned h)))
 
       module _ (owned : t / 16 ≡ ret / 16) where
         own : eqb (ownershipOf (versionAt s v .return)) (ownershipOf ret) ≡ true
         unfolding ownershipOf
         own = eq-eqb (versionAt s v .return / 16) (ret / 16) (rw returned owned)
 
-        pub passes-outside : within (t % 16) (ret % 16) ≡ false → false ≡ passesAt
-        unfolding passesBy kindOf
-        passes-outside h = sym (and-on _ as-many ∙ and-on _ all ∙ and-on _ own ∙ and-off _ (rw returned h))
+        pub suits-outside : within (t % 16) (ret % 16) ≡ false → false ≡ suitsAt
+        unfolding suitsBy kindOf
+        suits-outside h = sym (and-on _ as-many ∙ and-on _ all ∙ and-on _ own ∙ and-off _ (rw returned h))
 
-        pub passes-marked : within (t % 16) (ret % 16) ≡ true → {m : ℕ} → m ≡ markOf (versionAt s v) → leb m mark ≡ passesAt
-        unfolding passesBy kindOf
-        passes-marked h e = sym (and-on _ as-many ∙ and-on _ all ∙ and-on _ own ∙ and-on _ (rw returned h) ∙ ap (λ x. leb x mark) (sym e))
+        pub suits-marked : within (t % 16) (ret % 16) ≡ true → {m : ℕ} → m ≡ markOf (versionAt s v) → leb m mark ≡ suitsAt
+        unfolding suitsBy kindOf
+        suits-marked h e = sym (and-on _ as-many ∙ and-on _ all ∙ and-on _ own ∙ and-on _ (rw returned h) ∙ ap (λ x. leb x mark) (sym e))
+
+-- a version that suits passes where its level is not above
+module _ (xs : List ℕ) (level mark ret n : ℕ) (X : Version) where
+  pub passes-unsuited : suitsBy xs mark ret n X ≡ false → false ≡ passesBy xs level mark ret n X
+  unfolding passesBy
+  passes-unsuited e = sym (ap (λ b. leb (X .level) level and b) e ∙ and-none _)
+
+  pub passes-level : suitsBy xs mark ret n X ≡ true → leb (X .level) level ≡ passesBy xs level mark ret n X
+  unfolding passesBy
+  passes-level e = sym (ap (λ b. leb (X .level) level and b) e ∙ and-true _)
 
 -- ---- an argument and a parameter
 

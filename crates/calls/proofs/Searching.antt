@@ -176,11 +176,11 @@ fields-of s at d f mark ret pairs e j h =
     let l = listed-pairs s at d f mark ret pairs e in
     rw (l .0, l .1) at (pair-at s at j (rw (l .1, types-length pairs) h))
 
-module _ (s owners promises : List ℕ) (calls : ℕ) (codes : List ℕ) (k at f mark ret n : ℕ) where
+module _ (s owners promises : List ℕ) (calls : ℕ) (codes : List ℕ) (k at level f mark ret n : ℕ) where
   abbrev kindFor : ℕ → Option ℕ
   kindFor r = argumentKind (programOf s) owners promises calls codes k r
 
-  pub seeks-unknown : (i r : ℕ) → i < n → r ≡ bodyAt s at ! (6 + i * 2) → kindFor r ≡ none → Seeks s Sought.Unknown owners promises calls codes k at f mark ret n
+  pub seeks-unknown : (i r : ℕ) → i < n → r ≡ bodyAt s at ! (6 + i * 2) → kindFor r ≡ none → Seeks s Sought.Unknown owners promises calls codes k at level f mark ret n
   unfolding Seeks Finds
   seeks-unknown i r h g e = λ d pairs ei el.
       all-missing kindFor (registersOf pairs) i (omega (arith, h, el, registers-length pairs)) (ap kindFor (fields-of s at d f mark ret pairs ei i (omega (arith, h, el)) .0 ∙ sym g) ∙ e)
@@ -197,16 +197,16 @@ module _ (s owners promises : List ℕ) (calls : ℕ) (codes : List ℕ) (k at f
           let g = gathered j (omega (arith, l, el, all)) in
           (g .0, ap kindFor (field-of j l .0) ∙ g .1))
 
-      alike : (X : Version) → passesBy xs mark ret n X ≡ dispatches mark ret pairs (kinds-are .0) X
+      alike : (X : Version) → passesBy xs level mark ret n X ≡ dispatches level mark ret pairs (kinds-are .0) X
       unfolding Gathered
-      alike = passes-in xs mark ret n pairs (kinds-are .0) el (all-length kindFor (registersOf pairs) (kinds-are .0) (kinds-are .1) ∙ registers-length pairs ∙ el) (λ j h.
+      alike = passes-in xs level mark ret n pairs (kinds-are .0) el (all-length kindFor (registersOf pairs) (kinds-are .0) (kinds-are .1) ∙ registers-length pairs ∙ el) (λ j h.
           let l : j < length pairs = omega (arith, h, el) in
           let g = gathered j (omega (arith, h, all)) in
           let e = sym (g .1) ∙ sym (ap kindFor (field-of j l .0)) ∙ all-at kindFor (registersOf pairs) (kinds-are .0) (kinds-are .1) j (omega (arith, l, registers-length pairs)) in
           let z : g .0 ≡ kinds-are .0 ! j = cc in
           rw (field-of j l .1, ← z) (g .2))
 
-    pub seeks-picked : (r : Sought) → Picks s r f (passesBy xs mark ret n) → Seeks s r owners promises calls codes k at f mark ret n × Bounded r
+    pub seeks-picked : (r : Sought) → Picks s r f (passesBy xs level mark ret n) → Seeks s r owners promises calls codes k at level f mark ret n × Bounded r
     unfolding Picks Met Unmet Seeks Finds Bounded picked searched
     seeks-picked Sought.Unknown m = absurd m
     seeks-picked (Sought.Passes v c) m =

@@ -83,10 +83,10 @@ Called s r a b promises calls depth k at d f w n =
     (M : Memory) (W : Version) (rs : List ℕ) → instrAt s at ≡ CALL d f w rs → length rs ≡ n
     → Works (programOf s) W r (withArrays M a promises calls depth) (withArrays M b promises (onward r calls (calls + 1)) (onward r depth (depth + 1))) k (CALL d f w rs)
 
--- DISPATCH with n pairs
-unfoldable pub Dispatched : List ℕ → Did → Arrays → Arrays → List ℕ → ℕ → ℕ → ℕ → ℕ → ℕ → ℕ → ℕ → ℕ → ℕ → Type 0
-Dispatched s r a b promises calls depth k at d f mark ret n =
-    (M : Memory) (W : Version) (pairs : List Argument) → instrAt s at ≡ DISPATCH d f mark ret pairs → length pairs ≡ n
+-- DISPATCH with n pairs in a version W of this level
+unfoldable pub Dispatched : List ℕ → Did → Arrays → Arrays → List ℕ → ℕ → ℕ → ℕ → ℕ → ℕ → ℕ → ℕ → ℕ → ℕ → ℕ → Type 0
+Dispatched s r a b promises calls depth k at level d f mark ret n =
+    (M : Memory) (W : Version) (pairs : List Argument) → W .level ≡ level → instrAt s at ≡ DISPATCH d f mark ret pairs → length pairs ≡ n
     → Works (programOf s) W r (withArrays M a promises calls depth) (withArrays M b promises (onward r calls (calls + 1)) (onward r depth (depth + 1))) k (DISPATCH d f mark ret pairs)
 
 -- a call that was opened is one that there was a place for

@@ -39,14 +39,18 @@ Offers x m t = (x % 16 ≡ ownershipOf t) × ((k : ℕ) → k < 16 → within (x
 unfoldable pub taken : ℕ → ℕ → Bool
 taken x t = eqb (x % 16) (ownershipOf t) and within (x / 16) (kindOf t)
 
--- a DISPATCH with n arguments xs passes X
-unfoldable pub passesBy : List ℕ → ℕ → ℕ → ℕ → Version → Bool
-passesBy xs mark ret n X =
+-- X suits a DISPATCH with n arguments xs, whatever its level
+unfoldable pub suitsBy : List ℕ → ℕ → ℕ → ℕ → Version → Bool
+suitsBy xs mark ret n X =
     eqb n (parametersOf X)
     and allTo (λ i. taken (xs ! i) (X .types ! i)) 0 n
     and eqb (ownershipOf (X .return)) (ownershipOf ret)
     and within (kindOf (X .return)) (kindOf ret)
     and leb (markOf X) mark
+
+-- a DISPATCH with n arguments xs, in a version of this level, passes X
+unfoldable pub passesBy : List ℕ → ℕ → ℕ → ℕ → ℕ → Version → Bool
+passesBy xs level mark ret n X = leb (X .level) level and suitsBy xs mark ret n X
 
 -- by what passes: the version X is the lowest, after c were looked at
 unfoldable pub Met : Program → ℕ → (Version → Bool) → Version → ℕ → Type 0
@@ -63,18 +67,18 @@ Picks s (Sought.Passes v c) f p = Met (programOf s) f p (versionAt s v) c
 Picks s (Sought.Nowhere c) f p = Unmet (programOf s) f p c
 
 -- by the kinds of the arguments: one has none; the version at v is picked, c were looked at; none passes, c were looked at
-unfoldable pub Finds : List ℕ → Sought → ℕ → ℕ → ℕ → List Argument → Option (List ℕ) → Type 0
-Finds s Sought.Unknown f mark ret pairs o = o ≡ none
-Finds s (Sought.Passes v c) f mark ret pairs o =
-    (ks : List ℕ) × (o ≡ some ks) × (picked (programOf s) f mark ret pairs ks ≡ got (versionAt s v)) × (searched (programOf s) f mark ret pairs ks ≡ c)
-Finds s (Sought.Nowhere c) f mark ret pairs o =
-    (ks : List ℕ) × (o ≡ some ks) × (picked (programOf s) f mark ret pairs ks ≡ stop End.Undef) × (searched (programOf s) f mark ret pairs ks ≡ c)
+unfoldable pub Finds : List ℕ → Sought → ℕ → ℕ → ℕ → ℕ → List Argument → Option (List ℕ) → Type 0
+Finds s Sought.Unknown level f mark ret pairs o = o ≡ none
+Finds s (Sought.Passes v c) level f mark ret pairs o =
+    (ks : List ℕ) × (o ≡ some ks) × (picked (programOf s) level f mark ret pairs ks ≡ got (versionAt s v)) × (searched (programOf s) level f mark ret pairs ks ≡ c)
+Finds s (Sought.Nowhere c) level f mark ret pairs o =
+    (ks : List ℕ) × (o ≡ some ks) × (picked (programOf s) level f mark ret pairs ks ≡ stop End.Undef) × (searched (programOf s) level f mark ret pairs ks ≡ c)
 
--- the search of the DISPATCH with n pairs at `at`, in the frame k
-unfoldable pub Seeks : List ℕ → Sought → List ℕ → List ℕ → ℕ → List ℕ → ℕ → ℕ → ℕ → ℕ → ℕ → ℕ → Type 0
-Seeks s r owners promises calls codes k at f mark ret n =
+-- the search of the DISPATCH with n pairs at `at`, in a version of this level and in the frame k
+unfoldable pub Seeks : List ℕ → Sought → List ℕ → List ℕ → ℕ → List ℕ → ℕ → ℕ → ℕ → ℕ → ℕ → ℕ → ℕ → Type 0
+Seeks s r owners promises calls codes k at level f mark ret n =
     (d : ℕ) (pairs : List Argument) → instrAt s at ≡ DISPATCH d f mark ret pairs → length pairs ≡ n
-    → Finds s r f mark ret pairs (allOf (argumentKind (programOf s) owners promises calls codes k) (registersOf pairs))
+    → Finds s r level f mark ret pairs (allOf (argumentKind (programOf s) owners promises calls codes k) (registersOf pairs))
 
 -- no more were looked at than a function may have
 unfoldable pub Bounded : Sought → Type 0

@@ -14,7 +14,7 @@ ghost use Rattle.machine.specs.Begin.{programOf};
 ghost use Rattle.machine.specs.Calls.{versionsOf};
 ghost use Rattle.kinds.specs.Kinds.{argumentKind};
 ghost use Rattle.calls.specs.Frames.{clearedTo, passedTo, emptiedTo, few};
-ghost use Rattle.calls.specs.Searching.{Bounded, Offers, Picks, Seeks, passesBy, taken};
+ghost use Rattle.calls.specs.Searching.{Bounded, Offers, Picks, Seeks, passesBy, suitsBy, taken};
 ghost use Rattle.calls.specs.Entering.{Within, allTo, fitsKind, parametersOf, matchesIn, Entered, Called, Dispatched};
 use layout::Found;
 use layout::bounds;
@@ -352,8 +352,8 @@ fn mark_of(image: &[u8], table: &[u16; 1152], f: usize, w: usize, v: usize) -> u
     layout::field(image, b, 0)
 }
 
-/// Does a DISPATCH with these arguments pass the version `w` of the function `f`, which stands at `v`?
-fn passes(
+/// Does the version `w` of the function `f`, which stands at `v`, suit a DISPATCH with these arguments, whatever its level?
+fn suits(
     image: &[u8],
     table: &[u16; 1152],
     offered: &[u8; 256],
@@ -365,7 +365,7 @@ fn passes(
     n: u8,
 ) -> bool
     requires { ⌜ Indexed (now image) (now table) × (versionPlace (now image) f w ≡ Found.At v) ⌝ }
-    ensures { λ r. ⌜ r ≡ passesBy (now (offered .entry)) mark returns n (versionAt (now (image .entry)) v) ⌝ }
+    ensures { λ r. ⌜ r ≡ suitsBy (now (offered .entry)) mark returns n (versionAt (now (image .entry)) v) ⌝ }
 {
     let size = layout::size_at(image, v);
     if (n as usize) != parameters_of(image, v, size) {
@@ -385,18 +385,42 @@ fn passes(
     mark_of(image, table, f, w, v) <= mark as usize
 }
 
-/// Searches the versions of the function for the lowest that a DISPATCH with these arguments passes, and ends there.
+/// Does a DISPATCH with these arguments, in the version at `own`, pass the version `w` of the function `f`, which stands at `v`?
+fn passes(
+    image: &[u8],
+    table: &[u16; 1152],
+    offered: &[u8; 256],
+    own: usize,
+    f: usize,
+    w: usize,
+    v: usize,
+    mark: u8,
+    returns: u8,
+    n: u8,
+) -> bool
+    requires { ⌜ Indexed (now image) (now table) × (versionPlace (now image) f w ≡ Found.At v) ⌝ }
+    ensures { λ r. ⌜ r ≡ passesBy (now (offered .entry)) (versionAt (now (image .entry)) own .level) mark returns n (versionAt (now (image .entry)) v) ⌝ }
+{
+    if !suits(image, table, offered, f, w, v, mark, returns, n) {
+        return false;
+    }
+    lookup::not_above(image, v, own)
+}
+
+/// Searches the versions of the function for the lowest that a DISPATCH with these arguments, in the version at `own`, passes, and
+/// ends there.
 fn pick(
     image: &[u8],
     table: &[u16; 1152],
     offered: &[u8; 256],
+    own: usize,
     function: u8,
     mark: u8,
     returns: u8,
     n: u8,
 ) -> Sought
     requires { ⌜ Indexed (now image) (now table) ⌝ }
-    ensures { λ r. ⌜ Picks (now (image .entry)) r function (passesBy (now (offered .entry)) mark returns n) ⌝ }
+    ensures { λ r. ⌜ Picks (now (image .entry)) r function (passesBy (now (offered .entry)) (versionAt (now (image .entry)) own .level) mark returns n) ⌝ }
 {
     let f = function as usize;
     let mut w: usize = 0;
@@ -404,7 +428,7 @@ fn pick(
     while w < bounds::VERSIONS {
         match index::version(image, table, f, w) {
             Found::At(v) => {
-                if passes(image, table, offered, f, w, v, mark, returns, n) {
+                if passes(image, table, offered, own, f, w, v, mark, returns, n) {
                     return Sought::Passes(v, looked + 1);
                 }
                 looked += 1;
@@ -416,7 +440,8 @@ fn pick(
     Sought::Nowhere(looked)
 }
 
-/// Searches the versions of the function for the lowest that the DISPATCH at `at` passes, in the frame `k`, and ends there.
+/// Searches the versions of the function for the lowest that the DISPATCH at `at`, in the version at `own`, passes in the frame `k`, and
+/// ends there.
 /// Part of the loop, which keeps `table` the image's index and `k` below 32: a test would cost each step.
 pub fn search(
     image: &[u8],
@@ -427,13 +452,14 @@ pub fn search(
     calls: usize,
     k: usize,
     at: usize,
+    own: usize,
     function: u8,
     mark: u8,
     returns: u8,
     n: u8,
 ) -> Sought
     requires { ⌜ Indexed (now image) (now table) × (k < 32) ⌝ }
-    ensures { λ r. ⌜ Seeks (now (image .entry)) r (now (owners .entry)) (now (promises .entry)) calls (now (codes .entry)) k at function mark returns n × Bounded r ⌝ }
+    ensures { λ r. ⌜ Seeks (now (image .entry)) r (now (owners .entry)) (now (promises .entry)) calls (now (codes .entry)) k at (versionAt (now (image .entry)) own .level) function mark returns n × Bounded r ⌝ }
 {
     let mut offered = [0u8; 256];
     let size = layout::size_at(image, at);
@@ -447,7 +473,7 @@ pub fn search(
         offered[i] = offer(m, part(image, at, size, 5 + i * 2));
         i += 1;
     }
-    pick(image, table, &offered, function, mark, returns, n)
+    pick(image, table, &offered, own, function, mark, returns, n)
 }
 
 /// How many versions the function has. `searches` calls it with the image's index as `table`, as the loop keeps it: a test would
@@ -470,7 +496,7 @@ pub fn versions_of(image: &[u8], table: &[u16; 1152], function: u8) -> usize
     there
 }
 
-/// DISPATCH: opens a call of the lowest version that passes.
+/// DISPATCH in the version at `own`: opens a call of the lowest version that passes.
 /// Part of the loop, which keeps `table` the image's index and `k` below 32: a test would cost each step.
 pub fn dispatch(
     image: &[u8],
@@ -484,6 +510,7 @@ pub fn dispatch(
     depth: usize,
     k: usize,
     at: usize,
+    own: usize,
     d: u8,
     function: u8,
     mark: u8,
@@ -491,7 +518,7 @@ pub fn dispatch(
     n: u8,
 ) -> Did
     requires { ⌜ Indexed (now image) (now table) × (k < 32) ⌝ }
-    ensures { λ r. ⌜ Dispatched (now (image .entry)) r (record { owners = now (owners .entry); codes = now (codes .entry); numbers = now (numbers .entry); stack = now (stack .entry) }) (record { owners = now (owners .exit); codes = now (codes .exit); numbers = now (numbers .exit); stack = now (stack .exit) }) (now (promises .entry)) calls depth k at d function mark returns n × Within r calls depth ⌝ }
+    ensures { λ r. ⌜ Dispatched (now (image .entry)) r (record { owners = now (owners .entry); codes = now (codes .entry); numbers = now (numbers .entry); stack = now (stack .entry) }) (record { owners = now (owners .exit); codes = now (codes .exit); numbers = now (numbers .exit); stack = now (stack .exit) }) (now (promises .entry)) calls depth k at (versionAt (now (image .entry)) own .level) d function mark returns n × Within r calls depth ⌝ }
 {
     match search(
         image,
@@ -502,6 +529,7 @@ pub fn dispatch(
         calls,
         k,
         at,
+        own,
         function,
         mark,
         returns,

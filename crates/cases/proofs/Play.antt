@@ -18,7 +18,7 @@ use Rattle.program.specs.Skips.{endsAfter, endsWithin, question14}
 use Rattle.rules.specs.Types.{kindOf, ownershipOf, isShared, isOwned, isBorrowed, isInteger, isVector as vectorType, isPromise as promiseType, within, parameterType, registerType, returnType}
 use Rattle.rules.specs.Fits.{fresh, fitsArgument, fitsReturn, fitsCall, fits, fitsResult}
 use Rattle.rules.specs.Effects.{reflective, covered}
-use Rattle.rules.specs.Questions.{typeAllowed, versionTypes, typesAllowed}
+use Rattle.rules.specs.Questions.{typeAllowed, versionTypes, typesAllowed, staysDown}
 use Rattle.rules.specs.Actions.{clash, joined, _then_, promised, emptied as emptiedBy, touch, actionOf, skipOf, either, join, here as hereIn, past, walk as walkCode, enter as entersBlock, actions}
 use Rattle.rules.specs.Flows.{flows}
 use Rattle.checker.specs.Verdicts.{ask, verdictIn}
@@ -28,7 +28,7 @@ use Rattle.machine.specs.States.{over, newVector, itemsOf, liveFrames, liveActi
 use Rattle.machine.specs.Calls.{opened, passed, skipped, matching, emptyIf, emptied, frameFor, enter, sameOwnerships, dispatches, lowest, picked, force, closed, done, back, finish}
 use Rattle.machine.specs.Steps.{alone, executeTo, here, position, positionOf, proceedTo, advanceTo}
 use Rattle.machine.specs.Runs.{saying, settled, stepInTo, stepOfTo, lastStep, continued, runFromTo, budgetInTo, longEnough, budgetOfTo, written, bufferOf}
-use Rattle.machine.specs.Begin.{first, givenKind, matched, arguments, valuesOf, vectorsOf, firstState, refused, question13, question12, question11, enteredOf, beginAfter, beginOf, runAfterTo, runOfTo}
+use Rattle.machine.specs.Begin.{first, givenKind, matched, arguments, valuesOf, vectorsOf, firstState, refused, question13, question12, runLevel, question19, question11, enteredOf, beginAfter, beginOf, runAfterTo, runOfTo}
 use Rattle.machine.specs.declared.Answer.{Answer}
 use Rattle.cases.specs.Table.{Row, ran, Gives, cases}
 use Rattle.cases.specs.Further.{further}
@@ -71,7 +71,7 @@ unfolding
     kindOf ownershipOf isShared isOwned isBorrowed isInteger vectorType promiseType within parameterType registerType returnType
     fresh fitsArgument fitsReturn fitsCall fits fitsResult
     reflective covered
-    typeAllowed versionTypes typesAllowed
+    typeAllowed versionTypes typesAllowed staysDown
     clash joined _then_ promised emptiedBy touch actionOf skipOf either join hereIn past walkCode entersBlock actions
     flows
     ask verdictIn
@@ -81,7 +81,7 @@ unfolding
     opened passed skipped matching emptyIf emptied frameFor enter sameOwnerships dispatches lowest picked force closed done back finish
     alone executeTo here position positionOf proceedTo advanceTo
     saying settled stepInTo stepOfTo lastStep continued runFromTo budgetInTo longEnough budgetOfTo written bufferOf
-    first givenKind matched arguments valuesOf vectorsOf firstState refused question13 question12 question11 enteredOf beginAfter beginOf runAfterTo runOfTo
+    first givenKind matched arguments valuesOf vectorsOf firstState refused question13 question12 runLevel question19 question11 enteredOf beginAfter beginOf runAfterTo runOfTo
 rules = tt
 
 pub cases-hold : Holds cases

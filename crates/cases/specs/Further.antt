@@ -2,11 +2,11 @@
 use mathlib.Core.List.{List, [], _∷_, _++_}
 use Prim.Native.Nat.{ℕ}
 use lib.IntN.{pos}
-use lib.ListN.{set}
+use lib.ListN.{set, take, drop}
 use Rattle.layout.specs.Kinds as kind
 use Rattle.machine.specs.declared.Answer.{Answer}
 use Rattle.machine.specs.declared.End.{End}
-use Rattle.cases.specs.Table.{Row, row, neg, lentFrom, lent, refused_at_, integer, vector, undef, rec, lit, I, quotient, endless}
+use Rattle.cases.specs.Table.{Row, row, atLevel, neg, lentFrom, lent, refused_at_, integer, vector, undef, rec, lit, low, I, quotient, endless}
 
 -- ---- images
 
@@ -14,6 +14,7 @@ use Rattle.cases.specs.Table.{Row, row, neg, lentFrom, lent, refused_at_
 abbrev pub forcing : List ℕ
 forcing =
     rec kind.VERSION (0 ∷ 0 ∷ 1 ∷ 2 ∷ 2 ∷ 1 ∷ 4 ∷ 2 ∷ []) ++
+    low ++
     rec kind.BLOCK (0 ∷ 1 ∷ 1 ∷ []) ++
     rec kind.FORCE (1 ∷ 0 ∷ [])
 
@@ -21,6 +22,7 @@ forcing =
 abbrev pub storing : ℕ → List ℕ
 storing x =
     rec kind.VERSION (0 ∷ 0 ∷ 1 ∷ 2 ∷ 1 ∷ 1 ∷ 2 ∷ 1 ∷ []) ++
+    low ++
     rec kind.BLOCK (0 ∷ 1 ∷ 2 ∷ []) ++
     rec kind.STORE (3 ∷ 0 ∷ []) ++
     rec kind.NAMED (1 ∷ x ∷ [])
@@ -29,6 +31,7 @@ storing x =
 abbrev pub casting : List ℕ
 casting =
     rec kind.VERSION (0 ∷ 0 ∷ 1 ∷ 2 ∷ 3 ∷ 1 ∷ 1 ∷ 3 ∷ []) ++
+    low ++
     rec kind.BLOCK (0 ∷ 1 ∷ 1 ∷ []) ++
     rec kind.CAST (1 ∷ 0 ∷ [])
 
@@ -36,6 +39,7 @@ casting =
 abbrev pub selecting : List ℕ
 selecting =
     rec kind.VERSION (0 ∷ 0 ∷ 3 ∷ 4 ∷ 2 ∷ 1 ∷ 2 ∷ 2 ∷ 2 ∷ 2 ∷ []) ++
+    low ++
     rec kind.BLOCK (0 ∷ 3 ∷ 1 ∷ []) ++
     rec kind.SELECT (3 ∷ 0 ∷ 1 ∷ 2 ∷ [])
 
@@ -43,6 +47,7 @@ selecting =
 abbrev pub emptying : List ℕ
 emptying =
     rec kind.VERSION (0 ∷ 0 ∷ 1 ∷ 3 ∷ 0x13 ∷ 1 ∷ 0x03 ∷ 0x13 ∷ 0x13 ∷ []) ++
+    low ++
     rec kind.BLOCK (0 ∷ 2 ∷ 2 ∷ []) ++
     rec kind.DUP (1 ∷ 0 ∷ []) ++
     rec kind.USE (2 ∷ 1 ∷ [])
@@ -51,6 +56,7 @@ emptying =
 abbrev pub getting : List ℕ
 getting =
     rec kind.VERSION (0 ∷ 0 ∷ 2 ∷ 3 ∷ 2 ∷ 1 ∷ 3 ∷ 2 ∷ 2 ∷ []) ++
+    low ++
     rec kind.BLOCK (0 ∷ 2 ∷ 1 ∷ []) ++
     rec kind.GET (2 ∷ 0 ∷ 1 ∷ [])
 
@@ -58,6 +64,7 @@ getting =
 abbrev pub peeking : List ℕ
 peeking =
     rec kind.VERSION (0 ∷ 0 ∷ 0 ∷ 3 ∷ 1 ∷ 2 ∷ 2 ∷ 4 ∷ 1 ∷ []) ++
+    low ++
     rec kind.BLOCK (1 ∷ 2 ∷ 5 ∷ []) ++
     lit 0 5 ++
     rec kind.STORE (1 ∷ 0 ∷ []) ++
@@ -66,6 +73,7 @@ peeking =
     rec kind.NAMED (2 ∷ 2 ∷ []) ++
     rec kind.BLOCK (0 ∷ 0 ∷ 0 ∷ []) ++
     rec kind.VERSION (1 ∷ 0 ∷ 1 ∷ 2 ∷ 1 ∷ 1 ∷ 4 ∷ 1 ∷ []) ++
+    low ++
     rec kind.BLOCK (1 ∷ 1 ∷ 2 ∷ []) ++
     rec kind.PEEK (1 ∷ 0 ∷ 1 ∷ []) ++
     rec kind.POKE (0 ∷ 2 ∷ 1 ∷ [])
@@ -74,6 +82,7 @@ peeking =
 abbrev pub nested : List ℕ
 nested =
     rec kind.VERSION (0 ∷ 0 ∷ 1 ∷ 4 ∷ 2 ∷ 3 ∷ 2 ∷ 2 ∷ 4 ∷ 4 ∷ []) ++
+    low ++
     rec kind.BLOCK (0 ∷ 1 ∷ 4 ∷ []) ++
     rec kind.PROM (2 ∷ 1 ∷ []) ++
     rec kind.PROM (3 ∷ 2 ∷ []) ++
@@ -89,6 +98,7 @@ nested =
 abbrev pub circle : List ℕ
 circle =
     rec kind.VERSION (0 ∷ 0 ∷ 0 ∷ 3 ∷ 2 ∷ 4 ∷ 2 ∷ 4 ∷ 4 ∷ []) ++
+    low ++
     rec kind.BLOCK (0 ∷ 0 ∷ 5 ∷ []) ++
     lit 0 1 ++
     rec kind.PROM (1 ∷ 1 ∷ []) ++
@@ -105,14 +115,18 @@ circle =
 abbrev pub dispatching : ℕ → List ℕ
 dispatching r =
     rec kind.VERSION (0 ∷ 0 ∷ 1 ∷ 2 ∷ 2 ∷ 1 ∷ 0 ∷ 2 ∷ []) ++
+    low ++
     rec kind.BLOCK (0 ∷ 1 ∷ 1 ∷ []) ++
     rec kind.DISPATCH (1 ∷ 1 ∷ 0 ∷ 2 ∷ 1 ∷ 0 ∷ 0 ∷ []) ++
     rec kind.VERSION (1 ∷ 0 ∷ 1 ∷ 2 ∷ 2 ∷ 1 ∷ 3 ∷ 2 ∷ []) ++
+    low ++
     rec kind.BLOCK (0 ∷ 1 ∷ 1 ∷ []) ++
     rec kind.LEN (1 ∷ 0 ∷ []) ++
     rec kind.VERSION (1 ∷ 1 ∷ 1 ∷ 1 ∷ 2 ∷ 1 ∷ 2 ∷ []) ++
+    low ++
     rec kind.BLOCK (1 ∷ 0 ∷ 0 ∷ []) ++
     rec kind.VERSION (1 ∷ 2 ∷ 1 ∷ 2 ∷ r ∷ 1 ∷ 2 ∷ 2 ∷ []) ++
+    low ++
     rec kind.BLOCK (0 ∷ 1 ∷ 1 ∷ []) ++
     rec kind.ARITH (1 ∷ 0 ∷ 0 ∷ 0 ∷ [])
 
@@ -120,14 +134,17 @@ dispatching r =
 abbrev pub owning : List ℕ
 owning =
     rec kind.VERSION (0 ∷ 0 ∷ 1 ∷ 4 ∷ 0x13 ∷ 1 ∷ 0x03 ∷ 0x13 ∷ 0x13 ∷ 0x02 ∷ []) ++
+    low ++
     rec kind.BLOCK (0 ∷ 2 ∷ 3 ∷ []) ++
     rec kind.DUP (1 ∷ 0 ∷ []) ++
     rec kind.CALL (3 ∷ 1 ∷ 0 ∷ 2 ∷ 1 ∷ 1 ∷ []) ++
     rec kind.CALL (2 ∷ 1 ∷ 1 ∷ 1 ∷ 1 ∷ []) ++
     rec kind.VERSION (1 ∷ 0 ∷ 2 ∷ 3 ∷ 2 ∷ 1 ∷ 0x23 ∷ 0x23 ∷ 2 ∷ []) ++
+    low ++
     rec kind.BLOCK (0 ∷ 2 ∷ 1 ∷ []) ++
     rec kind.LEN (2 ∷ 1 ∷ []) ++
     rec kind.VERSION (1 ∷ 1 ∷ 1 ∷ 3 ∷ 0x13 ∷ 1 ∷ 0x13 ∷ 2 ∷ 2 ∷ []) ++
+    low ++
     rec kind.BLOCK (0 ∷ 0 ∷ 3 ∷ []) ++
     lit 1 1 ++
     rec kind.LIT (2 ∷ 0xFD ∷ 0xFF ∷ 0xFF ∷ 0xFF ∷ 0xFF ∷ 0xFF ∷ 0xFF ∷ 0xFF ∷ []) ++
@@ -137,6 +154,7 @@ owning =
 abbrev pub vectors : List ℕ
 vectors =
     rec kind.VERSION (0 ∷ 0 ∷ 0 ∷ 4 ∷ 1 ∷ 1 ∷ 1 ∷ 1 ∷ 1 ∷ 1 ∷ []) ++
+    low ++
     rec kind.BLOCK (0 ∷ 0 ∷ 6 ∷ []) ++
     rec kind.VEC (0 ∷ 0 ∷ []) ++
     rec kind.VEC (1 ∷ 0 ∷ []) ++
@@ -149,6 +167,7 @@ vectors =
 abbrev pub promises : List ℕ
 promises =
     rec kind.VERSION (0 ∷ 0 ∷ 0 ∷ 8 ∷ 2 ∷ 8 ∷ 2 ∷ 4 ∷ 4 ∷ 4 ∷ 4 ∷ 4 ∷ 4 ∷ 4 ∷ []) ++
+    low ++
     rec kind.BLOCK (0 ∷ 0 ∷ 9 ∷ []) ++
     lit 0 1 ++
     rec kind.PROM (1 ∷ 1 ∷ []) ++
@@ -171,6 +190,7 @@ promises =
 abbrev pub skipping : ℕ → List ℕ
 skipping n =
     rec kind.VERSION (0 ∷ 0 ∷ 1 ∷ 2 ∷ 2 ∷ 1 ∷ 2 ∷ 2 ∷ []) ++
+    low ++
     rec kind.BLOCK (0 ∷ 1 ∷ 3 ∷ []) ++
     lit 1 5 ++
     rec kind.SKIP (0 ∷ n ∷ []) ++
@@ -180,6 +200,7 @@ skipping n =
 abbrev pub skippingTwice : ℕ → List ℕ
 skippingTwice n =
     rec kind.VERSION (0 ∷ 0 ∷ 2 ∷ 3 ∷ 2 ∷ 1 ∷ 2 ∷ 2 ∷ 2 ∷ []) ++
+    low ++
     rec kind.BLOCK (0 ∷ 2 ∷ 5 ∷ []) ++
     lit 2 5 ++
     rec kind.SKIP (0 ∷ 2 ∷ []) ++
@@ -191,6 +212,7 @@ skippingTwice n =
 abbrev pub assignedOnOneWay : List ℕ
 assignedOnOneWay =
     rec kind.VERSION (0 ∷ 0 ∷ 1 ∷ 2 ∷ 2 ∷ 1 ∷ 2 ∷ 2 ∷ []) ++
+    low ++
     rec kind.BLOCK (0 ∷ 1 ∷ 2 ∷ []) ++
     rec kind.SKIP (0 ∷ 1 ∷ []) ++
     lit 1 9
@@ -199,6 +221,7 @@ assignedOnOneWay =
 abbrev pub emptiedOnOneWay : List ℕ
 emptiedOnOneWay =
     rec kind.VERSION (0 ∷ 0 ∷ 2 ∷ 4 ∷ 2 ∷ 1 ∷ 2 ∷ 0x13 ∷ 0x13 ∷ 2 ∷ []) ++
+    low ++
     rec kind.BLOCK (0 ∷ 3 ∷ 3 ∷ []) ++
     rec kind.SKIP (0 ∷ 1 ∷ []) ++
     rec kind.USE (2 ∷ 1 ∷ []) ++
@@ -208,6 +231,7 @@ emptiedOnOneWay =
 abbrev pub capturedOnOneWay : List ℕ
 capturedOnOneWay =
     rec kind.VERSION (0 ∷ 0 ∷ 2 ∷ 5 ∷ 0x13 ∷ 2 ∷ 2 ∷ 0x13 ∷ 0x13 ∷ 4 ∷ 2 ∷ []) ++
+    low ++
     rec kind.BLOCK (0 ∷ 2 ∷ 3 ∷ []) ++
     rec kind.SKIP (0 ∷ 1 ∷ []) ++
     rec kind.PROM (3 ∷ 1 ∷ []) ++
@@ -219,6 +243,7 @@ capturedOnOneWay =
 abbrev pub usedAgain : List ℕ
 usedAgain =
     rec kind.VERSION (0 ∷ 0 ∷ 1 ∷ 1 ∷ 0x13 ∷ 1 ∷ 0x13 ∷ []) ++
+    low ++
     rec kind.BLOCK (0 ∷ 0 ∷ 1 ∷ []) ++
     rec kind.USE (0 ∷ 0 ∷ [])
 
@@ -226,15 +251,18 @@ usedAgain =
 abbrev pub givenBack : List ℕ
 givenBack =
     rec kind.VERSION (0 ∷ 0 ∷ 1 ∷ 1 ∷ 0x13 ∷ 1 ∷ 0x13 ∷ []) ++
+    low ++
     rec kind.BLOCK (0 ∷ 0 ∷ 1 ∷ []) ++
     rec kind.CALL (0 ∷ 1 ∷ 0 ∷ 1 ∷ 0 ∷ []) ++
     rec kind.VERSION (1 ∷ 0 ∷ 1 ∷ 1 ∷ 0x13 ∷ 1 ∷ 0x13 ∷ []) ++
+    low ++
     rec kind.BLOCK (0 ∷ 0 ∷ 0 ∷ [])
 
 -- the parameter is emptied, filled again, and captured by a promise of its length
 abbrev pub refilledThenCaptured : List ℕ
 refilledThenCaptured =
     rec kind.VERSION (0 ∷ 0 ∷ 1 ∷ 4 ∷ 2 ∷ 2 ∷ 0x13 ∷ 0x13 ∷ 4 ∷ 2 ∷ []) ++
+    low ++
     rec kind.BLOCK (0 ∷ 3 ∷ 4 ∷ []) ++
     rec kind.USE (1 ∷ 0 ∷ []) ++
     rec kind.DUP (0 ∷ 1 ∷ []) ++
@@ -247,6 +275,7 @@ refilledThenCaptured =
 abbrev pub capturedThenUsed : List ℕ
 capturedThenUsed =
     rec kind.VERSION (0 ∷ 0 ∷ 1 ∷ 3 ∷ 2 ∷ 2 ∷ 0x13 ∷ 4 ∷ 2 ∷ []) ++
+    low ++
     rec kind.BLOCK (0 ∷ 2 ∷ 3 ∷ []) ++
     rec kind.PROM (1 ∷ 1 ∷ []) ++
     rec kind.USE (0 ∷ 0 ∷ []) ++
@@ -258,6 +287,7 @@ capturedThenUsed =
 abbrev pub refilledOnOneWay : List ℕ
 refilledOnOneWay =
     rec kind.VERSION (0 ∷ 0 ∷ 2 ∷ 4 ∷ 2 ∷ 1 ∷ 2 ∷ 0x13 ∷ 0x13 ∷ 2 ∷ []) ++
+    low ++
     rec kind.BLOCK (0 ∷ 3 ∷ 4 ∷ []) ++
     rec kind.USE (2 ∷ 1 ∷ []) ++
     rec kind.SKIP (0 ∷ 1 ∷ []) ++
@@ -268,6 +298,7 @@ refilledOnOneWay =
 abbrev pub readBeforeRefill : List ℕ
 readBeforeRefill =
     rec kind.VERSION (0 ∷ 0 ∷ 1 ∷ 3 ∷ 2 ∷ 1 ∷ 0x13 ∷ 0x13 ∷ 2 ∷ []) ++
+    low ++
     rec kind.BLOCK (0 ∷ 2 ∷ 3 ∷ []) ++
     rec kind.USE (1 ∷ 0 ∷ []) ++
     rec kind.LEN (2 ∷ 0 ∷ []) ++
@@ -277,10 +308,12 @@ readBeforeRefill =
 abbrev pub twice : List ℕ
 twice =
     rec kind.VERSION (0 ∷ 0 ∷ 1 ∷ 3 ∷ 2 ∷ 1 ∷ 0x03 ∷ 0x13 ∷ 0x02 ∷ []) ++
+    low ++
     rec kind.BLOCK (0 ∷ 2 ∷ 2 ∷ []) ++
     rec kind.DUP (1 ∷ 0 ∷ []) ++
     rec kind.CALL (2 ∷ 1 ∷ 0 ∷ 2 ∷ 1 ∷ 1 ∷ []) ++
     rec kind.VERSION (1 ∷ 0 ∷ 2 ∷ 3 ∷ 2 ∷ 1 ∷ 0x13 ∷ 0x23 ∷ 0x02 ∷ []) ++
+    low ++
     rec kind.BLOCK (0 ∷ 2 ∷ 1 ∷ []) ++
     rec kind.LEN (2 ∷ 0 ∷ [])
 
@@ -288,6 +321,7 @@ twice =
 abbrev pub assignedByForce : List ℕ
 assignedByForce =
     rec kind.VERSION (0 ∷ 0 ∷ 0 ∷ 3 ∷ 2 ∷ 2 ∷ 2 ∷ 4 ∷ 2 ∷ []) ++
+    low ++
     rec kind.BLOCK (0 ∷ 2 ∷ 2 ∷ []) ++
     rec kind.PROM (1 ∷ 1 ∷ []) ++
     rec kind.FORCE (0 ∷ 1 ∷ []) ++
@@ -298,15 +332,67 @@ assignedByForce =
 abbrev pub captured : List ℕ
 captured =
     rec kind.VERSION (0 ∷ 0 ∷ 1 ∷ 4 ∷ 0x13 ∷ 2 ∷ 0x13 ∷ 4 ∷ 2 ∷ 0x13 ∷ []) ++
+    low ++
     rec kind.BLOCK (0 ∷ 3 ∷ 2 ∷ []) ++
     rec kind.PROM (1 ∷ 1 ∷ []) ++
     rec kind.USE (3 ∷ 0 ∷ []) ++
     rec kind.BLOCK (0 ∷ 2 ∷ 1 ∷ []) ++
     rec kind.LEN (2 ∷ 0 ∷ [])
 
+-- 0.0 of level l calls 1.0 of level m, which returns 7
+abbrev pub calling : ℕ → ℕ → List ℕ
+calling l m =
+    rec kind.VERSION (0 ∷ 0 ∷ 0 ∷ 1 ∷ 2 ∷ 1 ∷ 2 ∷ []) ++
+    rec kind.LEVEL (l ∷ []) ++
+    rec kind.BLOCK (0 ∷ 0 ∷ 1 ∷ []) ++
+    rec kind.CALL (0 ∷ 1 ∷ 0 ∷ 0 ∷ []) ++
+    rec kind.VERSION (1 ∷ 0 ∷ 0 ∷ 1 ∷ 2 ∷ 1 ∷ 2 ∷ []) ++
+    rec kind.LEVEL (m ∷ []) ++
+    rec kind.BLOCK (0 ∷ 0 ∷ 1 ∷ []) ++
+    lit 0 7
+
+-- 0.0 of level l picks 1.0 of level m, which returns 7, or else 1.1, which returns 8
+abbrev pub picking : ℕ → ℕ → List ℕ
+picking l m =
+    rec kind.VERSION (0 ∷ 0 ∷ 0 ∷ 1 ∷ 2 ∷ 1 ∷ 2 ∷ []) ++
+    rec kind.LEVEL (l ∷ []) ++
+    rec kind.BLOCK (0 ∷ 0 ∷ 1 ∷ []) ++
+    rec kind.DISPATCH (0 ∷ 1 ∷ 0 ∷ 2 ∷ 0 ∷ []) ++
+    rec kind.VERSION (1 ∷ 0 ∷ 0 ∷ 1 ∷ 2 ∷ 1 ∷ 2 ∷ []) ++
+    rec kind.LEVEL (m ∷ []) ++
+    rec kind.BLOCK (0 ∷ 0 ∷ 1 ∷ []) ++
+    lit 0 7 ++
+    rec kind.VERSION (1 ∷ 1 ∷ 0 ∷ 1 ∷ 2 ∷ 1 ∷ 2 ∷ []) ++
+    low ++
+    rec kind.BLOCK (0 ∷ 0 ∷ 1 ∷ []) ++
+    lit 0 8
+
+-- 0.0 of level l hands a promise to 1.0 of level 0, which forces it; its block picks 2.0 of level m, which returns 7, or else 2.1 of level n, which returns 8
+abbrev pub forcedBelow : ℕ → ℕ → ℕ → List ℕ
+forcedBelow l m n =
+    rec kind.VERSION (0 ∷ 0 ∷ 0 ∷ 3 ∷ 2 ∷ 2 ∷ 2 ∷ 4 ∷ 2 ∷ []) ++
+    rec kind.LEVEL (l ∷ []) ++
+    rec kind.BLOCK (0 ∷ 0 ∷ 2 ∷ []) ++
+    rec kind.PROM (1 ∷ 1 ∷ []) ++
+    rec kind.CALL (0 ∷ 1 ∷ 0 ∷ 1 ∷ 1 ∷ []) ++
+    rec kind.BLOCK (0 ∷ 2 ∷ 1 ∷ []) ++
+    rec kind.DISPATCH (2 ∷ 2 ∷ 0 ∷ 2 ∷ 0 ∷ []) ++
+    rec kind.VERSION (1 ∷ 0 ∷ 1 ∷ 2 ∷ 2 ∷ 1 ∷ 4 ∷ 2 ∷ []) ++
+    low ++
+    rec kind.BLOCK (0 ∷ 1 ∷ 1 ∷ []) ++
+    rec kind.FORCE (1 ∷ 0 ∷ []) ++
+    rec kind.VERSION (2 ∷ 0 ∷ 0 ∷ 1 ∷ 2 ∷ 1 ∷ 2 ∷ []) ++
+    rec kind.LEVEL (m ∷ []) ++
+    rec kind.BLOCK (0 ∷ 0 ∷ 1 ∷ []) ++
+    lit 0 7 ++
+    rec kind.VERSION (2 ∷ 1 ∷ 0 ∷ 1 ∷ 2 ∷ 1 ∷ 2 ∷ []) ++
+    rec kind.LEVEL (n ∷ []) ++
+    rec kind.BLOCK (0 ∷ 0 ∷ 1 ∷ []) ++
+    lit 0 8
+
 -- ---- the table
 
--- rows for 11 to 13 of "Questions put to an image" and for "Steps", for SKIP, 14 and registers filled again; the last four for "Mistakes to rule out"
+-- rows for 11, 19, 12 and 13 of "Questions put to an image" and for "Steps", for SKIP, 14, registers filled again and levels; the last four for "Mistakes to rule out"
 unfoldable pub further : List Row
 further =
     -- 11 comes before 12 and 13
@@ -371,13 +457,13 @@ further =
     row (skippingTwice 1) 0 0 (neg 1 ∷ pos 1 ∷ neg 1 ∷ pos 0 ∷ []) 9 (lent 16) (integer (pos 10)) 5 (lent 16) ∷
     row (skippingTwice 1) 0 0 (neg 1 ∷ pos 1 ∷ neg 1 ∷ pos 1 ∷ []) 9 (lent 16) (integer (pos 18)) 6 (lent 16) ∷
     -- 14: n goes past the end of the block; past the end of the part that the SKIP stands in
-    row (skipping 2) 0 0 (neg 1 ∷ pos 0 ∷ []) 9 (lent 16) (refused 14 at 32) 0 (lent 16) ∷
-    row (skipping 255) 0 0 (neg 1 ∷ pos 0 ∷ []) 9 (lent 16) (refused 14 at 32) 0 (lent 16) ∷
-    row (skippingTwice 2) 0 0 (neg 1 ∷ pos 0 ∷ neg 1 ∷ pos 0 ∷ []) 9 (lent 16) (refused 14 at 39) 0 (lent 16) ∷
+    row (skipping 2) 0 0 (neg 1 ∷ pos 0 ∷ []) 9 (lent 16) (refused 14 at 37) 0 (lent 16) ∷
+    row (skipping 255) 0 0 (neg 1 ∷ pos 0 ∷ []) 9 (lent 16) (refused 14 at 37) 0 (lent 16) ∷
+    row (skippingTwice 2) 0 0 (neg 1 ∷ pos 0 ∷ neg 1 ∷ pos 0 ∷ []) 9 (lent 16) (refused 14 at 44) 0 (lent 16) ∷
     -- 14 is asked after 7 and before 8: of a SKIP whose register is not there, and of one whose register is a vector
-    row (set (skipping 255) 36 2) 0 0 (neg 1 ∷ pos 0 ∷ []) 9 (lent 16) (refused 7 at 32) 0 (lent 16) ∷
-    row (set (skipping 255) 10 3) 0 0 (pos 0 ∷ []) 9 (lent 16) (refused 14 at 32) 0 (lent 16) ∷
-    row (set (skipping 1) 10 3) 0 0 (pos 0 ∷ []) 9 (lent 16) (refused 8 at 32) 0 (lent 16) ∷
+    row (set (skipping 255) 41 2) 0 0 (neg 1 ∷ pos 0 ∷ []) 9 (lent 16) (refused 7 at 37) 0 (lent 16) ∷
+    row (set (skipping 255) 10 3) 0 0 (pos 0 ∷ []) 9 (lent 16) (refused 14 at 37) 0 (lent 16) ∷
+    row (set (skipping 1) 10 3) 0 0 (pos 0 ∷ []) 9 (lent 16) (refused 8 at 37) 0 (lent 16) ∷
     -- ways join by what both assign, and by union of what they empty and capture: 10
     row assignedOnOneWay 0 0 (neg 1 ∷ pos 1 ∷ []) 9 (lent 16) (refused 10 at 0) 0 (lent 16) ∷
     row emptiedOnOneWay 0 0 (neg 1 ∷ pos 0 ∷ pos 0 ∷ []) 9 (lent 16) (refused 10 at 0) 0 (lent 16) ∷
@@ -390,8 +476,29 @@ further =
     row capturedThenUsed 0 0 (pos 0 ∷ []) 9 (lent 16) (refused 10 at 0) 0 (lent 16) ∷
     row refilledOnOneWay 0 0 (neg 1 ∷ pos 1 ∷ pos 0 ∷ []) 9 (lent 16) (refused 10 at 0) 0 (lent 16) ∷
     row readBeforeRefill 0 0 (pos 0 ∷ []) 9 (lent 16) (refused 10 at 0) 0 (lent 16) ∷
+    -- a missing level is met by 4 at what stands in its place, or at the image length; one too many, an unknown one and a longer one
+    row (take 11 I ++ drop 16 I) 0 0 (neg 1 ∷ pos 7 ∷ []) 9 (lent 16) (refused 4 at 11) 0 (lent 16) ∷
+    row (take 11 I) 0 0 (neg 1 ∷ pos 7 ∷ []) 9 (lent 16) (refused 4 at 11) 0 (lent 16) ∷
+    row (take 16 I ++ low ++ drop 16 I) 0 0 (neg 1 ∷ pos 7 ∷ []) 9 (lent 16) (refused 4 at 16) 0 (lent 16) ∷
+    row (I ++ low) 0 0 (neg 1 ∷ pos 7 ∷ []) 9 (lent 16) (refused 4 at 23) 0 (lent 16) ∷
+    row (set I 15 3) 0 0 (neg 1 ∷ pos 7 ∷ []) 9 (lent 16) (refused 4 at 11) 0 (lent 16) ∷
+    row (take 11 I ++ rec kind.LEVEL (0 ∷ 0 ∷ []) ++ drop 16 I) 0 0 (neg 1 ∷ pos 7 ∷ []) 9 (lent 16) (refused 3 at 11) 0 (lent 16) ∷
+    -- a CALL goes up; asked after 8, of a caller whose register is a vector
+    row (calling 0 1) 0 0 [] 9 (lent 16) (refused 18 at 23) 0 (lent 16) ∷
+    row (set (calling 0 1) 10 3) 0 0 [] 9 (lent 16) (refused 8 at 16) 0 (lent 16) ∷
+    -- the entry is above the run's level, asked before 12; above 2 a level counts as 2
+    row (calling 1 0) 0 0 (pos 9 ∷ []) 9 (lent 15) (refused 19 at 0) 0 (lent 15) ∷
+    atLevel 1 (calling 1 0) 0 0 [] 9 (lent 16) (integer (pos 7)) 4 (lent 16) ∷
+    atLevel 256 (calling 2 2) 0 0 [] 9 (lent 16) (integer (pos 7)) 4 (lent 16) ∷
+    -- DISPATCH passes over versions above the level of the version it stands in, whatever the run's
+    atLevel 2 (picking 0 0) 0 0 [] 9 (lent 16) (integer (pos 7)) 4 (lent 16) ∷
+    atLevel 2 (picking 0 1) 0 0 [] 9 (lent 16) (integer (pos 8)) 4 (lent 16) ∷
+    atLevel 2 (picking 1 1) 0 0 [] 9 (lent 16) (integer (pos 7)) 4 (lent 16) ∷
+    -- also while a lower version forces the block; where all are above, UNDEF
+    atLevel 1 (forcedBelow 1 1 0) 0 0 [] 9 (lent 16) (integer (pos 7)) 9 (lent 16) ∷
+    atLevel 2 (forcedBelow 1 2 2) 0 0 [] 9 (lent 16) undef 4 (lent 16) ∷
     -- one owned register given as owned and borrowed in one call: 8
-    row twice 0 0 (pos 0 ∷ []) 9 (lent 16) (refused 8 at 26) 0 (lent 16) ∷
+    row twice 0 0 (pos 0 ∷ []) 9 (lent 16) (refused 8 at 31) 0 (lent 16) ∷
     -- reading a register that only a forced block assigned: 10
     row assignedByForce 0 0 [] 9 (lent 16) (refused 10 at 0) 0 (lent 16) ∷
     -- emptying a register after a promise captured it

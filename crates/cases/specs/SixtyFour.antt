@@ -7,7 +7,7 @@ use Rattle.layout.specs.Kinds as kind
 use Rattle.layout.specs.Records.{records}
 use Rattle.layout.specs.Forms.{moved}
 use Rattle.layout.specs.declared.Form.{Form}
-use Rattle.cases.specs.Table.{Row, row, neg, lentFrom, lent, refused_at_, integer, vector, undef, rec, lit, I, computing}
+use Rattle.cases.specs.Table.{Row, row, neg, lentFrom, lent, refused_at_, integer, vector, undef, rec, lit, low, I, computing}
 use Rattle.cases.specs.Further.{emptying}
 
 -- the greatest and the least integer's size
@@ -21,6 +21,7 @@ LEAST = 9223372036854775808
 abbrev pub giving : List ℕ → List ℕ
 giving literal =
     rec kind.VERSION (0 ∷ 0 ∷ 0 ∷ 1 ∷ 2 ∷ 1 ∷ 2 ∷ []) ++
+    low ++
     rec kind.BLOCK (0 ∷ 0 ∷ 1 ∷ []) ++
     literal
 
@@ -80,9 +81,9 @@ sixtyFour =
     row (giving (rec kind.LIT (0 ∷ 0xFF ∷ 0xFF ∷ 0xFF ∷ 0xFF ∷ 0xFF ∷ 0xFF ∷ 0xFF ∷ 0x7F ∷ []))) 0 0 [] 9 (lent 16) (integer (pos GREATEST)) 2 (lent 16) ∷
     row (giving (rec kind.LIT (0 ∷ 0 ∷ 0 ∷ 0 ∷ 0 ∷ 0 ∷ 0 ∷ 0 ∷ 0x80 ∷ []))) 0 0 [] 9 (lent 16) (integer (neg LEAST)) 2 (lent 16) ∷
     -- 3: kind 16 is not known, in either length; kind 36 with a number of four bytes
-    row (giving (rec kind.NARROW-LIT (0 ∷ 5 ∷ 0 ∷ 0 ∷ 0 ∷ []))) 0 0 [] 9 (lent 16) (refused 3 at 18) 0 (lent 16) ∷
-    row (giving (rec kind.NARROW-LIT (0 ∷ 5 ∷ 0 ∷ 0 ∷ 0 ∷ 0 ∷ 0 ∷ 0 ∷ 0 ∷ []))) 0 0 [] 9 (lent 16) (refused 3 at 18) 0 (lent 16) ∷
-    row (giving (rec kind.LIT (0 ∷ 5 ∷ 0 ∷ 0 ∷ 0 ∷ []))) 0 0 [] 9 (lent 16) (refused 3 at 18) 0 (lent 16) ∷
+    row (giving (rec kind.NARROW-LIT (0 ∷ 5 ∷ 0 ∷ 0 ∷ 0 ∷ []))) 0 0 [] 9 (lent 16) (refused 3 at 23) 0 (lent 16) ∷
+    row (giving (rec kind.NARROW-LIT (0 ∷ 5 ∷ 0 ∷ 0 ∷ 0 ∷ 0 ∷ 0 ∷ 0 ∷ 0 ∷ []))) 0 0 [] 9 (lent 16) (refused 3 at 23) 0 (lent 16) ∷
+    row (giving (rec kind.LIT (0 ∷ 5 ∷ 0 ∷ 0 ∷ 0 ∷ []))) 0 0 [] 9 (lent 16) (refused 3 at 23) 0 (lent 16) ∷
     -- words and items beyond 32 bits; 12: a head word of 2^32
     row I 0 0 (neg 1 ∷ neg 1099511627776 ∷ []) 9 (lent 16) (integer (neg 1099511627776)) 1 (lent 16) ∷
     row emptying 0 0 (pos 1 ∷ pos 1099511627776 ∷ []) 9 (lent 16) (vector 1) 3 (pos 1099511627776 ∷ lentFrom 1 15) ∷

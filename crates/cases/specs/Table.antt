@@ -18,6 +18,7 @@ pub record Row : Type 0 where
   pub image : List ℕ
   pub function : ℕ
   pub version : ℕ
+  pub level : ℕ
   pub words : List ℤ
   pub budget : ℕ
   pub buffer : List ℤ
@@ -27,7 +28,7 @@ pub record Row : Type 0 where
 
 -- the run of a row
 abbrev pub ran : Row → Ran
-ran r = runOf (r .image) (r .function) (r .version) (r .words) (r .budget) (r .buffer)
+ran r = runOf (r .image) (r .level) (r .function) (r .version) (r .words) (r .budget) (r .buffer)
 
 -- the run gives what its row says
 abbrev pub Gives : Row → Type 0
@@ -35,12 +36,13 @@ Gives r = (ran r .answer ≡ r .answer) × (ran r .steps ≡ r .steps) × (buffe
 
 -- ---- how rows are written
 
--- a row by its fields in that order
-abbrev pub row : List ℕ → ℕ → ℕ → List ℤ → ℕ → List ℤ → Answer → ℕ → List ℤ → Row
-row image f v words n buffer answer steps after = record {
+-- a row of a run at a level, by its other fields in that order
+abbrev pub atLevel : ℕ → List ℕ → ℕ → ℕ → List ℤ → ℕ → List ℤ → Answer → ℕ → List ℤ → Row
+atLevel level image f v words n buffer answer steps after = record {
   image = image;
   function = f;
   version = v;
+  level = level;
   words = words;
   budget = n;
   buffer = buffer;
@@ -48,6 +50,10 @@ row image f v words n buffer answer steps after = record {
   steps = steps;
   after = after;
 }
+
+-- a row of a run at level 0
+abbrev pub row : List ℕ → ℕ → ℕ → List ℤ → ℕ → List ℤ → Answer → ℕ → List ℤ → Row
+row = atLevel 0
 
 -- the number −n
 abbrev pub neg : ℕ → ℤ
@@ -93,22 +99,29 @@ rec k body = (4 + length body) ∷ 0 ∷ k ∷ 0 ∷ body
 abbrev pub lit : ℕ → ℕ → List ℕ
 lit d i = rec kind.LIT (d ∷ i ∷ 0 ∷ 0 ∷ 0 ∷ 0 ∷ 0 ∷ 0 ∷ 0 ∷ [])
 
--- image I, identity, as the paper writes it: a VERSION and its BLOCK
+-- the LEVEL of a version of level 0
+abbrev pub low : List ℕ
+low = rec kind.LEVEL (0 ∷ [])
+
+-- image I, identity, as the paper writes it, with its level: a VERSION, its LEVEL and its BLOCK
 abbrev pub I : List ℕ
 I =
     0x0B ∷ 0x00 ∷ 0x01 ∷ 0x00 ∷ 0x00 ∷ 0x00 ∷ 0x01 ∷ 0x01 ∷ 0x02 ∷ 0x01 ∷ 0x02 ∷
+    0x05 ∷ 0x00 ∷ 0x03 ∷ 0x00 ∷ 0x00 ∷
     0x07 ∷ 0x00 ∷ 0x02 ∷ 0x00 ∷ 0x00 ∷ 0x00 ∷ 0x00 ∷ []
 
 -- two integer registers, one parameter, result register 1, no instruction
 abbrev pub unassigned : List ℕ
 unassigned =
     rec kind.VERSION (0 ∷ 0 ∷ 1 ∷ 2 ∷ 2 ∷ 1 ∷ 2 ∷ 2 ∷ []) ++
+    low ++
     rec kind.BLOCK (0 ∷ 1 ∷ 0 ∷ [])
 
 -- DUP of the shared parameter 0 into the owned register 1, SET place 0 of the register a to 42, register 1 returned owned
 abbrev pub setOn : ℕ → List ℕ
 setOn a =
     rec kind.VERSION (0 ∷ 0 ∷ 1 ∷ 4 ∷ 0x13 ∷ 1 ∷ 0x03 ∷ 0x13 ∷ 0x02 ∷ 0x02 ∷ []) ++
+    low ++
     rec kind.BLOCK (0 ∷ 1 ∷ 4 ∷ []) ++
     rec kind.DUP (1 ∷ 0 ∷ []) ++
     lit 2 0 ++
@@ -119,6 +132,7 @@ setOn a =
 abbrev pub computing : ℕ → List ℕ
 computing op =
     rec kind.VERSION (0 ∷ 0 ∷ 2 ∷ 3 ∷ 2 ∷ 1 ∷ 2 ∷ 2 ∷ 2 ∷ []) ++
+    low ++
     rec kind.BLOCK (0 ∷ 2 ∷ 1 ∷ []) ++
     rec kind.ARITH (2 ∷ op ∷ 0 ∷ 1 ∷ [])
 
@@ -130,6 +144,7 @@ quotient = computing 3
 abbrev pub endless : List ℕ
 endless =
     rec kind.VERSION (0 ∷ 0 ∷ 0 ∷ 1 ∷ 2 ∷ 1 ∷ 2 ∷ []) ++
+    low ++
     rec kind.BLOCK (0 ∷ 0 ∷ 1 ∷ []) ++
     rec kind.CALL (0 ∷ 0 ∷ 0 ∷ 0 ∷ [])
 
@@ -144,8 +159,8 @@ cases =
     row I 0 0 (neg 1 ∷ pos 7 ∷ []) 1 (lent 16) (integer (pos 7)) 1 (lent 16) ∷
     -- P3 budget 0 gives STEPS, 0
     row I 0 0 (neg 1 ∷ pos 7 ∷ []) 0 (lent 16) Answer.Steps 0 (lent 16) ∷
-    -- P4 I without its last byte: 2 at 11
-    row (take 17 I) 0 0 (neg 1 ∷ pos 7 ∷ []) 1 (lent 16) (refused 2 at 11) 0 (lent 16) ∷
+    -- P4 I without its last byte: 2 at 16
+    row (take 22 I) 0 0 (neg 1 ∷ pos 7 ∷ []) 1 (lent 16) (refused 2 at 16) 0 (lent 16) ∷
     -- P5 I with type 0x12: 6 at 0
     row (set I 10 0x12) 0 0 (neg 1 ∷ pos 7 ∷ []) 1 (lent 16) (refused 6 at 0) 0 (lent 16) ∷
     -- P6 two integer registers, one parameter, result register 1, no instruction: 10 at 0
@@ -155,7 +170,7 @@ cases =
     -- P8 on an empty vector UNDEF
     row (setOn 1) 0 0 (pos 0 ∷ []) 100 (lent 16) undef 4 (lent 16) ∷
     -- P9 SET on the shared one: 8
-    row (setOn 0) 0 0 (pos 1 ∷ pos 1 ∷ []) 100 (lent 16) (refused 8 at 53) 0 (lent 16) ∷
+    row (setOn 0) 0 0 (pos 1 ∷ pos 1 ∷ []) 100 (lent 16) (refused 8 at 58) 0 (lent 16) ∷
     -- P10 −7 divided by 2 is −4
     row quotient 0 0 (neg 1 ∷ neg 7 ∷ neg 1 ∷ pos 2 ∷ []) 100 (lent 17) (integer (neg 4)) 2 (lent 17) ∷
     -- P11 a body that calls itself, budget 32: DEEP after 31 steps

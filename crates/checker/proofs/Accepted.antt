@@ -14,7 +14,7 @@ use Rattle.program.specs.Questions.{question7}
 use Rattle.program.specs.Skips.{question14}
 use Rattle.program.proofs.Held.{Held, holds}
 use Rattle.program.proofs.Laid.{bounds, in-bounds}
-use Rattle.rules.specs.Questions.{question6, question8, question9}
+use Rattle.rules.specs.Questions.{question6, question8, question9, question18}
 use Rattle.rules.specs.Flows.{question10}
 use Rattle.checker.specs.Verdicts.{verdictOf, verdictIn}
 use Rattle.checker.specs.declared.Verdict.{Verdict}
@@ -32,6 +32,7 @@ pub record Passed (form : Form) (s : List ℕ) (k : ℕ) : Type 0 where
   pub q7 : first (question7 (program (records s))) (program (records s)) ≡ Nothing
   pub q14 : question14 (records s) ≡ Nothing
   pub q8 : first (question8 (program (records s))) (program (records s)) ≡ Nothing
+  pub q18 : first (question18 (program (records s))) (program (records s)) ≡ Nothing
   pub q9 : first (question9 (program (records s))) (program (records s)) ≡ Nothing
   pub q10 : first (question10 (program (records s))) (program (records s)) ≡ Nothing
   pub count : length (program (records s)) ≡ k
@@ -54,7 +55,8 @@ passed s k e =
     let e7 = asked 7 _ _ k (e6 .1) in
     let e14 = asked 14 _ _ k (e7 .1) in
     let e8 = asked 8 _ _ k (e14 .1) in
-    let e9 = asked 9 _ _ k (e8 .1) in
+    let e18 = asked 18 _ _ k (e8 .1) in
+    let e9 = asked 9 _ _ k (e18 .1) in
     let e10 = asked 10 _ _ k (e9 .1) in
     record {
       q1 = e1 .0;
@@ -66,6 +68,7 @@ passed s k e =
       q7 = e7 .0;
       q14 = e14 .0;
       q8 = e8 .0;
+      q18 = e18 .0;
       q9 = e9 .0;
       q10 = e10 .0;
       count = ap carried (e10 .1);
@@ -76,14 +79,15 @@ pub accept : {form : Form} {s : List ℕ} {k : ℕ} → Passed form s k → verd
 unfolding verdictIn
 accept a =
     ask-yes 1 _ (a .q1) ∙ ask-yes 2 _ (a .q2) ∙ ask-yes 3 _ (a .q3) ∙ ask-yes 4 _ (a .q4) ∙ ask-yes 5 _ (a .q5) ∙ ask-yes 6 _ (a .q6) ∙ ask-yes 7 _ (a .q7)
-    ∙ ask-yes 14 _ (a .q14) ∙ ask-yes 8 _ (a .q8) ∙ ask-yes 9 _ (a .q9) ∙ ask-yes 10 _ (a .q10) ∙ ap Accepted (a .count)
+    ∙ ask-yes 14 _ (a .q14) ∙ ask-yes 8 _ (a .q8) ∙ ask-yes 18 _ (a .q18) ∙ ask-yes 9 _ (a .q9) ∙ ask-yes 10 _ (a .q10) ∙ ap Accepted (a .count)
 
--- what questions 4 and 6 to 10 found of a version of the program P
+-- what questions 4, 6 to 10 and 18 found of a version of the program P
 pub record Checked (P : Program) (v : Version) : Type 0 where
   pub bound : Held bounds v
   pub types : Held question6 v
   pub exist : Held (question7 P) v
   pub fit : Held (question8 P) v
+  pub down : Held (question18 P) v
   pub cover : Held (question9 P) v
   pub flow : Held (question10 P) v
 
@@ -97,6 +101,7 @@ checked s k e f w v h =
       types = holds question6 P (all .q6) f w v h;
       exist = holds (question7 P) P (all .q7) f w v h;
       fit = holds (question8 P) P (all .q8) f w v h;
+      down = holds (question18 P) P (all .q18) f w v h;
       cover = holds (question9 P) P (all .q9) f w v h;
       flow = holds (question10 P) P (all .q10) f w v h;
     }

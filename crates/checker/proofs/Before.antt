@@ -17,7 +17,7 @@ use Rattle.program.specs.Search.{Question, first, firstBlock, firstLine, free}
 use Rattle.program.specs.Questions.{question7}
 use Rattle.program.specs.Skips.{question14}
 use Rattle.program.proofs.Laid.{passed}
-use Rattle.rules.specs.Questions.{question6, question8, question9}
+use Rattle.rules.specs.Questions.{question6, question8, question18, question9}
 use Rattle.rules.specs.Actions.{Action}
 use Rattle.rules.specs.Flows.{flows, question10}
 use Rattle.rules.proofs.Before.{bodyAction₀, flows₀, still-does, still-flows}
@@ -40,8 +40,8 @@ ending form last s =
     let rs = records s in
     let P = program rs in
     ask 1 (question1 s) (ask 2 (question2 rs) (ask 3 (question3 form rs) (ask 4 (question4 (length s) rs) (ask 5 (question5 rs)
-    (ask 6 (first question6 P) (ask 7 (first (question7 P) P) (ask 14 (question14 rs) (ask 8 (first (question8 P) P) (ask 9 (first (question9 P) P)
-    (ask 10 last (Accepted (length P))))))))))))
+    (ask 6 (first question6 P) (ask 7 (first (question7 P) P) (ask 14 (question14 rs) (ask 8 (first (question8 P) P) (ask 18 (first (question18 P) P) (ask 9 (first (question9 P) P)
+    (ask 10 last (Accepted (length P)))))))))))))
 
 pub verdict₀ : Form → List ℕ → Verdict
 verdict₀ form s = ending form (first (question10₀ (program (records s))) (program (records s))) s
@@ -111,8 +111,8 @@ ask-still n k x {m} {m′} h e = let a = asked n x m k e in ask-yes n m′ (a .0
 pub still-accepted : (form : Form) (s : List ℕ) (k : ℕ) → verdict₀ form s ≡ Accepted k → verdictIn form s ≡ Accepted k
 unfolding verdictIn verdict₀
 still-accepted form s k =
-    ask-still 1 k _ (ask-still 2 k _ (ask-still 3 k _ (ask-still 4 k _ (ask-still 5 k _ (ask-still 6 k _ (ask-still 7 k _ (ask-still 14 k _ (ask-still 8 k _ (ask-still 9 k _
-    (λ e. let P = program (records s) in let a = asked 10 _ _ k e in ask-yes 10 (Accepted (length P)) (still-nothing P P (a .0)) ∙ a .1))))))))))
+    ask-still 1 k _ (ask-still 2 k _ (ask-still 3 k _ (ask-still 4 k _ (ask-still 5 k _ (ask-still 6 k _ (ask-still 7 k _ (ask-still 14 k _ (ask-still 8 k _ (ask-still 18 k _ (ask-still 9 k _
+    (λ e. let P = program (records s) in let a = asked 10 _ _ k e in ask-yes 10 (Accepted (length P)) (still-nothing P P (a .0)) ∙ a .1)))))))))))
 
 -- question 10 found nothing in such an image
 ended : (form : Form) (s : List ℕ) (k : ℕ) → verdict₀ form s ≡ Accepted k → first (question10₀ (program (records s))) (program (records s)) ≡ Nothing
@@ -127,7 +127,8 @@ ended form s k e =
     let e7 = asked 7 _ _ k (e6 .1) in
     let e14 = asked 14 _ _ k (e7 .1) in
     let e8 = asked 8 _ _ k (e14 .1) in
-    let e9 = asked 9 _ _ k (e8 .1) in
+    let e18 = asked 18 _ _ k (e8 .1) in
+    let e9 = asked 9 _ _ k (e18 .1) in
     asked 10 _ _ k (e9 .1) .0
 
 -- THE LAW: and `check` prints the same of it, the four counts of each version included

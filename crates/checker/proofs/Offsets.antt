@@ -20,12 +20,12 @@ use Rattle.layout.specs.declared.Found.{Found}
 use Rattle.layout.specs.declared.Found.the-variants.{Nothing, At}
 use Rattle.layout.proofs.Bools.{and-both}
 use Rattle.layout.proofs.Walk.{size-room}
-use Rattle.program.specs.Program.{Line, Block, Version, Program, View, nowhere, lineOf, blockOf, versionOf, put, putBy, view, viewBy, program}
+use Rattle.program.specs.Program.{Line, Block, Version, Program, View, nowhere, levelOf, lineOf, blockOf, versionOf, put, putBy, view, viewBy, program}
 use Rattle.program.specs.Search.{Question, firstLine, firstBlock, first}
 use Rattle.program.specs.Questions.{question7}
 use Rattle.program.specs.Skips.{noEnds, endsAfter, endsWithin, question14}
 use Rattle.layout.proofs.Lists.{Each}
-use Rattle.rules.specs.Questions.{question6, question8, question9}
+use Rattle.rules.specs.Questions.{question6, question8, question9, question18}
 use Rattle.rules.specs.Flows.{question10}
 use Rattle.checker.specs.Verdicts.{ask, verdictIn}
 use Rattle.checker.proofs.Asks.{ask-no}
@@ -91,7 +91,7 @@ module _ (n : ℕ) (rs : List Rec) (e : Each (RecIn n) rs) where
 
   in-4 : Within n (question4 n rs)
   unfolding question4 noneDue Within
-  in-4 = scan-in placed dueAfter (noneDue n) n (λ (d : Due). within-either n (eqb (d .blocks) 0 and eqb (d .instructions) 0) Nothing (At n) tt (omega arith)) rs e start
+  in-4 = scan-in placed dueAfter (noneDue n) n (λ (d : Due). within-either n (eqb (d .levels) 0 and eqb (d .blocks) 0 and eqb (d .instructions) 0) Nothing (At n) tt (omega arith)) rs e start
 
   in-5 : Within n (question5 rs)
   unfolding question5 Within
@@ -125,7 +125,7 @@ put-in : (n : ℕ) (r : Rec) (w : View) → r .at ≤ n → ViewIn n w → ViewI
 unfolding putBy Each
 put-in n r w h e = go (eqb (r .kind) kind.VERSION) (eqb (r .kind) kind.BLOCK)
   where
-    go : (a b : Bool) → ViewIn n (cond a (record { code = []; blocks = []; versions = versionOf r (w .blocks) ∷ w .versions }) (cond b (record { code = []; blocks = blockOf r (w .code) ∷ w .blocks; versions = w .versions }) (record { code = lineOf r ∷ w .code; blocks = w .blocks; versions = w .versions })))
+    go : (a b : Bool) → ViewIn n (cond a (record { level = 0; code = []; blocks = []; versions = versionOf r (w .level) (w .blocks) ∷ w .versions }) (cond b (record { level = 0; code = []; blocks = blockOf r (w .code) ∷ w .blocks; versions = w .versions }) (record { level = levelOf r; code = lineOf r ∷ w .code; blocks = w .blocks; versions = w .versions })))
     go true b = record { code = tt; blocks = tt; versions = ((h, e .blocks), e .versions) }
     go false true = record { code = tt; blocks = ((h, e .code), e .blocks); versions = e .versions }
     go false false = record { code = (h, e .code); blocks = e .blocks; versions = e .versions }
@@ -187,8 +187,9 @@ verdict-in form s =
     (ask-low _ 7 _ _ (first-in (question7 P) (length s) P vs)
     (ask-low _ 14 _ _ (in-14 (length s) (records s) rs)
     (ask-low _ 8 _ _ (first-in (question8 P) (length s) P vs)
+    (ask-low _ 18 _ _ (first-in (question18 P) (length s) P vs)
     (ask-low _ 9 _ _ (first-in (question9 P) (length s) P vs)
-    (ask-low _ 10 _ _ (first-in (question10 P) (length s) P vs) tt))))))))))
+    (ask-low _ 10 _ _ (first-in (question10 P) (length s) P vs) tt)))))))))))
 
 -- THE LAW: an image that is too long is refused at 0
 pub refused-low : (form : Form) (s : List ℕ) (q p : ℕ) → verdictIn form s ≡ Refused q p → p ≤ IMAGE

@@ -11,7 +11,7 @@ use Rattle.program.specs.Program.{program}
 use Rattle.program.specs.Search.{first}
 use Rattle.program.specs.Questions.{question7}
 use Rattle.program.specs.Skips.{question14}
-use Rattle.rules.specs.Questions.{question6, question8, question9}
+use Rattle.rules.specs.Questions.{question6, question8, question9, question18}
 use Rattle.rules.specs.Flows.{question10}
 use Rattle.checker.specs.declared.Verdict.{Verdict}
 use Rattle.checker.specs.declared.Verdict.the-variants.{Accepted, Refused}
@@ -21,15 +21,18 @@ unfoldable pub ask : ℕ → Found → Verdict → Verdict
 ask n Nothing more = more
 ask n (At p) more = Refused n p
 
--- the questions in order, 14 after 7, each with those from it on; an image that passes them all is accepted, with its number of versions
+-- the questions in order, 14 after 7 and 18 after 8, each with those from it on; an image that passes them all is accepted, with its number of versions
 abbrev pub from10 : List ℕ → Verdict
 from10 s = ask 10 (first (question10 (program (records s))) (program (records s))) (Accepted (length (program (records s))))
 
 abbrev pub from9 : List ℕ → Verdict
 from9 s = ask 9 (first (question9 (program (records s))) (program (records s))) (from10 s)
 
+abbrev pub from18 : List ℕ → Verdict
+from18 s = ask 18 (first (question18 (program (records s))) (program (records s))) (from9 s)
+
 abbrev pub from8 : List ℕ → Verdict
-from8 s = ask 8 (first (question8 (program (records s))) (program (records s))) (from9 s)
+from8 s = ask 8 (first (question8 (program (records s))) (program (records s))) (from18 s)
 
 abbrev pub from14 : List ℕ → Verdict
 from14 s = ask 14 (question14 (records s)) (from8 s)

@@ -1,9 +1,9 @@
-//! The questions in order, 14 after 7.
+//! The questions in order, 14 after 7 and 18 after 8.
 ghost use mathlib.Core.Path.{_≡_};
 ghost use lib.ListN.{length};
 ghost use Rattle.layout.specs.Records.{records};
 ghost use Rattle.program.specs.Program.{program};
-ghost use Rattle.checker.specs.Verdicts.{from2, from3, from4, from5, from6, from7, from8, from9, from10, from14, verdictIn, verdictOf};
+ghost use Rattle.checker.specs.Verdicts.{from2, from3, from4, from5, from6, from7, from8, from9, from10, from14, from18, verdictIn, verdictOf};
 use crate::Verdict;
 use flow::question10;
 use layout::Form;
@@ -13,6 +13,7 @@ use program::question14;
 use typing::question6;
 use typing::question8;
 use typing::question9;
+use typing::question18;
 
 /// How many versions the program of an image has.
 fn count_versions(image: &[u8]) -> usize
@@ -55,6 +56,16 @@ fn from_9(image: &[u8]) -> Verdict
     from_10(image)
 }
 
+/// The questions from 18 on, which is put after 8.
+fn from_18(image: &[u8]) -> Verdict
+    ensures { λ r. ⌜ r ≡ from18 (now (image .entry)) ⌝ }
+{
+    if let Found::At(p) = question18::question_18(image) {
+        return Verdict::Refused(18, p);
+    }
+    from_9(image)
+}
+
 /// The questions from 8 on.
 fn from_8(image: &[u8]) -> Verdict
     ensures { λ r. ⌜ r ≡ from8 (now (image .entry)) ⌝ }
@@ -62,7 +73,7 @@ fn from_8(image: &[u8]) -> Verdict
     if let Found::At(p) = question8::question_8(image) {
         return Verdict::Refused(8, p);
     }
-    from_9(image)
+    from_18(image)
 }
 
 /// The questions from 14 on, which is put after 7.

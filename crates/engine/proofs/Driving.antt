@@ -68,11 +68,11 @@ delivers r buffer e = e
 
 -- ---- from the start
 
-module _ (image : List ℕ) (f v : ℕ) (words : List ℤ) (n : ℕ) (buffer : List ℤ) (b : Begun) (begun : b ≡ beginOf image f v words buffer) where
-  pub run-refused : (q p : ℕ) → b .entry ≡ Entry.Refused q p → record { state = b .state; answer = Answer.Refused q p; steps = 0 } ≡ runOf image f v words n buffer
+module _ (image : List ℕ) (level f v : ℕ) (words : List ℤ) (n : ℕ) (buffer : List ℤ) (b : Begun) (begun : b ≡ beginOf image level f v words buffer) where
+  pub run-refused : (q p : ℕ) → b .entry ≡ Entry.Refused q p → record { state = b .state; answer = Answer.Refused q p; steps = 0 } ≡ runOf image level f v words n buffer
   unfolding runOfTo runAfterTo
   run-refused q p e = rw (← begun, e)
 
-  pub run-begun : {r : Ran} → b .entry ≡ Entry.Begun → r ≡ budgetOf (programOf image) (b .state) n buffer → r ≡ runOf image f v words n buffer
+  pub run-begun : {r : Ran} → b .entry ≡ Entry.Begun → r ≡ budgetOf (programOf image) (b .state) n buffer → r ≡ runOf image level f v words n buffer
   unfolding runOfTo runAfterTo
   run-begun e g = rw (← begun, e) g

@@ -242,25 +242,34 @@ impl State {
     }
 }
 
-/// Begins a run of a version of a function of an image: its state before the first step, or a refusal. Nothing is written.
-pub fn begin(image: &[u8], function: usize, version: usize, words: &[i64], buffer: &[i64]) -> Begun
-    ensures { λ r. ⌜ r ≡ beginOf (now (image .entry)) function version (now (words .entry)) (now (buffer .entry)) ⌝ }
+/// Begins a run, at a level, of a version of a function of an image: its state before the first step, or a refusal. Nothing is
+/// written.
+pub fn begin(
+    image: &[u8],
+    level: usize,
+    function: usize,
+    version: usize,
+    words: &[i64],
+    buffer: &[i64],
+) -> Begun
+    ensures { λ r. ⌜ r ≡ beginOf (now (image .entry)) level function version (now (words .entry)) (now (buffer .entry)) ⌝ }
 {
-    begin::begin(image, function, version, words, buffer)
+    begin::begin(image, level, function, version, words, buffer)
 }
 
-/// Begins a run and goes on with it under its first budget.
+/// Begins a run at a level, and goes on with it under its first budget.
 pub fn run(
     image: &[u8],
+    level: usize,
     function: usize,
     version: usize,
     words: &[i64],
     budget: u32,
     buffer: &mut [i64],
 ) -> Ran
-    ensures { λ r. ⌜ (r ≡ runOf (now (image .entry)) function version (now (words .entry)) budget (now (buffer .entry))) × (now (buffer .exit) ≡ bufferOf r (now (buffer .entry))) ⌝ }
+    ensures { λ r. ⌜ (r ≡ runOf (now (image .entry)) level function version (now (words .entry)) budget (now (buffer .entry))) × (now (buffer .exit) ≡ bufferOf r (now (buffer .entry))) ⌝ }
 {
-    let begun = begin::begin(image, function, version, words, buffer);
+    let begun = begin::begin(image, level, function, version, words, buffer);
     let state = begun.state;
     let entry = begun.entry;
     match entry {

@@ -128,9 +128,9 @@ module _ (s owners codes : List ℕ) (numbers : List ℤ) (stack lengths : List 
   unfolding the memoryOf Called withArrays withPromises withOpen withCells
   call-arm d f w n rs owners′ codes′ numbers′ stack′ r t is counted h e = rw e (opens-by s owners codes numbers stack lengths items promises caches calls depth k v at (CALL d f w rs) is owners′ codes′ numbers′ stack′ r (λ R. h .0 (memoryOf owners codes numbers stack lengths items promises caches R calls depth) (versionAt s v) rs is counted) (h .1))
 
-  pub dispatch-arm : (d f mark ret n : ℕ) (pairs : List Argument) (owners′ codes′ : List ℕ) (numbers′ : List ℤ) (stack′ : List ℕ) (r : Did) (t : Turn) → instrAt s at ≡ DISPATCH d f mark ret pairs → length pairs ≡ n → Dispatched s r (record { owners = owners; codes = codes; numbers = numbers; stack = stack }) (record { owners = owners′; codes = codes′; numbers = numbers′; stack = stack′ }) promises calls depth k at d f mark ret n × Within r calls depth → t ≡ openedOf r (calls + 1) (depth + 1) → Instructs s t (memoryOf owners codes numbers stack lengths items promises caches) (memoryOf owners′ codes′ numbers′ stack′ lengths items promises caches) calls depth k v at
+  pub dispatch-arm : (d f mark ret n : ℕ) (pairs : List Argument) (owners′ codes′ : List ℕ) (numbers′ : List ℤ) (stack′ : List ℕ) (r : Did) (t : Turn) → instrAt s at ≡ DISPATCH d f mark ret pairs → length pairs ≡ n → Dispatched s r (record { owners = owners; codes = codes; numbers = numbers; stack = stack }) (record { owners = owners′; codes = codes′; numbers = numbers′; stack = stack′ }) promises calls depth k at (versionAt s v .level) d f mark ret n × Within r calls depth → t ≡ openedOf r (calls + 1) (depth + 1) → Instructs s t (memoryOf owners codes numbers stack lengths items promises caches) (memoryOf owners′ codes′ numbers′ stack′ lengths items promises caches) calls depth k v at
   unfolding the memoryOf Dispatched withArrays withPromises withOpen withCells
-  dispatch-arm d f mark ret n pairs owners′ codes′ numbers′ stack′ r t is counted h e = rw e (opens-by s owners codes numbers stack lengths items promises caches calls depth k v at (DISPATCH d f mark ret pairs) is owners′ codes′ numbers′ stack′ r (λ R. h .0 (memoryOf owners codes numbers stack lengths items promises caches R calls depth) (versionAt s v) pairs is counted) (h .1))
+  dispatch-arm d f mark ret n pairs owners′ codes′ numbers′ stack′ r t is counted h e = rw e (opens-by s owners codes numbers stack lengths items promises caches calls depth k v at (DISPATCH d f mark ret pairs) is owners′ codes′ numbers′ stack′ r (λ R. h .0 (memoryOf owners codes numbers stack lengths items promises caches R calls depth) (versionAt s v) pairs refl is counted) (h .1))
 
   -- FORCE: cached, opened, stuck or stopped
   module _ (d a : ℕ) (codes′ : List ℕ) (numbers′ : List ℤ) (stack′ : List ℕ) (is : instrAt s at ≡ FORCE d a) where

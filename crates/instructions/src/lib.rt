@@ -270,6 +270,7 @@ pub fn instruct(
                 depth,
                 k,
                 at,
+                v,
                 d,
                 function,
                 mark,

@@ -6,10 +6,10 @@ use mathlib.Core.List.{List}
 use Prim.Native.Nat.{ℕ, _≤_, _<_}
 use native.Mathlib.Omega.{arith}
 use lib.ListN.{length}
-use borrow.Author.Tests.{lt-ltb, le-ltb, ne-eqb}
+use borrow.Author.Tests.{lt-ltb, le-ltb}
 use Rattle.layout.specs.Tests.{_and_}
 use Rattle.layout.specs.Records.{recAt}
-use Rattle.layout.specs.Questions.{noneDue}
+use Rattle.layout.specs.Questions.{idle, noneDue}
 use Rattle.layout.specs.Turns.{turnOf, lastAt}
 use Rattle.layout.specs.declared.Due.{Due}
 use Rattle.layout.specs.declared.Turn.the-variants.{Next, Refused}
@@ -24,18 +24,14 @@ pub turn-refused : (b : Bool) (due : Due) → turnOf b due ≡ Refused → b ≡
 turn-refused true due e = let z : _≡_ {A = ℕ} 0 1 = cc in absurd (omega arith)
 turn-refused false due e = refl
 
--- blocks are missing, instructions are missing, nothing is
-pub missing-blocks : (end : ℕ) (due : Due) → (due .blocks ≡ 0 → ⊥) → At end ≡ noneDue end due
-unfolding noneDue _and_
-missing-blocks end due h = simp (ne-eqb (due .blocks) 0 h)
+-- nothing is missing, or something is
+pub none-missing : (end : ℕ) (due : Due) → idle due ≡ true → Nothing ≡ noneDue end due
+unfolding noneDue
+none-missing end due h = rw h refl
 
-pub missing-instructions : (end : ℕ) (due : Due) → due .blocks ≡ 0 → (due .instructions ≡ 0 → ⊥) → At end ≡ noneDue end due
-unfolding noneDue _and_
-missing-instructions end due e h = simp (e, ne-eqb (due .instructions) 0 h)
-
-pub none-missing : (end : ℕ) (due : Due) → due .blocks ≡ 0 → due .instructions ≡ 0 → Nothing ≡ noneDue end due
-unfolding noneDue _and_
-none-missing end due e h = simp (e, h)
+pub some-missing : (end : ℕ) (due : Due) → idle due ≡ false → At end ≡ noneDue end due
+unfolding noneDue
+some-missing end due h = rw h refl
 
 -- the offset of a record stands for it, an offset outside for none
 pub last-inside : (s : List ℕ) (p : ℕ) → p < length s → lastAt s p ≡ some (recAt s p)

@@ -1,4 +1,4 @@
--- Image: the bounds, each named once. FUNCTIONS, VERSIONS, NAMES, MARKS and OPERATIONS count numbers from 0 on; the others are greatest counts.
+-- Image: the bounds, each named once. FUNCTIONS, VERSIONS, LEVELS, NAMES, MARKS and OPERATIONS count numbers from 0 on; the others are greatest counts.
 use Prim.Native.Nat.{ℕ}
 
 -- bytes of an image
@@ -16,6 +16,10 @@ VERSIONS = 4
 -- versions in all
 abbrev pub ALL-VERSIONS : ℕ
 ALL-VERSIONS = 64
+
+-- 02, 7: levels of a version: 0..2
+abbrev pub LEVELS : ℕ
+LEVELS = 3
 
 -- registers of a version: 1..16
 abbrev pub REGISTERS : ℕ

@@ -9,6 +9,10 @@ VERSION = 1
 abbrev pub BLOCK : ℕ
 BLOCK = 2
 
+-- 02, 7: LEVEL: level, right after each VERSION
+abbrev pub LEVEL : ℕ
+LEVEL = 3
+
 -- LIT d, i32: the literal of the 32-bit form, which the form in force does not know
 abbrev pub NARROW-LIT : ℕ
 NARROW-LIT = 16

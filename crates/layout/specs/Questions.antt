@@ -5,7 +5,7 @@ use mathlib.Core.Bool.{Bool, true, cond, not, _||_}
 use Prim.Native.Nat.{ℕ, _+_, _-_, _*_}
 use lib.ListN.{length}
 use lib.Dec.{ltb, leb, eqb}
-use Rattle.layout.specs.Bounds.{IMAGE, FUNCTIONS, VERSIONS, ALL-VERSIONS, REGISTERS, PARAMETERS, BLOCKS, INSTRUCTIONS, OPERANDS, MARKS, OPERATIONS}
+use Rattle.layout.specs.Bounds.{IMAGE, FUNCTIONS, VERSIONS, ALL-VERSIONS, LEVELS, REGISTERS, PARAMETERS, BLOCKS, INSTRUCTIONS, OPERANDS, MARKS, OPERATIONS}
 use Rattle.layout.specs.Kinds as kind
 use Rattle.layout.specs.Tests.{_and_}
 use Rattle.layout.specs.Records.{Rec, _!_, choose}
@@ -41,6 +41,7 @@ unfoldable pub plainLength : ℕ → List ℕ → ℕ
 plainLength k b = choose k 0 (
     (kind.VERSION, 10 + b ! 3) ∷
     (kind.BLOCK, 7) ∷
+    (kind.LEVEL, 5) ∷
     (kind.MOVE, 6) ∷
     (kind.USE, 6) ∷
     (kind.DUP, 6) ∷
@@ -79,37 +80,70 @@ versionInBounds b =
     ltb (b ! 0) FUNCTIONS and ltb (b ! 1) VERSIONS and leb (b ! 2) PARAMETERS and leb (b ! 2) (b ! 3)
     and ltb 0 (b ! 3) and leb (b ! 3) REGISTERS and ltb 0 (b ! 5) and leb (b ! 5) BLOCKS
 
--- the bounds that question 4 names: a VERSION's, marks, instruction counts, n and op
+-- the bounds that question 4 names: a VERSION's, marks, instruction counts, levels, n and op
 unfoldable pub inBounds : ℕ → List ℕ → Bool
 inBounds k b = choose k true (
     (kind.VERSION, versionInBounds b) ∷
     (kind.BLOCK, ltb (b ! 0) MARKS and leb (b ! 2) INSTRUCTIONS) ∷
+    (kind.LEVEL, ltb (b ! 0) LEVELS) ∷
     (kind.VEC, leb (b ! 1) OPERANDS) ∷
     (kind.ARITH, ltb (b ! 1) OPERATIONS) ∷
     (kind.CALL, leb (b ! 3) OPERANDS) ∷
     (kind.DISPATCH, ltb (b ! 2) MARKS and leb (b ! 4) OPERANDS) ∷ [])
 
+-- no level, no block and no instruction is due
+abbrev pub idle : Due → Bool
+idle due = eqb (due .levels) 0 and eqb (due .blocks) 0 and eqb (due .instructions) 0
+
+-- where a VERSION may stand: where nothing is due
+abbrev pub versionNext : Due → Bool
+versionNext due = ltb (due .versions) ALL-VERSIONS and idle due
+
+-- what is due after it: its level, and its blocks
+abbrev pub afterVersion : Due → List ℕ → Due
+afterVersion due b = record { versions = due .versions + 1; levels = 1; blocks = b ! 5; instructions = 0 }
+
+-- 02, 7: where a LEVEL may stand: right after a VERSION
+abbrev pub levelNext : Due → Bool
+levelNext due = ltb 0 (due .levels)
+
+-- what is due after it
+abbrev pub afterLevel : Due → Due
+afterLevel due = record { versions = due .versions; levels = due .levels - 1; blocks = due .blocks; instructions = due .instructions }
+
+-- where a BLOCK may stand: where a block is due, and neither a level nor an instruction
+abbrev pub blockNext : Due → Bool
+blockNext due = eqb (due .levels) 0 and ltb 0 (due .blocks) and eqb (due .instructions) 0
+
+-- what is due after it: its instructions
+abbrev pub afterBlock : Due → List ℕ → Due
+afterBlock due b = record { versions = due .versions; levels = due .levels; blocks = due .blocks - 1; instructions = b ! 2 }
+
+-- where an instruction may stand
+abbrev pub lineNext : Due → Bool
+lineNext due = ltb 0 (due .instructions)
+
+-- what is due after it
+abbrev pub afterLine : Due → Due
+afterLine due = record { versions = due .versions; levels = due .levels; blocks = due .blocks; instructions = due .instructions - 1 }
+
 -- may a record of this kind stand here, by what is due?
 unfoldable pub inOrder : Due → ℕ → Bool
-inOrder due k = choose k (ltb 0 (due .instructions)) (
-    (kind.VERSION, ltb (due .versions) ALL-VERSIONS and eqb (due .blocks) 0 and eqb (due .instructions) 0) ∷
-    (kind.BLOCK, ltb 0 (due .blocks) and eqb (due .instructions) 0) ∷ [])
+inOrder due k = choose k (lineNext due) ((kind.VERSION, versionNext due) ∷ (kind.LEVEL, levelNext due) ∷ (kind.BLOCK, blockNext due) ∷ [])
 
 -- what is due after it
 unfoldable pub dueAfter : Due → Rec → Due
-dueAfter due r = choose (r .kind) (record { versions = due .versions; blocks = due .blocks; instructions = due .instructions - 1 }) (
-    (kind.VERSION, record { versions = due .versions + 1; blocks = r .body ! 5; instructions = 0 }) ∷
-    (kind.BLOCK, record { versions = due .versions; blocks = due .blocks - 1; instructions = r .body ! 2 }) ∷ [])
+dueAfter due r = choose (r .kind) (afterLine due) ((kind.VERSION, afterVersion due (r .body)) ∷ (kind.LEVEL, afterLevel due) ∷ (kind.BLOCK, afterBlock due (r .body)) ∷ [])
 
 -- what is due at the start
 abbrev pub start : Due
-start = record { versions = 0; blocks = 0; instructions = 0 }
+start = record { versions = 0; levels = 0; blocks = 0; instructions = 0 }
 
 -- where records are missing, the offset is the image length
 unfoldable pub noneDue : ℕ → Due → Found
-noneDue end due = cond (eqb (due .blocks) 0 and eqb (due .instructions) 0) Nothing (At end)
+noneDue end due = cond (idle due) Nothing (At end)
 
--- 4: are a VERSION's numbers and counts, the count of versions so far, instruction counts, marks, op and n in bounds, and records in order?
+-- 4: are a VERSION's numbers and counts, the count of versions so far, instruction counts, levels, marks, op and n in bounds, and records in order?
 abbrev pub placed : Due → Rec → Bool
 placed due r = inBounds (r .kind) (r .body) and inOrder due (r .kind)
 

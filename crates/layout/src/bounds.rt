@@ -12,6 +12,9 @@ pub const VERSIONS: usize = 4;
 /// The versions in all.
 pub const ALL_VERSIONS: usize = 64;
 
+/// Levels of a version: 0..2.
+pub const LEVELS: usize = 3;
+
 /// The registers of a version: 1..16.
 pub const REGISTERS: usize = 16;
 

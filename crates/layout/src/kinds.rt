@@ -4,6 +4,8 @@ pub const VERSION: usize = 1;
 
 pub const BLOCK: usize = 2;
 
+pub const LEVEL: usize = 3;
+
 pub const NARROW_LIT: usize = 16;
 
 pub const MOVE: usize = 17;

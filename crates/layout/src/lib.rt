@@ -5,7 +5,7 @@ ghost use lib.Dec.{eqb};
 ghost use lib.ListN.{length};
 ghost use Rattle.layout.specs.Tests.{_and_};
 ghost use Rattle.layout.specs.Records.{_!_, sizeAt, kindAt, bodyAt, recAt, records};
-ghost use Rattle.layout.specs.Questions.{question1, question2, question3, question4, question5, plainLength, lengthOf, versionInBounds, inBounds, inOrder, dueAfter, follows};
+ghost use Rattle.layout.specs.Questions.{question1, question2, question3, question4, question5, plainLength, lengthOf, versionInBounds, inBounds, afterBlock, afterLevel, afterLine, afterVersion, blockNext, idle, inOrder, levelNext, lineNext, versionNext, dueAfter, follows};
 ghost use Rattle.layout.specs.Forms.{literalKind, literalLength};
 ghost use Rattle.layout.specs.Turns.{lastAt, turnOf};
 
@@ -140,6 +140,7 @@ fn plain_length_at(image: &[u8], p: usize) -> usize
     match kind_at(image, p) {
         kinds::VERSION => 10 + field(image, p, 3),
         kinds::BLOCK => 7,
+        kinds::LEVEL => 5,
         kinds::MOVE => 6,
         kinds::USE => 6,
         kinds::DUP => 6,
@@ -191,9 +192,10 @@ pub fn question_3(image: &[u8], form: Form) -> Found
     Found::Nothing
 }
 
-/// What question 4 keeps: the versions so far, and the blocks and instructions that are due.
+/// What question 4 keeps: the versions so far, and the levels (one at most), blocks and instructions that are due.
 pub struct Due {
     pub versions: usize,
+    pub levels: usize,
     pub blocks: usize,
     pub instructions: usize,
 }
@@ -235,7 +237,7 @@ fn version_in_bounds(image: &[u8], p: usize) -> bool
     blocks <= bounds::BLOCKS
 }
 
-/// Are the numbers, counts, marks, op and n of the record at `p` in bounds?
+/// Are the numbers, counts, level, marks, op and n of the record at `p` in bounds?
 fn in_bounds(image: &[u8], p: usize) -> bool
     ensures { λ r. ⌜ r ≡ inBounds (kindAt (now (image .entry)) p) (bodyAt (now (image .entry)) p) ⌝ }
 {
@@ -248,6 +250,7 @@ fn in_bounds(image: &[u8], p: usize) -> bool
                 false
             }
         }
+        kinds::LEVEL => field(image, p, 0) < bounds::LEVELS,
         kinds::VEC => field(image, p, 1) <= bounds::OPERANDS,
         kinds::ARITH => field(image, p, 1) < bounds::OPERATIONS,
         kinds::CALL => field(image, p, 3) <= bounds::OPERANDS,
@@ -262,53 +265,98 @@ fn in_bounds(image: &[u8], p: usize) -> bool
     }
 }
 
+/// Is no level, no block and no instruction due?
+fn is_idle(due: Due) -> bool
+    ensures { λ r. ⌜ r ≡ idle due ⌝ }
+{
+    if due.levels != 0 {
+        return false;
+    }
+    if due.blocks != 0 {
+        return false;
+    }
+    due.instructions == 0
+}
+
+/// The VERSION at `p`.
+fn after_version(image: &[u8], p: usize, due: Due) -> Turn
+    ensures { λ r. ⌜ r ≡ turnOf (versionNext due) (afterVersion due (bodyAt (now (image .entry)) p)) ⌝ }
+{
+    if bounds::ALL_VERSIONS <= due.versions {
+        return Turn::Refused;
+    }
+    if !is_idle(due) {
+        return Turn::Refused;
+    }
+    Turn::Next(Due {
+        versions: due.versions + 1,
+        levels: 1,
+        blocks: field(image, p, 5),
+        instructions: 0,
+    })
+}
+
+/// A LEVEL.
+fn after_level(due: Due) -> Turn
+    ensures { λ r. ⌜ r ≡ turnOf (levelNext due) (afterLevel due) ⌝ }
+{
+    if due.levels == 0 {
+        return Turn::Refused;
+    }
+    Turn::Next(Due {
+        versions: due.versions,
+        levels: due.levels - 1,
+        blocks: due.blocks,
+        instructions: due.instructions,
+    })
+}
+
+/// The BLOCK at `p`.
+fn after_block(image: &[u8], p: usize, due: Due) -> Turn
+    ensures { λ r. ⌜ r ≡ turnOf (blockNext due) (afterBlock due (bodyAt (now (image .entry)) p)) ⌝ }
+{
+    let levels = due.levels;
+    if levels != 0 {
+        return Turn::Refused;
+    }
+    if due.blocks == 0 {
+        return Turn::Refused;
+    }
+    if due.instructions != 0 {
+        return Turn::Refused;
+    }
+    Turn::Next(Due {
+        versions: due.versions,
+        levels: levels,
+        blocks: due.blocks - 1,
+        instructions: field(image, p, 2),
+    })
+}
+
+/// An instruction.
+fn after_line(due: Due) -> Turn
+    ensures { λ r. ⌜ r ≡ turnOf (lineNext due) (afterLine due) ⌝ }
+{
+    if due.instructions == 0 {
+        return Turn::Refused;
+    }
+    Turn::Next(Due {
+        versions: due.versions,
+        levels: due.levels,
+        blocks: due.blocks,
+        instructions: due.instructions - 1,
+    })
+}
+
 /// May the record at `p` stand where `due` is due, and what is due after it?
 fn due_after(image: &[u8], p: usize, due: Due) -> Turn
     ensures { λ r. ⌜ r ≡ turnOf (inOrder due (kindAt (now (image .entry)) p)) (dueAfter due (recAt (now (image .entry)) p)) ⌝ }
 {
-    let versions = due.versions;
-    let blocks = due.blocks;
-    let instructions = due.instructions;
     match kind_at(image, p) {
-        kinds::VERSION => {
-            if bounds::ALL_VERSIONS <= versions {
-                Turn::Refused
-            } else if blocks != 0 {
-                Turn::Refused
-            } else if instructions != 0 {
-                Turn::Refused
-            } else {
-                Turn::Next(Due {
-                    versions: versions + 1,
-                    blocks: field(image, p, 5),
-                    instructions: 0,
-                })
-            }
-        }
-        kinds::BLOCK => {
-            if blocks == 0 {
-                Turn::Refused
-            } else if instructions != 0 {
-                Turn::Refused
-            } else {
-                Turn::Next(Due {
-                    versions: versions,
-                    blocks: blocks - 1,
-                    instructions: field(image, p, 2),
-                })
-            }
-        }
-        _ => {
-            if instructions == 0 {
-                Turn::Refused
-            } else {
-                Turn::Next(Due {
-                    versions: versions,
-                    blocks: blocks,
-                    instructions: instructions - 1,
-                })
-            }
-        }
+        kinds::VERSION => after_version(image, p, due),
+        kinds::LEVEL => after_level(due),
+        kinds::BLOCK => after_block(image, p, due),
+        _ => after_line(due),
     }
 }
 
@@ -319,6 +367,7 @@ pub fn question_4(image: &[u8]) -> Found
     let mut p = 0;
     let mut due = Due {
         versions: 0,
+        levels: 0,
         blocks: 0,
         instructions: 0,
     };
@@ -341,13 +390,11 @@ pub fn question_4(image: &[u8]) -> Found
             return Found::At(p);
         }
     }
-    if due.blocks != 0 {
-        return Found::At(image.len());
+    if is_idle(due) {
+        Found::Nothing
+    } else {
+        Found::At(image.len())
     }
-    if due.instructions != 0 {
-        return Found::At(image.len());
-    }
-    Found::Nothing
 }
 
 /// Is it the version 0 of the function 0?

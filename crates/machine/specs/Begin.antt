@@ -1,11 +1,12 @@
--- Questions 11 to 13 behind those to the image, and the state of a begun run before its first step.
+-- Questions 11, 19, 12 and 13 behind those to the image, and the state of a begun run before its first step.
 use mathlib.Core.List.{List, [], _∷_}
 use mathlib.Core.Option.{Option, bind as _>>=_, none, some}
-use mathlib.Core.Bool.{_&&_, true, false}
-use Prim.Native.Nat.{ℕ, zero, suc}
+use mathlib.Core.Bool.{_&&_, true, false, cond}
+use Prim.Native.Nat.{ℕ, zero, suc, _-_}
 use lib.IntN.{ℤ, pos, negsuc}
 use lib.ListN.{length, drop, replicate, take}
-use lib.Dec.{leb}
+use lib.Dec.{leb, ltb}
+use Rattle.layout.specs.Bounds.{LEVELS}
 use Rattle.layout.specs.Records.{records}
 use Rattle.program.specs.Program.{Version, Program, program, findVersion, parameterTypes}
 use Rattle.rules.specs.Types.{kindOf, within}
@@ -88,7 +89,7 @@ firstState fs ws = record {
   status = Status.Running;
 }
 
--- ---- the questions 11 to 13, each with offset 0, behind those to the image
+-- ---- the questions 11, 19, 12 and 13, each with offset 0, behind those to the image
 
 -- a refusal; no call is live
 unfoldable pub refused : ℕ → ℕ → Begun
@@ -103,27 +104,35 @@ unfoldable pub question12 : Version → Option (List Given) → List ℤ → Beg
 question12 W none buffer = refused 12 0
 question12 W (some xs) buffer = question13 (firstState (frameFor W (valuesOf xs 0) ∷ []) (vectorsOf xs)) buffer
 
--- 11: does the entry exist? `none` says no
-unfoldable pub question11 : Option Version → List ℤ → List ℤ → Begun
-question11 none words buffer = refused 11 0
-question11 (some W) words buffer = question12 W (arguments (parameterTypes W) words) buffer
+-- 02, 7: the level of a run that states this one: above 2 it counts as 2
+unfoldable pub runLevel : ℕ → ℕ
+runLevel level = cond (ltb level LEVELS) level (LEVELS - 1)
 
--- a run of the version v of the function f of a program
-unfoldable pub enteredOf : Program → ℕ → ℕ → List ℤ → List ℤ → Begun
-enteredOf P f v words buffer = question11 (findVersion P f v) words buffer
+-- 02, 7: 19: is the entry not above the run's level?
+unfoldable pub question19 : ℕ → Version → List ℤ → List ℤ → Begun
+question19 level W words buffer = elim (leb (W .level) (runLevel level)) [ true ↦ question12 W (arguments (parameterTypes W) words) buffer | false ↦ refused 19 0 ]
+
+-- 11: does the entry exist? `none` says no
+unfoldable pub question11 : ℕ → Option Version → List ℤ → List ℤ → Begun
+question11 level none words buffer = refused 11 0
+question11 level (some W) words buffer = question19 level W words buffer
+
+-- a run, at a level, of the version v of the function f of a program
+unfoldable pub enteredOf : Program → ℕ → ℕ → ℕ → List ℤ → List ℤ → Begun
+enteredOf P level f v words buffer = question11 level (findVersion P f v) words buffer
 
 -- after the questions to its image
-unfoldable pub beginAfter : Verdict → Program → ℕ → ℕ → List ℤ → List ℤ → Begun
-beginAfter (Verdict.Refused q p) P f v words buffer = refused q p
-beginAfter (Verdict.Accepted n) P f v words buffer = enteredOf P f v words buffer
+unfoldable pub beginAfter : Verdict → Program → ℕ → ℕ → ℕ → List ℤ → List ℤ → Begun
+beginAfter (Verdict.Refused q p) P level f v words buffer = refused q p
+beginAfter (Verdict.Accepted n) P level f v words buffer = enteredOf P level f v words buffer
 
 -- the program of an image
 abbrev pub programOf : List ℕ → Program
 programOf image = program (records image)
 
--- Questions put to an image: to begin a run, 11 to 13 after those to its image
-unfoldable pub beginOf : List ℕ → ℕ → ℕ → List ℤ → List ℤ → Begun
-beginOf image f v words buffer = beginAfter (verdictOf image) (programOf image) f v words buffer
+-- Questions put to an image: to begin a run, 11, 19, 12 and 13 after those to its image
+unfoldable pub beginOf : List ℕ → ℕ → ℕ → ℕ → List ℤ → List ℤ → Begun
+beginOf image level f v words buffer = beginAfter (verdictOf image) (programOf image) level f v words buffer
 
 -- ---- from the start
 
@@ -133,13 +142,13 @@ runAfterTo R (Entry.Refused q p) P s n buffer = record { state = s; answer = Ans
 runAfterTo R Entry.Begun P s n buffer = budgetOfTo R P s n buffer
 
 -- a run from the start: it is begun and gets its first budget
-unfoldable pub runOfTo : ℕ → List ℕ → ℕ → ℕ → List ℤ → ℕ → List ℤ → Ran
-runOfTo R image f v words n buffer = let b = beginOf image f v words buffer in runAfterTo R (b .entry) (programOf image) (b .state) n buffer
+unfoldable pub runOfTo : ℕ → List ℕ → ℕ → ℕ → ℕ → List ℤ → ℕ → List ℤ → Ran
+runOfTo R image level f v words n buffer = let b = beginOf image level f v words buffer in runAfterTo R (b .entry) (programOf image) (b .state) n buffer
 
 -- ---- in the range in force
 
 abbrev pub runAfter : Entry → Program → State → ℕ → List ℤ → Ran
 runAfter e P s n buffer = runAfterTo RANGE e P s n buffer
 
-abbrev pub runOf : List ℕ → ℕ → ℕ → List ℤ → ℕ → List ℤ → Ran
-runOf image f v words n buffer = runOfTo RANGE image f v words n buffer
+abbrev pub runOf : List ℕ → ℕ → ℕ → ℕ → List ℤ → ℕ → List ℤ → Ran
+runOf image level f v words n buffer = runOfTo RANGE image level f v words n buffer

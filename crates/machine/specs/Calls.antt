@@ -82,10 +82,11 @@ sameOwnerships [] (t ∷ ts) = false
 sameOwnerships (a ∷ l) [] = false
 sameOwnerships (a ∷ l) (t ∷ ts) = eqb (ownershipOf (a .type)) (ownershipOf t) and sameOwnerships l ts
 
--- DISPATCH: equal parameter count and ownerships, equal return ownership, return within, mark no greater, arguments matching
-unfoldable pub dispatches : ℕ → ℕ → List Argument → List ℕ → Version → Bool
-dispatches mark ret pairs ks W =
-    sameOwnerships pairs (parameterTypes W)
+-- DISPATCH in a version of this level, which by 02, 7 passes over versions above it: equal parameter count and ownerships, equal return ownership, return within, mark no greater, arguments matching
+unfoldable pub dispatches : ℕ → ℕ → ℕ → List Argument → List ℕ → Version → Bool
+dispatches level mark ret pairs ks W =
+    leb (W .level) level
+    and sameOwnerships pairs (parameterTypes W)
     and eqb (ownershipOf (W .return)) (ownershipOf ret)
     and within (kindOf (W .return)) (kindOf ret)
     and leb (markOf W) mark
@@ -96,9 +97,9 @@ unfoldable pub lowest : Program → ℕ → (Version → Bool) → ℕ → ℕ �
 lowest P f passes zero w = stop End.Undef
 lowest P f passes (suc n) w = elim (found (findVersion P f w) passes) [ true ↦ orStuck (findVersion P f w) | false ↦ lowest P f passes n (suc w) ]
 
--- the version that a DISPATCH picks, by the kinds of its arguments
-unfoldable pub picked : Program → ℕ → ℕ → ℕ → List Argument → List ℕ → Try Version
-picked P f mark ret pairs ks = lowest P f (dispatches mark ret pairs ks) VERSIONS 0
+-- the version that a DISPATCH in a version of this level picks, by the kinds of its arguments
+unfoldable pub picked : Program → ℕ → ℕ → ℕ → ℕ → List Argument → List ℕ → Try Version
+picked P level f mark ret pairs ks = lowest P f (dispatches level mark ret pairs ks) VERSIONS 0
 
 -- 1 where the version is there, else 0
 unfoldable pub present : Option Version → ℕ
@@ -110,9 +111,9 @@ unfoldable pub looked : Program → ℕ → (Version → Bool) → ℕ → ℕ �
 looked P f passes zero w = 0
 looked P f passes (suc n) w = elim (found (findVersion P f w) passes) [ true ↦ 1 | false ↦ present (findVersion P f w) + looked P f passes n (suc w) ]
 
--- 02, request 4: how many versions a DISPATCH looks at, by the kinds of its arguments
-unfoldable pub searched : Program → ℕ → ℕ → ℕ → List Argument → List ℕ → ℕ
-searched P f mark ret pairs ks = looked P f (dispatches mark ret pairs ks) VERSIONS 0
+-- 02, request 4: how many versions a DISPATCH in a version of this level looks at, by the kinds of its arguments; those that it passes over for their level count
+unfoldable pub searched : Program → ℕ → ℕ → ℕ → ℕ → List Argument → List ℕ → ℕ
+searched P level f mark ret pairs ks = looked P f (dispatches level mark ret pairs ks) VERSIONS 0
 
 -- how many versions the function f has: so many are looked at where none passes
 unfoldable pub versionsOf : Program → ℕ → ℕ

@@ -29,7 +29,7 @@ startOf end (v ∷ vs) = v .at
 unfoldable pub slice : List ℕ → ℕ → ℕ → List ℕ
 slice image a e = take (e - a) (drop a image)
 
--- of the version v, which these versions follow: its record, blocks and instructions, up to the next version or the image's end
+-- of the version v, which these versions follow: its record, level, blocks and instructions, up to the next version or the image's end
 abbrev pub bytesAt : List ℕ → Version → Program → List ℕ
 bytesAt image v vs = slice image (v .at) (startOf (length image) vs)
 

@@ -120,7 +120,7 @@ executeTo R P s k f W (CALL d g w rs) = do
 executeTo R P s k f W (DISPATCH d g mark ret pairs) = do
   vs ← each (value f) (registersOf pairs)
   ks ← each (kindIn P s) vs
-  X ← picked P g mark ret pairs ks
+  X ← picked P (W .level) g mark ret pairs ks
   enter s k d X (registersOf pairs) vs
 executeTo R P s k f W (SKIP a n) = do
   z ← integer f a

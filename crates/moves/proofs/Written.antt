@@ -13,7 +13,7 @@ use Rattle.layout.specs.Tests.{_and_}
 use Rattle.layout.specs.Records.{Rec, _!_, records}
 use Rattle.layout.specs.Scan.{scan}
 use Rattle.layout.specs.Forms.{literalKind, literalLength, other}
-use Rattle.layout.specs.Questions.{plainLength, question1}
+use Rattle.layout.specs.Questions.{plainLength, question1, question4}
 use Rattle.layout.specs.declared.Form.{Form}
 use Rattle.layout.specs.declared.Found.{Found}
 use Rattle.layout.specs.declared.Found.the-variants.{Nothing, At}
@@ -192,16 +192,22 @@ returned form s places m h =
 
 pub runs-agree : RunsAgree
 unfolding RunsAgree SixtyFour narrowOf wideOf other
-runs-agree Form.Narrow s places m h f v words budget buffer u =
+runs-agree Form.Narrow s places m h level f v words budget buffer u =
     let a = made Form.Narrow s places m h in
-    sixty-four s (a .bytes) (a .versions) (a .versions) (a .accepted) (result-accepted Form.Narrow s places m a) f v words budget buffer u
-runs-agree Form.Wide s places m h f v words budget buffer u =
+    sixty-four s (a .bytes) (a .versions) (a .versions) (a .accepted) (result-accepted Form.Narrow s places m a) level f v words budget buffer u
+runs-agree Form.Wide s places m h level f v words budget buffer u =
     let a = made Form.Wide s places m h in
     let t = result Form.Wide s in
     let e : verdictIn Form.Wide (result Form.Narrow t) ≡ Verdict.Accepted (a .versions) = ap (verdictIn Form.Wide) (a .back) ∙ a .accepted in
-    ap (λ (x : List ℕ). runOf x f v words budget buffer) (sym (a .back))
-    ∙ sixty-four t (moved-bytes Form.Wide (records s) (a .known)) (a .versions) (a .versions) (result-accepted Form.Wide s places m a) e f v words budget buffer u
+    ap (λ (x : List ℕ). runOf x level f v words budget buffer) (sym (a .back))
+    ∙ sixty-four t (moved-bytes Form.Wide (records s) (a .known)) (a .versions) (a .versions) (result-accepted Form.Wide s places m a) e level f v words budget buffer u
+
+-- the records of the 32-bit form are in order
+narrow-4 : (form : Form) (s : List ℕ) (places m : ℕ) → Made form s places m → question4 (length (narrowOf form s)) (records (narrowOf form s)) ≡ Nothing
+unfolding narrowOf other
+narrow-4 Form.Narrow s places m a = passed s (a .versions) (a .accepted) .q4
+narrow-4 Form.Wide s places m a = passed (result Form.Wide s) (a .versions) (result-accepted Form.Wide s places m a) .q4
 
 pub moved-alike : MovedAlike
 unfolding MovedAlike
-moved-alike form s places m h = forms-alike _ _ (widened form s places m (made form s places m h))
+moved-alike form s places m h = let a = made form s places m h in forms-alike _ _ (widened form s places m a) (length (narrowOf form s)) (narrow-4 form s places m a)

@@ -57,9 +57,9 @@ wideOf Form.Wide s = s
 -- runs agree, from both sides: one that in the old range did not end in UNDEF has the same answer, steps, state and buffer
 unfoldable pub RunsAgree : Type 0
 RunsAgree =
-    (form : Form) (s : List ℕ) (places m : ℕ) → Moves form s places m → (f v : ℕ) (words : List ℤ) (budget : ℕ) (buffer : List ℤ)
-    → runBefore (narrowOf form s) f v words budget buffer .answer ≢ Answer.Ended End.Undef
-    → runOf (wideOf form s) f v words budget buffer ≡ runBefore (narrowOf form s) f v words budget buffer
+    (form : Form) (s : List ℕ) (places m : ℕ) → Moves form s places m → (level f v : ℕ) (words : List ℤ) (budget : ℕ) (buffer : List ℤ)
+    → runBefore (narrowOf form s) level f v words budget buffer .answer ≢ Answer.Ended End.Undef
+    → runOf (wideOf form s) level f v words budget buffer ≡ runBefore (narrowOf form s) level f v words budget buffer
 
 -- their programs are the same but for offsets, so that `WiderStep` and `WiderBudget` speak of every later step and budget too
 unfoldable pub MovedAlike : Type 0

@@ -6,8 +6,8 @@ use mathlib.Core.Bool.{Bool, true, false, cond}
 use Prim.Native.Nat.{ℕ, zero, suc, _+_, _-_, _≤_, _<_}
 use native.Mathlib.Omega.{arith}
 use lib.ListN.{length, getElem?}
-use lib.Dec.{ltb, eqb}
-use borrow.Author.Tests.{ltb-true, ltb-false, eqb-true, eqb-false}
+use lib.Dec.{ltb, leb, eqb}
+use borrow.Author.Tests.{le-leb, ne-eqb, ltb-true, ltb-false, eqb-true, eqb-false}
 use Rattle.layout.specs.Kinds as kind
 use Rattle.layout.specs.Tests.{_and_}
 use Rattle.layout.specs.Records.{_!_, sizeAt, kindAt, bodyAt, recAt, records}
@@ -15,8 +15,9 @@ use Rattle.layout.specs.declared.Found.{Found}
 use Rattle.layout.specs.declared.Found.the-variants.{Nothing, At}
 use Rattle.layout.proofs.Fields.{fields-at, every-past}
 use Rattle.layout.proofs.Lists.{Each, each-get}
+use Rattle.layout.proofs.Walk.{kind-outside, body-at, body-past}
 use Rattle.program.specs.Program.{Line, Block, Version, Program, View, nowhere, lineOf, program, findVersion, firstMark}
-use Rattle.program.specs.Places.{viewAt, past, versionAt, blockAt, placeOf, versionPlace, blockPlace}
+use Rattle.program.specs.Places.{viewAt, past, versionAt, levelAt, blockAt, placeOf, versionPlace, blockPlace}
 use Rattle.program.proofs.Views.{view-end, view-past, Whole, at-version, at-block, at-line}
 
 -- ---- lists
@@ -190,6 +191,72 @@ past-outside s p h = view-end s (past s p) (omega arith)
 pub block-outside : (s : List ℕ) (v b : ℕ) → length s ≤ v → blockPlace s v b ≡ Nothing
 unfolding blockPlace placeOf versionAt
 block-outside s v b h = rw (past-outside s v h)
+
+-- ---- levels
+
+-- the level that is seen is the one that the record states
+pub level-seen : (s : List ℕ) (p : ℕ) → viewAt s p .level ≡ levelAt s p
+unfolding levelAt
+level-seen s p = go (ltb p (length s)) (eqb (sizeAt s p) 0) (eqb (kindAt s p) kind.VERSION) (eqb (kindAt s p) kind.BLOCK) refl refl refl refl
+  where
+    none-stated : (b : Bool) → bodyAt s p ! 0 ≡ 0 → 0 ≡ cond b (bodyAt s p ! 0) 0
+    none-stated true e = sym e
+    none-stated false e = refl
+
+    go : (a b c d : Bool) → ltb p (length s) ≡ a → eqb (sizeAt s p) 0 ≡ b → eqb (kindAt s p) kind.VERSION ≡ c → eqb (kindAt s p) kind.BLOCK ≡ d → viewAt s p .level ≡ cond (eqb (kindAt s p) kind.LEVEL) (bodyAt s p ! 0) 0
+    go false b c d ea eb ec ed = rw (view-end s p (ltb-false _ _ ea), kind-outside s p (ltb-false _ _ ea)) refl
+    go true true c d ea eb ec ed = let z = eqb-true (sizeAt s p) 0 eb in rw (view-past s p z) (none-stated (eqb (kindAt s p) kind.LEVEL) (body-past s p 0 (omega (arith, z))))
+    go true false true d ea eb ec ed = rw (at-version (record { inside = ltb-true _ _ ea; size = refl; whole = eqb-false _ _ eb; kind = refl }) (eqb-true _ _ ec), eqb-true (kindAt s p) kind.VERSION ec) refl
+    go true false false true ea eb ec ed = rw (at-block (record { inside = ltb-true _ _ ea; size = refl; whole = eqb-false _ _ eb; kind = refl }) (eqb-true _ _ ed), eqb-true (kindAt s p) kind.BLOCK ed) refl
+    go true false false false ea eb ec ed = rw (at-line (record { inside = ltb-true _ _ ea; size = refl; whole = eqb-false _ _ eb; kind = refl }) (eqb-false _ _ ec) (eqb-false _ _ ed)) refl
+
+-- a version's level: none outside, one behind the VERSION, or another record there
+pub level-outside : (s : List ℕ) (v : ℕ) → length s ≤ v → versionAt s v .level ≡ 0
+unfolding versionAt
+level-outside s v h = rw (past-outside s v h) refl
+
+-- a record with nothing, or 0, behind its head states none above 0
+level-none : (s : List ℕ) (p : ℕ) → bodyAt s p ! 0 ≡ 0 → levelAt s p ≡ 0
+unfolding levelAt
+level-none s p e = go (eqb (kindAt s p) kind.LEVEL)
+  where
+    go : (b : Bool) → cond b (bodyAt s p ! 0) 0 ≡ 0
+    go true = e
+    go false = refl
+
+body-first : (s : List ℕ) (p : ℕ) → s ! (p + 4) ≡ 0 → bodyAt s p ! 0 ≡ 0
+body-first s p e = go (ltb 0 (sizeAt s p - 4)) refl
+  where
+    go : (b : Bool) → ltb 0 (sizeAt s p - 4) ≡ b → bodyAt s p ! 0 ≡ 0
+    go true h = let z : p + 4 + 0 ≡ p + 4 = omega arith in (rw z at (body-at s p 0 (ltb-true _ _ h))) ∙ e
+    go false h = body-past s p 0 (ltb-false _ _ h)
+
+module _ {n : ℕ} (s : List ℕ) (v : ℕ) (behind : n ≡ sizeAt s v) where
+  level-behind : versionAt s v .level ≡ levelAt s (v + n)
+  unfolding versionAt
+  level-behind = rw (sym behind) (level-seen s (v + n))
+
+  pub level-zero : {b : ℕ} → b ≡ s ! (v + n + 4) → b ≡ 0 → versionAt s v .level ≡ 0
+  level-zero h e = level-behind ∙ level-none s (v + n) (body-first s (v + n) (sym h ∙ e))
+
+  pub level-short : {m : ℕ} → m ≡ sizeAt s (v + n) → m ≤ 4 → versionAt s v .level ≡ 0
+  level-short h l = level-behind ∙ level-none s (v + n) (body-past s (v + n) 0 (omega (arith, h, l)))
+
+  module _ {k : ℕ} (kinded : k ≡ kindAt s (v + n)) where
+    pub level-stated : {m b : ℕ} → m ≡ sizeAt s (v + n) → 4 < m → b ≡ s ! (v + n + 4) → k ≡ kind.LEVEL → versionAt s v .level ≡ b
+    unfolding levelAt
+    level-stated g l h e =
+        let x : levelAt s (v + n) ≡ bodyAt s (v + n) ! 0 = simp (sym kinded ∙ e) in
+        let z : v + n + 4 + 0 ≡ v + n + 4 = omega arith in
+        level-behind ∙ x ∙ (rw z at (body-at s (v + n) 0 (omega (arith, g, l)))) ∙ sym h
+
+    pub level-unstated : (k ≡ kind.LEVEL → ⊥) → versionAt s v .level ≡ 0
+    unfolding levelAt
+    level-unstated e = let x : levelAt s (v + n) ≡ 0 = simp (← kinded, ne-eqb k kind.LEVEL e) in level-behind ∙ x
+
+-- a level of 0 is above none
+pub low-enough : (l m : ℕ) → l ≡ 0 → true ≡ leb l m
+low-enough l m e = sym (le-leb l m (omega arith))
 
 -- ---- marks and types
 

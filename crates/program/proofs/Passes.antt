@@ -15,7 +15,7 @@ use Rattle.layout.proofs.Bools.{and-on, and-off}
 use Rattle.layout.proofs.Walk.{size-room}
 use Rattle.layout.specs.declared.Found.{Found}
 use Rattle.layout.specs.declared.Found.the-variants.{Nothing, At}
-use Rattle.program.specs.Program.{Line, Block, Version, View, nowhere, lineOf, program}
+use Rattle.program.specs.Program.{Line, Block, Version, View, nowhere, levelOf, lineOf, program}
 use Rattle.program.specs.Search.{Question, firstLine, firstBlock, first}
 use Rattle.program.specs.Places.{viewAt, versionAt, blockAt, instrAt, movedTo, asked}
 use Rattle.program.specs.declared.Here.{Here}
@@ -60,33 +60,33 @@ module _ {q : Question} {answer : Found} {s : List ℕ} {p : ℕ} {h : Here} (a 
 
 module _ (q : Question) (v : Version) (w : View) where
   at-a-version : (i : Bool) (b : ℕ) (x : Version) → x .blocks ≡ w .blocks
-      → left q i v b (record { code = []; blocks = []; versions = x ∷ w .versions }) ≡ cond (q .ofVersion x) (left q true x 0 w) (At (x .at))
+      → left q i v b (record { level = 0; code = []; blocks = []; versions = x ∷ w .versions }) ≡ cond (q .ofVersion x) (left q true x 0 w) (At (x .at))
   unfolding left first firstBlock firstLine
   at-a-version false b x e = rw e
   at-a-version true zero x e = rw e
   at-a-version true (suc n) x e = rw e
 
   at-a-block : (b : ℕ) (x : Block) → x .code ≡ w .code
-      → left q true v b (record { code = []; blocks = x ∷ w .blocks; versions = w .versions }) ≡ cond (q .ofBlock v b x) (left q true v (suc b) w) (At (x .at))
+      → left q true v b (record { level = 0; code = []; blocks = x ∷ w .blocks; versions = w .versions }) ≡ cond (q .ofBlock v b x) (left q true v (suc b) w) (At (x .at))
   unfolding left first firstBlock firstLine
   at-a-block zero x e = rw e
   at-a-block (suc n) x e = simp (e, add-one)
 
-  at-a-line : (n : ℕ) (l : Line)
-      → left q true v (suc n) (record { code = l ∷ w .code; blocks = w .blocks; versions = w .versions }) ≡ cond (q .ofInstr v n (l .does)) (left q true v (suc n) w) (At (l .at))
+  at-a-line : (n g : ℕ) (l : Line)
+      → left q true v (suc n) (record { level = g; code = l ∷ w .code; blocks = w .blocks; versions = w .versions }) ≡ cond (q .ofInstr v n (l .does)) (left q true v (suc n) w) (At (l .at))
   unfolding left first firstBlock firstLine
-  at-a-line n l = refl
+  at-a-line n g l = refl
 
   -- a BLOCK outside of all versions, and an instruction outside of all blocks
-  stray-block : (b c : ℕ) (x : Block) → left q false v b (record { code = []; blocks = x ∷ w .blocks; versions = w .versions }) ≡ left q false v c w
+  stray-block : (b c : ℕ) (x : Block) → left q false v b (record { level = 0; code = []; blocks = x ∷ w .blocks; versions = w .versions }) ≡ left q false v c w
   unfolding left
   stray-block b c x = refl
 
-  stray-line : (i : Bool) (b : ℕ) (l : Line) → (i and ltb 0 b) ≡ false → left q i v b (record { code = l ∷ w .code; blocks = w .blocks; versions = w .versions }) ≡ left q i v b w
+  stray-line : (i : Bool) (b g : ℕ) (l : Line) → (i and ltb 0 b) ≡ false → left q i v b (record { level = g; code = l ∷ w .code; blocks = w .blocks; versions = w .versions }) ≡ left q i v b w
   unfolding left _and_
-  stray-line false b l e = refl
-  stray-line true zero l e = refl
-  stray-line true (suc n) l e = absurd (true≢false (sym (lt-ltb 0 (suc n) (omega arith)) ∙ e))
+  stray-line false b g l e = refl
+  stray-line true zero g l e = refl
+  stray-line true (suc n) g l e = absurd (true≢false (sym (lt-ltb 0 (suc n) (omega arith)) ∙ e))
 
 -- ---- THE LAW: a pass meets a whole record
 
@@ -114,7 +114,7 @@ module _ {s : List ℕ} {p n k : ℕ} (m : Whole s p n k) (q : Question) (h : He
       some : ltb 0 (h .blocks + 1) ≡ true
       some = lt-ltb 0 (h .blocks + 1) (omega arith)
 
-      go : (i : Bool) → left q i (versionAt s (h .version)) (h .blocks) (record { code = []; blocks = blockAt s p ∷ viewAt s (p + n) .blocks; versions = viewAt s (p + n) .versions })
+      go : (i : Bool) → left q i (versionAt s (h .version)) (h .blocks) (record { level = 0; code = []; blocks = blockAt s p ∷ viewAt s (p + n) .blocks; versions = viewAt s (p + n) .versions })
           ≡ cond (cond (i and ltb 0 (h .blocks + 1)) (q .ofBlock (versionAt s (h .version)) (h .blocks + 1 - 1) (blockAt s p)) true) (left q i (versionAt s (h .version)) (h .blocks + 1) (viewAt s (p + n))) (At p)
       go true = rw (some, less, add-one) (at-a-block q (versionAt s (h .version)) (viewAt s (p + n)) (h .blocks) (blockAt s p) (ap (λ (x : ℕ). viewAt s (p + x) .code) (sym (m .size))))
       go false = stray-block q (versionAt s (h .version)) (viewAt s (p + n)) (h .blocks) (h .blocks + 1) (blockAt s p)
@@ -127,12 +127,12 @@ module _ {s : List ℕ} {p n k : ℕ} (m : Whole s p n k) (q : Question) (h : He
       ∙ simp (← m .kind, ne-eqb k kind.VERSION x, ne-eqb k kind.BLOCK y)
     where
       go : (i : Bool) (b : ℕ) (c : Bool) → (i and ltb 0 b) ≡ c
-          → left q i (versionAt s (h .version)) b (record { code = lineOf (recAt s p) ∷ viewAt s (p + n) .code; blocks = viewAt s (p + n) .blocks; versions = viewAt s (p + n) .versions })
+          → left q i (versionAt s (h .version)) b (record { level = levelOf (recAt s p); code = lineOf (recAt s p) ∷ viewAt s (p + n) .code; blocks = viewAt s (p + n) .blocks; versions = viewAt s (p + n) .versions })
           ≡ cond (cond c (q .ofInstr (versionAt s (h .version)) (b - 1) (instrAt s p)) true) (left q i (versionAt s (h .version)) b (viewAt s (p + n))) (At p)
-      go i b false e = stray-line q (versionAt s (h .version)) (viewAt s (p + n)) i b (lineOf (recAt s p)) e
+      go i b false e = stray-line q (versionAt s (h .version)) (viewAt s (p + n)) i b (levelOf (recAt s p)) (lineOf (recAt s p)) e
       go false b true e = absurd (true≢false (sym e))
       go true zero true e = absurd (true≢false (sym e))
-      go true (suc l) true e = let less : suc l - 1 ≡ l = omega arith in rw less (at-a-line q (versionAt s (h .version)) (viewAt s (p + n)) l (lineOf (recAt s p)))
+      go true (suc l) true e = let less : suc l - 1 ≡ l = omega arith in rw less (at-a-line q (versionAt s (h .version)) (viewAt s (p + n)) l (levelOf (recAt s p)) (lineOf (recAt s p)))
 
   meets : h .blocks < length s → leftAt q s h p ≡ onward q s (movedTo s h p) p n
   unfolding movedTo choose

@@ -11,7 +11,7 @@ use Rattle.layout.specs.Records.{sizeAt, kindAt, recAt}
 use Rattle.layout.proofs.Walk.{rest-cons, rest-end}
 use Rattle.layout.specs.Tests.{_and_}
 use Rattle.layout.proofs.Bools.{and-both}
-use Rattle.program.specs.Program.{lineOf, nowhere, put, putBy, viewBy}
+use Rattle.program.specs.Program.{levelOf, lineOf, nowhere, put, putBy, viewBy}
 use Rattle.program.specs.Places.{viewAt, past, versionAt, blockAt, isLine}
 
 pub view-end : (s : List ℕ) (p : ℕ) → length s ≤ p → viewAt s p ≡ nowhere
@@ -46,15 +46,15 @@ module _ {s : List ℕ} {p n k : ℕ} (m : Whole s p n k) where
   seen = view-at s p (m .inside) (λ (y : sizeAt s p ≡ 0). m .whole (m .size ∙ y))
 
   -- a VERSION, a BLOCK and an instruction
-  pub at-version : k ≡ kind.VERSION → viewAt s p ≡ record { code = []; blocks = []; versions = versionAt s p ∷ viewAt s (p + n) .versions }
+  pub at-version : k ≡ kind.VERSION → viewAt s p ≡ record { level = 0; code = []; blocks = []; versions = versionAt s p ∷ viewAt s (p + n) .versions }
   unfolding putBy versionAt
   at-version e = rw (m .size) (seen ∙ simp (sym (m .kind) ∙ e))
 
-  pub at-block : k ≡ kind.BLOCK → viewAt s p ≡ record { code = []; blocks = blockAt s p ∷ viewAt s (p + n) .blocks; versions = viewAt s (p + n) .versions }
+  pub at-block : k ≡ kind.BLOCK → viewAt s p ≡ record { level = 0; code = []; blocks = blockAt s p ∷ viewAt s (p + n) .blocks; versions = viewAt s (p + n) .versions }
   unfolding putBy blockAt
   at-block e = rw (m .size) (seen ∙ simp (sym (m .kind) ∙ e))
 
-  pub at-line : (k ≡ kind.VERSION → ⊥) → (k ≡ kind.BLOCK → ⊥) → viewAt s p ≡ record { code = lineOf (recAt s p) ∷ viewAt s (p + n) .code; blocks = viewAt s (p + n) .blocks; versions = viewAt s (p + n) .versions }
+  pub at-line : (k ≡ kind.VERSION → ⊥) → (k ≡ kind.BLOCK → ⊥) → viewAt s p ≡ record { level = levelOf (recAt s p); code = lineOf (recAt s p) ∷ viewAt s (p + n) .code; blocks = viewAt s (p + n) .blocks; versions = viewAt s (p + n) .versions }
   unfolding putBy
   at-line v b = rw (m .size) (seen ∙ simp (ne-eqb (kindAt s p) kind.VERSION (λ (y : kindAt s p ≡ kind.VERSION). v (m .kind ∙ y)), ne-eqb (kindAt s p) kind.BLOCK (λ (y : kindAt s p ≡ kind.BLOCK). b (m .kind ∙ y))))
 

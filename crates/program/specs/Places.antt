@@ -25,7 +25,11 @@ past s p = p + sizeAt s p
 
 -- the version whose record stands at an offset
 unfoldable pub versionAt : List ℕ → ℕ → Version
-versionAt s p = versionOf (recAt s p) (viewAt s (past s p) .blocks)
+versionAt s p = versionOf (recAt s p) (viewAt s (past s p) .level) (viewAt s (past s p) .blocks)
+
+-- the level that the record at an offset states; 0 where it is no LEVEL
+unfoldable pub levelAt : List ℕ → ℕ → ℕ
+levelAt s p = cond (eqb (kindAt s p) kind.LEVEL) (bodyAt s p ! 0) 0
 
 -- the block whose record stands at an offset
 unfoldable pub blockAt : List ℕ → ℕ → Block
@@ -35,7 +39,7 @@ blockAt s p = blockOf (recAt s p) (viewAt s (past s p) .code)
 unfoldable pub instrAt : List ℕ → ℕ → Instr
 instrAt s p = instrOf (kindAt s p) (bodyAt s p)
 
--- an instruction's record stands at an offset
+-- a whole record that is neither a VERSION nor a BLOCK stands at an offset: an instruction, in an accepted image, or the LEVEL behind a VERSION
 unfoldable pub isLine : List ℕ → ℕ → Bool
 isLine s p = ltb p (length s) and not (eqb (sizeAt s p) 0) and not (eqb (kindAt s p) kind.VERSION) and not (eqb (kindAt s p) kind.BLOCK)
 

@@ -53,7 +53,7 @@ pub record Block : Type 0 where
   pub result : ℕ
   pub code : List Line
 
--- kind 1: the parameters are the first registers, each register has a type; block 0 is the body
+-- kind 1: the parameters are the first registers, each register has a type; its level is that of the kind 3 behind it; block 0 is the body
 pub record Version : Type 0 where
   pub at : ℕ
   pub function : ℕ
@@ -61,6 +61,7 @@ pub record Version : Type 0 where
   pub parameters : ℕ
   pub types : List ℕ
   pub return : ℕ
+  pub level : ℕ
   pub blocks : List Block
 
 -- the versions in the image's order
@@ -112,34 +113,40 @@ lineBy form r = record { at = r .at; does = instrBy form (r .kind) (r .body) }
 abbrev pub blockOf : Rec → List Line → Block
 blockOf r code = record { at = r .at; mark = r .body ! 0; result = r .body ! 1; code = code }
 
--- Image: the version that a VERSION and its blocks make
-abbrev pub versionOf : Rec → List Block → Version
-versionOf r blocks = record {
+-- 02, 7: the level that a record states; 0 where it is no LEVEL
+abbrev pub levelOf : Rec → ℕ
+levelOf r = cond (eqb (r .kind) kind.LEVEL) (r .body ! 0) 0
+
+-- Image: the version that a VERSION, its level and its blocks make
+abbrev pub versionOf : Rec → ℕ → List Block → Version
+versionOf r level blocks = record {
   at = r .at;
   function = r .body ! 0;
   version = r .body ! 1;
   parameters = r .body ! 2;
   types = fields (r .body) 6 (r .body ! 3);
   return = r .body ! 4;
+  level = level;
   blocks = blocks;
 }
 
--- what lies ahead of an offset: the instructions left in its block, the blocks left in its version, the versions left
+-- what lies ahead of an offset: the level that the next record states, the instructions left in its block, the blocks left in its version, the versions left
 pub record View : Type 0 where
+  pub level : ℕ
   pub code : List Line
   pub blocks : List Block
   pub versions : List Version
 
 -- nothing lies ahead
 abbrev pub nowhere : View
-nowhere = record { code = []; blocks = []; versions = [] }
+nowhere = record { level = 0; code = []; blocks = []; versions = [] }
 
--- what lies ahead of a record, by what lies ahead of its end: a version is followed by its blocks in order, each by its instructions
+-- what lies ahead of a record, by what lies ahead of its end: a version is followed by its level and its blocks in order, each by its instructions. A LEVEL behind a VERSION is in no block; one inside a block, which question 4 refuses, reads as an instruction
 unfoldable pub putBy : Form → Rec → View → View
 putBy form r w =
-    cond (eqb (r .kind) kind.VERSION) (record { code = []; blocks = []; versions = versionOf r (w .blocks) ∷ w .versions })
-    (cond (eqb (r .kind) kind.BLOCK) (record { code = []; blocks = blockOf r (w .code) ∷ w .blocks; versions = w .versions })
-    (record { code = lineBy form r ∷ w .code; blocks = w .blocks; versions = w .versions }))
+    cond (eqb (r .kind) kind.VERSION) (record { level = 0; code = []; blocks = []; versions = versionOf r (w .level) (w .blocks) ∷ w .versions })
+    (cond (eqb (r .kind) kind.BLOCK) (record { level = 0; code = []; blocks = blockOf r (w .code) ∷ w .blocks; versions = w .versions })
+    (record { level = levelOf r; code = lineBy form r ∷ w .code; blocks = w .blocks; versions = w .versions }))
 
 -- what lies ahead of a list of records, up to one that is not whole
 unfoldable pub viewBy : Form → List Rec → View

@@ -1,7 +1,7 @@
 //! Look-up: where the versions, blocks and instructions of a program stand, and what their records say.
 ghost use mathlib.Core.Path.{_≡_};
 ghost use Prim.Native.Nat.{_<_};
-ghost use lib.Dec.{eqb};
+ghost use lib.Dec.{eqb, leb};
 ghost use lib.ListN.{length};
 ghost use Rattle.layout.specs.Tests.{_and_};
 ghost use Rattle.layout.specs.Records.{records, kindAt, bodyAt, _!_};
@@ -125,6 +125,39 @@ pub fn mark(image: &[u8], v: usize) -> usize
         return 0;
     };
     layout::field(image, b, 0)
+}
+
+/// The level of the version at `v`: that of the LEVEL right behind it, or 0 where none stands there.
+pub fn level(image: &[u8], v: usize) -> usize
+    ensures { λ r. ⌜ (r ≡ versionAt (now (image .entry)) v .level) × (r < 256) ⌝ }
+{
+    if image.len() <= v {
+        return 0;
+    }
+    let p = v + layout::size_at(image, v);
+    let stated = layout::byte(image, p + 4);
+    if stated == 0 {
+        return 0;
+    }
+    if layout::size_at(image, p) <= 4 {
+        return 0;
+    }
+    if layout::kind_at(image, p) == layout::kinds::LEVEL {
+        stated
+    } else {
+        0
+    }
+}
+
+/// Is the level of the version at `v` not above that of the version at `own`? A level of 0 is above none.
+pub fn not_above(image: &[u8], v: usize, own: usize) -> bool
+    ensures { λ r. ⌜ r ≡ leb (versionAt (now (image .entry)) v .level) (versionAt (now (image .entry)) own .level) ⌝ }
+{
+    let called = level(image, v);
+    if called == 0 {
+        return true;
+    }
+    called <= level(image, own)
 }
 
 /// Has the function `f` a version? The image is searched.

@@ -44,6 +44,7 @@ skipping = record {
   parameters = 1;
   types = 2 ∷ 2 ∷ [];
   return = 2;
+  level = 0;
   blocks = record { at = 0; mark = 0; result = 1; code = line (SKIP 0 2) ∷ line (LIT 1 (pos 7)) ∷ line (SKIP 0 0) ∷ [] } ∷ [];
 }
 
@@ -60,6 +61,7 @@ promising = record {
   parameters = 0;
   types = 4 ∷ 2 ∷ 2 ∷ [];
   return = 2;
+  level = 0;
   blocks = record { at = 0; mark = 0; result = 0; code = line (PROM 0 1) ∷ [] } ∷ record { at = 0; mark = 0; result = 2; code = [] } ∷ [];
 }
 

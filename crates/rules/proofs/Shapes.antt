@@ -1,4 +1,4 @@
--- Questions 6 to 10 look at no offset and at no literal's number: of two programs of the same shape, both pass or none does.
+-- Questions 6 to 10 and 18 look at no offset and at no literal's number: of two programs of the same shape, both pass or none does.
 use mathlib.Core.Path.{_≡_, refl, sym, ap, ap₂, _∙_}
 use mathlib.Core.List.{List, [], _∷_, map}
 use mathlib.Core.Option.{Option, none, some, Option·elim}
@@ -6,7 +6,7 @@ use mathlib.Core.Bool.{Bool, true, false, cond, not, _||_}
 use Prim.Native.Nat.{ℕ, zero, suc, _+_, _-_}
 use lib.IntN.{ℤ, pos}
 use lib.ListN.{length, take, getElem?, replicate, getD}
-use lib.Dec.{eqb, ltb}
+use lib.Dec.{eqb, leb, ltb}
 use Rattle.layout.specs.Bounds.{INSTRUCTIONS}
 use Rattle.layout.specs.Tests.{_and_, all, any, count, found}
 use Rattle.layout.specs.declared.Found.{Found}
@@ -16,7 +16,7 @@ use Rattle.program.specs.Search.{Question, firstLine, firstBlock, first}
 use Rattle.program.specs.Questions.{registerExists, exists, namesBlock, namings, blockNamed, question7}
 use Rattle.rules.specs.Fits.{fresh, fitsArgument, fitsReturn, fitsCall, fits, fitsResult, plain, promiseKind}
 use Rattle.rules.specs.Effects.{reflective, covered}
-use Rattle.rules.specs.Questions.{versionTypes, typesAllowed, question6, question8, question9}
+use Rattle.rules.specs.Questions.{versionTypes, typesAllowed, staysDown, question6, question8, question18, question9}
 use Rattle.rules.specs.Actions.{Action, Walk, reads_empties_assigns_, reading, emptied, touch, actionOf, skipOf, here, past, walk, start, along, enter, actions, bodyAction, _then_}
 use Rattle.sets.specs.Sets.{below}
 use Rattle.rules.specs.Flows.{flows, question10}
@@ -54,7 +54,7 @@ abbrev pub shapeBlock : Block → Block
 shapeBlock b = record { at = 0; mark = b .mark; result = b .result; code = map shapeLine (b .code) }
 
 abbrev pub shape : Version → Version
-shape v = record { at = 0; function = v .function; version = v .version; parameters = v .parameters; types = v .types; return = v .return; blocks = map shapeBlock (v .blocks) }
+shape v = record { at = 0; function = v .function; version = v .version; parameters = v .parameters; types = v .types; return = v .return; level = v .level; blocks = map shapeBlock (v .blocks) }
 
 -- what looks at no literal's number
 by-blank : {A : Type 0} (f : Instr → A) → ((d : ℕ) (i : ℤ) → f (LIT d i) ≡ f (LIT d (pos 0))) → (i : Instr) → f i ≡ f (blank i)
@@ -137,7 +137,7 @@ found-shape P f w p h = go (findVersion P f w) ∙ ap (λ (o : Option Version). 
     go none = refl
     go (some v) = h v
 
--- ---- 6 to 9
+-- ---- 6 to 9 and 18
 
 module _ (P : Program) where
   exists-shape : (v : Version) (n : ℕ) (i : Instr) → exists P v n i ≡ exists (map shape P) (shape v) n (blank i)
@@ -186,6 +186,29 @@ module _ (P : Program) where
   fits-shape v n (CALL d f w rs) = found-shape P f w (λ c. fitsCall v n d (given c rs) (c .return)) (λ c. refl)
   fits-shape v n (DISPATCH d f mark ret pairs) = refl
   fits-shape v n (SKIP a k) = refl
+
+  stays-shape : (v : Version) (i : Instr) → staysDown P v i ≡ staysDown (map shape P) (shape v) (blank i)
+  unfolding staysDown blank
+  stays-shape v (LIT d i) = refl
+  stays-shape v (MOVE d a) = refl
+  stays-shape v (USE d a) = refl
+  stays-shape v (DUP d a) = refl
+  stays-shape v (VEC d rs) = refl
+  stays-shape v (LEN d a) = refl
+  stays-shape v (GET d a i) = refl
+  stays-shape v (SET a i e) = refl
+  stays-shape v (ARITH d op a b) = refl
+  stays-shape v (SELECT d c a b) = refl
+  stays-shape v (CAST d a) = refl
+  stays-shape v (NAMED d x) = refl
+  stays-shape v (STORE x a) = refl
+  stays-shape v (PROM d block) = refl
+  stays-shape v (FORCE d a) = refl
+  stays-shape v (PEEK d a x) = refl
+  stays-shape v (POKE a x e) = refl
+  stays-shape v (CALL d f w rs) = found-shape P f w (λ c. leb (c .level) (v .level)) (λ c. refl)
+  stays-shape v (DISPATCH d f mark ret pairs) = refl
+  stays-shape v (SKIP a k) = refl
 
   reflective-shape : (v : Version) (i : Instr) → reflective P v i ≡ reflective (map shape P) (shape v) (blank i)
   unfolding reflective blank
@@ -330,6 +353,9 @@ module _ (P Q : Program) (e : map shape P ≡ map shape Q) where
   pub shape-8 : quiet (first (question8 P) P) ≡ quiet (first (question8 Q) Q)
   unfolding fitsResult
   shape-8 = both-quiet question8 (λ X. record { version = λ v. refl; block = λ v n b. refl; instr = fits-shape X })
+
+  pub shape-18 : quiet (first (question18 P) P) ≡ quiet (first (question18 Q) Q)
+  shape-18 = both-quiet question18 (λ X. record { version = λ v. refl; block = λ v n b. refl; instr = λ v n i. stays-shape X v i })
 
   pub shape-9 : quiet (first (question9 P) P) ≡ quiet (first (question9 Q) Q)
   shape-9 = both-quiet question9 (λ X. record { version = λ v. refl; block = λ v n b. covered-shape X v b; instr = λ v n i. refl })

@@ -1,9 +1,9 @@
--- Questions 6, 8 and 9: the type bytes, whether types fit, and effects.
+-- Questions 6, 8, 18 and 9: the type bytes, whether types fit, levels, and effects.
 use mathlib.Core.Bool.{Bool, true, cond}
 use Prim.Native.Nat.{ℕ}
-use lib.Dec.{ltb}
-use Rattle.layout.specs.Tests.{_and_, all, allFrom}
-use Rattle.program.specs.Program.{Argument, Instr, LIT, MOVE, USE, DUP, VEC, LEN, GET, SET, ARITH, SELECT, CAST, NAMED, STORE, PROM, FORCE, PEEK, POKE, CALL, DISPATCH, SKIP, Version, Program}
+use lib.Dec.{leb, ltb}
+use Rattle.layout.specs.Tests.{_and_, all, allFrom, found}
+use Rattle.program.specs.Program.{Argument, Instr, LIT, MOVE, USE, DUP, VEC, LEN, GET, SET, ARITH, SELECT, CAST, NAMED, STORE, PROM, FORCE, PEEK, POKE, CALL, DISPATCH, SKIP, Version, Program, findVersion}
 use Rattle.program.specs.Search.{Question, free}
 use Rattle.rules.specs.Types.{parameterType, registerType, returnType}
 use Rattle.rules.specs.Fits.{fits, fitsResult}
@@ -47,6 +47,33 @@ question6 = record { ofVersion = versionTypes; ofBlock = free; ofInstr = λ v n 
 -- 8: do types fit? A wrong result register fails at its BLOCK
 abbrev pub question8 : Program → Question
 question8 P = record { ofVersion = λ v. true; ofBlock = fitsResult; ofInstr = fits P }
+
+-- 02, 7: 18: does a version CALL only versions of its level or lower?
+unfoldable pub staysDown : Program → Version → Instr → Bool
+staysDown P v (LIT d i) = true
+staysDown P v (MOVE d a) = true
+staysDown P v (USE d a) = true
+staysDown P v (DUP d a) = true
+staysDown P v (VEC d rs) = true
+staysDown P v (LEN d a) = true
+staysDown P v (GET d a i) = true
+staysDown P v (SET a i e) = true
+staysDown P v (ARITH d op a b) = true
+staysDown P v (SELECT d c a b) = true
+staysDown P v (CAST d a) = true
+staysDown P v (NAMED d x) = true
+staysDown P v (STORE x a) = true
+staysDown P v (PROM d block) = true
+staysDown P v (FORCE d a) = true
+staysDown P v (PEEK d a x) = true
+staysDown P v (POKE a x e) = true
+staysDown P v (CALL d f w rs) = found (findVersion P f w) (λ c. leb (c .level) (v .level))
+staysDown P v (DISPATCH d f mark ret pairs) = true
+staysDown P v (SKIP a n) = true
+
+-- 18, as a question to the program, asked after 8 (at the CALL)
+abbrev pub question18 : Program → Question
+question18 P = record { ofVersion = λ v. true; ofBlock = free; ofInstr = λ v n i. staysDown P v i }
 
 -- 9: does each block's mark cover its effect? (at the BLOCK)
 abbrev pub question9 : Program → Question

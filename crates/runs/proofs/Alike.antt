@@ -6,14 +6,15 @@ use mathlib.Core.Bool.{Bool, true, false, cond}
 use Prim.Native.Nat.{ℕ, zero, suc, _-_}
 use lib.IntN.{ℤ}
 use lib.ListN.{take}
-use lib.Dec.{eqb}
+use lib.Dec.{eqb, leb}
 use Rattle.layout.specs.Tests.{_and_, found}
 use Rattle.program.specs.Program.{Argument, Instr, LIT, MOVE, USE, DUP, VEC, LEN, GET, SET, ARITH, SELECT, CAST, NAMED, STORE, PROM, FORCE, PEEK, POKE, CALL, DISPATCH, SKIP, Line, Block, Version, Program, findVersion, firstMark, parameterTypes}
 use Rattle.rules.specs.Fits.{promiseKind}
 use Rattle.machine.specs.Try.{Try, got, stuck, stop, _>>=_, _>>_, at, orStuck, each, stuckUnless}
 use Rattle.machine.specs.States.{kindIn, liveActivations, liveFrames, value}
 use Rattle.machine.specs.Calls.{dispatches, finish, lowest, picked, matching, enter, frameFor, passed}
-use Rattle.machine.specs.Begin.{Given, arguments, enteredOf, question11, question12}
+use Rattle.machine.specs.Begin.{Given, arguments, enteredOf, question11, question19, question12, refused, runLevel}
+use Rattle.machine.specs.declared.Begun.{Begun}
 use Rattle.machine.specs.Steps.{Position, instruction, blockEnd, outside, position, positionOf, here, proceedTo, executeTo, advanceTo, registersOf}
 use Rattle.layout.specs.Bounds.{INSTRUCTIONS}
 use Rattle.machine.specs.declared.Activation.{Activation}
@@ -90,9 +91,9 @@ module _ (R : ℕ) (P Q : Program) (A : AllAlike P Q) (s : State) where
   kinds-alike [] = refl
   kinds-alike (v ∷ vs) = rw (kind-alike v, kinds-alike vs) refl
 
-  dispatches-bare : (mark ret : ℕ) (pairs : List Argument) (ks : List ℕ) (W : Version) → dispatches mark ret pairs ks W ≡ dispatches mark ret pairs ks (bare W)
+  dispatches-bare : (level mark ret : ℕ) (pairs : List Argument) (ks : List ℕ) (W : Version) → dispatches level mark ret pairs ks W ≡ dispatches level mark ret pairs ks (bare W)
   unfolding dispatches
-  dispatches-bare mark ret pairs ks W = rw (mark-bare (W .blocks)) refl
+  dispatches-bare level mark ret pairs ks W = rw (mark-bare (W .blocks)) refl
 
   -- a DISPATCH picks the same
   module _ {B : Type 0} (passes : Version → Bool) (h : (W : Version) → passes W ≡ passes (bare W)) (k : Version → Try B) (g : (W : Version) → k W ≡ k (bare W)) where
@@ -114,9 +115,9 @@ module _ (R : ℕ) (P Q : Program) (A : AllAlike P Q) (s : State) where
         ∙ ap (λ (q : Option Version). _>>=_ {A = Version} {B = B} (elim (found q passes) [ true ↦ orStuck q | false ↦ lowest Q f passes n (suc w) ]) k) (A f w)
         ∙ sym (pick (findVersion Q f w) (lowest Q f passes n (suc w)) (lowest Q f passes n (suc w)) refl)
 
-  picked-alike : {B : Type 0} (f mark ret : ℕ) (pairs : List Argument) (ks : List ℕ) (k : Version → Try B) → ((W : Version) → k W ≡ k (bare W)) → (picked P f mark ret pairs ks >>= k) ≡ (picked Q f mark ret pairs ks >>= k)
+  picked-alike : {B : Type 0} (level f mark ret : ℕ) (pairs : List Argument) (ks : List ℕ) (k : Version → Try B) → ((W : Version) → k W ≡ k (bare W)) → (picked P level f mark ret pairs ks >>= k) ≡ (picked Q level f mark ret pairs ks >>= k)
   unfolding picked
-  picked-alike f mark ret pairs ks k g = lowest-alike (dispatches mark ret pairs ks) (dispatches-bare mark ret pairs ks) k g f _ _
+  picked-alike level f mark ret pairs ks k g = lowest-alike (dispatches level mark ret pairs ks) (dispatches-bare level mark ret pairs ks) k g f _ _
 
   seen : (f w : ℕ) → bareOf (findVersion P f w) ≡ bareOf (findVersion Q f w)
   unfolding AllAlike
@@ -158,7 +159,7 @@ module _ (R : ℕ) (P Q : Program) (A : AllAlike P Q) (s : State) where
       version-same _ _ (seen g w) _ _ (call-bare P k d f rs) (call-bare Q k d f rs) (λ X. bind-same (each (value f) rs) _ _ (λ vs. rw (kinds-alike vs) refl))
   execute-alike k f W (DISPATCH d g mark ret pairs) =
       bind-same (each (value f) (registersOf pairs)) _ _ (λ vs. rw (kinds-alike vs) (bind-same (each (kindIn Q s) vs) _ _ (λ ks.
-      picked-alike g mark ret pairs ks (λ X. enter s k d X (registersOf pairs) vs) (λ X. enter-bare k d X (registersOf pairs) vs))))
+      picked-alike (W .level) g mark ret pairs ks (λ X. enter s k d X (registersOf pairs) vs) (λ X. enter-bare k d X (registersOf pairs) vs))))
   execute-alike k f W (SKIP a n) = refl
 
   finish-alike : (a : Activation) (W : Version) (v : Value) (o : Opener) → finish P s a W v o ≡ finish Q s a (bare W) v o
@@ -229,14 +230,14 @@ bare-alike P Q e = λ f w. find-bare P f w ∙ ap (λ X. findVersion X f w) e �
 -- ---- from the start
 
 -- alike programs are entered alike
-pub entered-alike : (P Q : Program) → AllAlike P Q → (f w : ℕ) (words buffer : List ℤ) → enteredOf P f w words buffer ≡ enteredOf Q f w words buffer
-unfolding AllAlike enteredOf question11 question12 frameFor bareOf
-entered-alike P Q A f w words buffer = go (findVersion P f w) ∙ ap (λ o. question11 o words buffer) (A f w) ∙ sym (go (findVersion Q f w))
+pub entered-alike : (P Q : Program) → AllAlike P Q → (level f w : ℕ) (words buffer : List ℤ) → enteredOf P level f w words buffer ≡ enteredOf Q level f w words buffer
+unfolding AllAlike enteredOf question11 question19 question12 frameFor bareOf
+entered-alike P Q A level f w words buffer = go (findVersion P f w) ∙ ap (λ o. question11 level o words buffer) (A f w) ∙ sym (go (findVersion Q f w))
   where
     entry : (W : Version) (o : Option (List Given)) → question12 W o buffer ≡ question12 (bare W) o buffer
     entry W none = refl
     entry W (some xs) = refl
 
-    go : (o : Option Version) → question11 o words buffer ≡ question11 (bareOf o) words buffer
+    go : (o : Option Version) → question11 level o words buffer ≡ question11 level (bareOf o) words buffer
     go none = refl
-    go (some W) = entry W (arguments (parameterTypes W) words)
+    go (some W) = ap (λ (b : Begun). elim (leb (W .level) (runLevel level)) [ true ↦ b | false ↦ refused 19 0 ]) (entry W (arguments (parameterTypes W) words))

@@ -13,3 +13,5 @@ pub mod Widened
 pub mod Moved
 pub mod SixtyFour
 pub mod Longer
+pub mod Always
+pub mod Levels

@@ -9,7 +9,7 @@ use native.Mathlib.Decide.{decLt}
 use native.Mathlib.Omega.{arith}
 use lib.IntN.{ℤ}
 use lib.ListN.{length, set}
-use lib.Dec.{eqb, ltb}
+use lib.Dec.{eqb, leb, ltb}
 use borrow.Author.Tests.{eqb-true}
 use Rattle.layout.specs.Bounds.{VERSIONS}
 use Rattle.layout.specs.Tests.{_and_, found}
@@ -25,7 +25,7 @@ use Rattle.machine.specs.States.{over, itemsOf, liveFrames, anInteger, value, k
 use Rattle.machine.specs.Calls.{opened, passed, matching, emptied, frameFor, enter, dispatches, lowest, picked, closed, done, back, finish}
 use Rattle.machine.specs.Steps.{registersOf, execute, Here, here, Position, instruction, blockEnd, outside, positionOf, proceed, advance, proceedTo, advanceTo, executeTo}
 use Rattle.machine.specs.Runs.{saying, settled, stepIn, stepInTo, stepOfTo, longEnough}
-use Rattle.machine.specs.Begin.{Given, arguments, valuesOf, vectorsOf, firstState, refused, question11, question12, question13, enteredOf, beginAfter, beginOf, programOf}
+use Rattle.machine.specs.Begin.{Given, arguments, valuesOf, vectorsOf, firstState, refused, question11, question19, runLevel, question12, question13, enteredOf, beginAfter, beginOf, programOf}
 use Rattle.machine.specs.declared.Activation.{Activation}
 use Rattle.machine.specs.declared.Cache.{Cache}
 use Rattle.machine.specs.declared.End.{End}
@@ -49,7 +49,7 @@ refused-begun q p e = let z : _≡_ {A = ℕ} 0 1 = cc in omega arith
 -- ---- entering a call
 
 -- one more is live, of f.w, and the run goes on as before
-abbrev EntersOn : State → ℕ → ℕ → State → Type 0
+abbrev pub EntersOn : State → ℕ → ℕ → State → Type 0
 EntersOn s f w t = (t .status ≡ s .status) × Enters s t f w
 
 -- the frame F put behind the live ones of u
@@ -75,7 +75,7 @@ frame-enters s u W vs fs h e =
     rw (sym (p .1)) (put-enters s u (frameFor W vs) h (p .0))
 
 -- the version that is entered
-enter-enters : (s : State) (k d : ℕ) (W : Version) (rs : List ℕ) (vs : List Value) → Gives (EntersOn s (W .function) (W .version)) (enter s k d W rs vs)
+pub enter-enters : (s : State) (k d : ℕ) (W : Version) (rs : List ℕ) (vs : List Value) → Gives (EntersOn s (W .function) (W .version)) (enter s k d W rs vs)
 unfolding enter Gives
 enter-enters s k d W rs vs =
     gives-after _ _ (opened s _) _ (opened-keeps s _)
@@ -187,8 +187,8 @@ dispatch-lives : (P : Program) (s : State) (a : Activation) (fr : Frame) (W : Ve
     → Gives (LivesOn s a (instruction (DISPATCH d f mark ret pairs))) (execute P (passed s a) (a .frame) fr W (DISPATCH d f mark ret pairs))
 unfolding executeTo picked
 dispatch-lives P s a fr W d f mark ret pairs =
-    gives-then _ (each (value fr) (registersOf pairs)) _ (λ vs _. gives-then _ (each (kindIn P (passed s a)) vs) _ (λ ks _. gives-then _ (picked P f mark ret pairs ks) _ (λ X e.
-    let l = lowest-found P f (dispatches mark ret pairs ks) VERSIONS 0 X e in
+    gives-then _ (each (value fr) (registersOf pairs)) _ (λ vs _. gives-then _ (each (kindIn P (passed s a)) vs) _ (λ ks _. gives-then _ (picked P (W .level) f mark ret pairs ks) _ (λ X e.
+    let l = lowest-found P f (dispatches (W .level) mark ret pairs ks) VERSIONS 0 X e in
     gives-weaken (EntersOn (passed s a) f (l .0)) _ (enter (passed s a) (a .frame) d X (registersOf pairs) vs) (named-enters P (passed s a) (a .frame) d f (l .0) X (registersOf pairs) vs (l .1))
     (λ t h. let g = entered-on s t a f (l .0) h in (g .0, dispatched d f mark ret pairs (l .0) (g .1))))))
 
@@ -306,24 +306,28 @@ first-13 f v s buffer h g = go (longEnough buffer) refl g
     go true e g = rw (e, question13) h
     go false e g = absurd (refused-begun 13 0 (rw (e, question13) at g))
 
--- behind 11 and 12
-first-entered : (P : Program) (f v : ℕ) (words buffer : List ℤ) → enteredOf P f v words buffer .entry ≡ Entry.Begun → First f v (enteredOf P f v words buffer .state)
-unfolding enteredOf question11 question12 refused
-first-entered P f v words buffer h = go (findVersion P f v) refl h
+-- behind 11, 19 and 12
+first-entered : (P : Program) (level f v : ℕ) (words buffer : List ℤ) → enteredOf P level f v words buffer .entry ≡ Entry.Begun → First f v (enteredOf P level f v words buffer .state)
+unfolding enteredOf question11 question19 question12 refused
+first-entered P level f v words buffer h = go (findVersion P f v) refl h
   where
     given : (W : Version) → (W .function ≡ f) × (W .version ≡ v) → (o : Option (List Given)) → question12 W o buffer .entry ≡ Entry.Begun → First f v (question12 W o buffer .state)
     given W n none g = absurd (refused-begun 12 0 g)
     given W n (some xs) g = first-13 f v _ buffer (rw (sym (n .0), sym (n .1)) (first-call W (valuesOf xs 0) (vectorsOf xs))) g
 
-    go : (o : Option Version) → findVersion P f v ≡ o → question11 o words buffer .entry ≡ Entry.Begun → First f v (question11 o words buffer .state)
+    low : (W : Version) → findVersion P f v ≡ some W → (b : Bool) → leb (W .level) (runLevel level) ≡ b → question19 level W words buffer .entry ≡ Entry.Begun → First f v (question19 level W words buffer .state)
+    low W e true l g = rw (l, question19) (given W (find-numbers P f v W e) (arguments (parameterTypes W) words) (rw (l, question19) at g))
+    low W e false l g = absurd (refused-begun 19 0 (rw (l, question19) at g))
+
+    go : (o : Option Version) → findVersion P f v ≡ o → question11 level o words buffer .entry ≡ Entry.Begun → First f v (question11 level o words buffer .state)
     go none e g = absurd (refused-begun 11 0 g)
-    go (some W) e g = given W (find-numbers P f v W e) (arguments (parameterTypes W) words) g
+    go (some W) e g = low W e (leb (W .level) (runLevel level)) refl g
 
 -- THE LAW: as the run begins
 pub first-enters : FirstCall
 unfolding FirstCall beginOf beginAfter refused
-first-enters image f v words buffer = go (verdictOf image)
+first-enters image level f v words buffer = go (verdictOf image)
   where
-    go : (a : Verdict) → beginAfter a (programOf image) f v words buffer .entry ≡ Entry.Begun → First f v (beginAfter a (programOf image) f v words buffer .state)
+    go : (a : Verdict) → beginAfter a (programOf image) level f v words buffer .entry ≡ Entry.Begun → First f v (beginAfter a (programOf image) level f v words buffer .state)
     go (Verdict.Refused q p) h = absurd (refused-begun q p h)
-    go (Verdict.Accepted n) h = first-entered (programOf image) f v words buffer h
+    go (Verdict.Accepted n) h = first-entered (programOf image) level f v words buffer h

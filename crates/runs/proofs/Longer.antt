@@ -22,7 +22,7 @@ use Rattle.layout.specs.declared.Found.{Found}
 use Rattle.layout.specs.declared.Found.the-variants.{Nothing, At}
 use Rattle.program.specs.Program.{Program, program}
 use Rattle.program.specs.Skips.{Ends, endsAfter, endsWithin, noEnds, question14}
-use Rattle.rules.proofs.Shapes.{map-length, shape, quiet, shape-6, shape-7, shape-8, shape-9, shape-10}
+use Rattle.rules.proofs.Shapes.{map-length, shape, quiet, shape-6, shape-7, shape-8, shape-18, shape-9, shape-10}
 use Rattle.checker.specs.Verdicts.{verdictIn}
 use Rattle.checker.specs.declared.Verdict.{Verdict}
 use Rattle.checker.proofs.Accepted.{Passed, passed, accept}
@@ -92,7 +92,7 @@ module _ (rs qs : List Rec) (h : Widened rs qs) where
   alike-4 n m = scan-too (λ (s t : Due). s ≡ t) placed dueAfter (noneDue n) (noneDue m)
       (λ s t r q e w. ap (λ (d : Due). placed d r) e ∙ moved-same (λ k b. placed t (recBy k b)) (λ b c. refl) r q w)
       (λ s t r q e w. ap (λ (d : Due). dueAfter d r) e ∙ moved-same (λ k b. dueAfter t (recBy k b)) (λ b c. refl) r q w)
-      (λ s t e. ap (λ (d : Due). quiet (noneDue n d)) e ∙ at-end (eqb (t .blocks) 0 and eqb (t .instructions) 0)) rs qs h start start refl
+      (λ s t e. ap (λ (d : Due). quiet (noneDue n d)) e ∙ at-end (eqb (t .levels) 0 and eqb (t .blocks) 0 and eqb (t .instructions) 0)) rs qs h start start refl
     where
       at-end : (b : Bool) → quiet (cond b Nothing (At n)) ≡ quiet (cond b Nothing (At m))
       at-end true = refl
@@ -188,6 +188,7 @@ carried {F} {s} {n} G t a one three e two four five fourteen =
       q7 = too (shape-7 P Q e) (a .q7);
       q14 = too fourteen (a .q14);
       q8 = too (shape-8 P Q e) (a .q8);
+      q18 = too (shape-18 P Q e) (a .q18);
       q9 = too (shape-9 P Q e) (a .q9);
       q10 = too (shape-10 P Q e) (a .q10);
       count = same-count P Q e ∙ a .count;

@@ -7,7 +7,7 @@ use Prim.Native.Nat.{ℕ, zero, suc, _+_, _-_, _<_, _≤_}
 use native.Mathlib.Omega.{arith}
 use lib.Dec.{ltb}
 use borrow.Author.Tests.{ltb-true}
-use Rattle.layout.specs.Bounds.{FUNCTIONS, VERSIONS}
+use Rattle.layout.specs.Bounds.{FUNCTIONS, LEVELS, VERSIONS}
 use Rattle.layout.specs.Tests.{_and_, found}
 use Rattle.layout.proofs.Bools.{and-both, found-some, found-none}
 use Rattle.program.specs.Program.{Argument, Program, Version, findVersion}
@@ -33,7 +33,7 @@ few s k e f = go (findVersion (programOf s) f VERSIONS) refl (numbered s k e f V
     go none h (before g a) = absurd (omega arith)
     go none h (behind g a) = omega arith
     go (some W) h m =
-        let b = and-both (ltb (W .version) VERSIONS) _ (and-both (ltb (W .function) FUNCTIONS) _ (checked s k e f VERSIONS W h .bound .ofVersion) .1) .0 in
+        let b = and-both (ltb (W .version) VERSIONS) _ (and-both (ltb (W .function) FUNCTIONS) _ (and-both (ltb (W .level) LEVELS) _ (checked s k e f VERSIONS W h .bound .ofVersion) .1) .1) .0 in
         let l = ltb-true (W .version) VERSIONS b in
         let n = find-numbers (programOf s) f VERSIONS W h .1 in
         absurd (omega arith)
@@ -95,10 +95,10 @@ none-passes P f (suc n) w = go (findVersion P f w) (none-passes P f n (suc w))
 
 pub search-counts : SearchCounts
 unfolding SearchCounts picked searched versionsOf CountIs
-search-counts s k e f mark ret pairs ks =
+search-counts s k e level f mark ret pairs ks =
     let P = programOf s in
     let c = ofFunction P f in
     let l = few s k e f in
-    let q = dispatches mark ret pairs ks in
+    let q = dispatches level mark ret pairs ks in
     let x = looks P f c (λ W. false) (numbered s k e f) VERSIONS 0 (omega arith) in
     (counts P f c q (numbered s k e f) _ _ (looks P f c q (numbered s k e f) VERSIONS 0 (omega arith)) refl, counts P f c (λ W. false) (numbered s k e f) (stop End.Undef) _ (rw (none-passes P f VERSIONS 0) at x) refl)

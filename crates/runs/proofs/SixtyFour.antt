@@ -5,6 +5,7 @@ use mathlib.Core.List.{List}
 use Prim.Native.Nat.{ℕ, _<_}
 use native.Mathlib.Omega.{arith}
 use lib.IntN.{ℤ}
+use lib.ListN.{length}
 use Rattle.layout.specs.Records.{_!_, records}
 use Rattle.layout.specs.Forms.{moved}
 use Rattle.layout.specs.declared.Form.{Form}
@@ -45,13 +46,13 @@ module _ (P Q : Program) (A : AllAlike P Q) (n : ℕ) (buffer : List ℤ) where
 -- the programs of both forms
 pub both-forms-alike : FormsAlike
 unfolding FormsAlike
-both-forms-alike image bytes n old = forms-alike (records image) (records (moved Form.Narrow (records image))) (new-records image bytes n old)
+both-forms-alike image bytes n old = forms-alike (records image) (records (moved Form.Narrow (records image))) (new-records image bytes n old) (length image) (passed image n old .q4)
 
 -- THE SENTENCE of 02, 5
 pub sixty-four : SixtyFour
-unfolding SixtyFour runBefore runOfTo beginOf beginAfter
-sixty-four image bytes n m old new f v words budget buffer u =
-    sym-run (started-same P Q A budget buffer (enteredOf P f v words buffer) (subst (λ (r : Ran). r .answer ≢ Answer.Ended End.Undef) before u))
+unfolding SixtyFour FormsAlike runBefore runOfTo beginOf beginAfter
+sixty-four image bytes n m old new level f v words budget buffer u =
+    sym-run (started-same P Q A budget buffer (enteredOf P level f v words buffer) (subst (λ (r : Ran). r .answer ≢ Answer.Ended End.Undef) before u))
   where
     P : Program
     P = programBy Form.Narrow (records image)
@@ -60,16 +61,16 @@ sixty-four image bytes n m old new f v words budget buffer u =
     Q = programOf (moved Form.Narrow (records image))
 
     A : AllAlike P Q
-    A = forms-alike (records image) (records (moved Form.Narrow (records image))) (new-records image bytes n old)
+    A = both-forms-alike image bytes n old
 
     first : ℕ → Program → Begun → Ran
     first R X b = runAfterTo R (b .entry) X (b .state) budget buffer
 
-    before : runBefore image f v words budget buffer ≡ first NARROW-RANGE P (enteredOf P f v words buffer)
+    before : runBefore image level f v words budget buffer ≡ first NARROW-RANGE P (enteredOf P level f v words buffer)
     before = rw old refl
 
-    after : runOf (moved Form.Narrow (records image)) f v words budget buffer ≡ first RANGE Q (enteredOf Q f v words buffer)
+    after : runOf (moved Form.Narrow (records image)) level f v words budget buffer ≡ first RANGE Q (enteredOf Q level f v words buffer)
     after = rw new refl
 
-    sym-run : first RANGE Q (enteredOf P f v words buffer) ≡ first NARROW-RANGE P (enteredOf P f v words buffer) → runOf (moved Form.Narrow (records image)) f v words budget buffer ≡ runBefore image f v words budget buffer
-    sym-run e = after ∙ ap (first RANGE Q) (sym (entered-alike P Q A f v words buffer)) ∙ e ∙ sym before
+    sym-run : first RANGE Q (enteredOf P level f v words buffer) ≡ first NARROW-RANGE P (enteredOf P level f v words buffer) → runOf (moved Form.Narrow (records image)) level f v words budget buffer ≡ runBefore image level f v words budget buffer
+    sym-run e = after ∙ ap (first RANGE Q) (sym (entered-alike P Q A level f v words buffer)) ∙ e ∙ sym before

@@ -1,18 +1,24 @@
 -- Records in both forms make programs that are alike.
-use mathlib.Core.Path.{_≡_, refl, sym, ap, _∙_}
+use mathlib.Core.Path.{_≡_, refl, sym, ap, ap₂, _∙_, subst}
 use mathlib.Core.Logic.{_⊎_, inl, inr}
 use mathlib.Core.List.{List, [], _∷_, map}
 use mathlib.Core.Bool.{Bool, true, false, cond}
 use Prim.Native.Nat.{ℕ, _<_}
 use native.Mathlib.Omega.{arith}
-use lib.Dec.{eqb}
-use borrow.Author.Tests.{ne-eqb}
+use lib.Dec.{eqb, ltb}
+use borrow.Author.Tests.{ne-eqb, eqb-true, ltb-true}
 use Rattle.layout.specs.Kinds as kind
 use Rattle.layout.specs.Records.{Rec, _!_, choose}
 use Rattle.layout.specs.Forms.{literalKind, literalLength}
-use Rattle.layout.specs.Questions.{plainLength}
+use Rattle.layout.specs.Questions.{plainLength, inOrder, dueAfter, noneDue, placed, question4, start}
+use Rattle.layout.specs.Scan.{scan}
+use Rattle.layout.specs.Tests.{_and_}
+use Rattle.layout.specs.declared.Due.{Due}
+use Rattle.layout.specs.declared.Found.the-variants.{Nothing}
+use Rattle.layout.proofs.Bools.{and-both}
 use Rattle.layout.specs.declared.Form.{Form}
-use Rattle.program.specs.Program.{Instr, LIT, Line, Block, Version, View, blockOf, instrBy, nowhere, numberIn, program, programBy, putBy, versionOf, viewBy}
+use Rattle.program.specs.Program.{Instr, LIT, Line, Block, Version, View, blockOf, instrBy, levelOf, nowhere, numberIn, program, programBy, putBy, versionOf, viewBy}
+use Rattle.program.proofs.Laid.{passed}
 use Rattle.rules.proofs.Shapes.{blank, shape}
 use Rattle.runs.specs.Alike.{AllAlike}
 use Rattle.runs.proofs.Alike.{bare-alike}
@@ -69,19 +75,19 @@ row-missing {A} k x (row ∷ rows) e = go (eqb k (row .0)) e (row-missing k x ro
     go true h ih = let z : _≡_ {A = ℕ} 0 1 = cc in absurd (omega arith)
     go false h ih = ih h
 
--- behind two other rows
-rows-missing : {A : Type 0} (k : ℕ) (x : A) (p q : ℕ × A) (rows : List (ℕ × A)) → eqb k (p .0) ≡ false → eqb k (q .0) ≡ false → keyed k rows ≡ false → choose k x (p ∷ q ∷ rows) ≡ x
+-- behind three other rows
+rows-missing : {A : Type 0} (k : ℕ) (x : A) (p q t : ℕ × A) (rows : List (ℕ × A)) → eqb k (p .0) ≡ false → eqb k (q .0) ≡ false → eqb k (t .0) ≡ false → keyed k rows ≡ false → choose k x (p ∷ q ∷ t ∷ rows) ≡ x
 unfolding choose
-rows-missing k x p q rows e f g = rw (e, f) (row-missing k x rows g)
+rows-missing k x p q t rows e f g h = rw (e, f, g) (row-missing k x rows h)
 
 not-false : (a : Bool) → (a ≡ false → ⊥) → a ≡ true
 not-false true h = refl
 not-false false h = absurd (h refl)
 
--- a kind of both forms that is neither VERSION nor BLOCK has a row of its own among the instructions
-kept-instr : (k : ℕ) (b : List ℕ) → eqb k kind.VERSION ≡ false → eqb k kind.BLOCK ≡ false → 0 < plainLength k b → instrBy Form.Narrow k b ≡ instrBy Form.Wide k b
+-- a kind of both forms that is no VERSION, BLOCK or LEVEL has a row of its own among the instructions
+kept-instr : (k : ℕ) (b : List ℕ) → eqb k kind.VERSION ≡ false → eqb k kind.BLOCK ≡ false → eqb k kind.LEVEL ≡ false → 0 < plainLength k b → instrBy Form.Narrow k b ≡ instrBy Form.Wide k b
 unfolding instrBy plainLength keyed
-kept-instr k b v w h = row-there k _ _ _ (not-false _ (λ e. let z : plainLength k b ≡ 0 = rows-missing k 0 _ _ _ v w e in absurd (omega (arith, h, z))))
+kept-instr k b v w g h = row-there k _ _ _ (not-false _ (λ e. let z : plainLength k b ≡ 0 = rows-missing k 0 _ _ _ _ v w g e in absurd (omega (arith, h, z))))
 
 literal-instr : (form : Form) (k : ℕ) (b : List ℕ) → k ≡ literalKind form → instrBy form k b ≡ LIT (b ! 0) (numberIn form b)
 unfolding instrBy choose literalKind
@@ -98,10 +104,10 @@ module _ (g : Instr → Instr) where
   blockWith b = record { at = 0; mark = b .mark; result = b .result; code = map lineWith (b .code) }
 
   abbrev versionWith : Version → Version
-  versionWith v = record { at = 0; function = v .function; version = v .version; parameters = v .parameters; types = v .types; return = v .return; blocks = map blockWith (v .blocks) }
+  versionWith v = record { at = 0; function = v .function; version = v .version; parameters = v .parameters; types = v .types; return = v .return; level = v .level; blocks = map blockWith (v .blocks) }
 
   abbrev viewWith : View → View
-  viewWith w = record { code = map lineWith (w .code); blocks = map blockWith (w .blocks); versions = map versionWith (w .versions) }
+  viewWith w = record { level = w .level; code = map lineWith (w .code); blocks = map blockWith (w .blocks); versions = map versionWith (w .versions) }
 
 -- a record of the kind k with this body, at the offset 0
 abbrev bareRec : ℕ → List ℕ → Rec
@@ -110,9 +116,9 @@ bareRec k b = record { at = 0; size = 0; kind = k; body = b }
 -- `putBy` without offsets, by what the record makes
 unfoldable putBare : Instr → ℕ → List ℕ → View → View
 putBare i k b w =
-    cond (eqb k kind.VERSION) (record { code = []; blocks = []; versions = versionOf (bareRec k b) (w .blocks) ∷ w .versions })
-    (cond (eqb k kind.BLOCK) (record { code = []; blocks = blockOf (bareRec k b) (w .code) ∷ w .blocks; versions = w .versions })
-    (record { code = record { at = 0; does = i } ∷ w .code; blocks = w .blocks; versions = w .versions }))
+    cond (eqb k kind.VERSION) (record { level = 0; code = []; blocks = []; versions = versionOf (bareRec k b) (w .level) (w .blocks) ∷ w .versions })
+    (cond (eqb k kind.BLOCK) (record { level = 0; code = []; blocks = blockOf (bareRec k b) (w .code) ∷ w .blocks; versions = w .versions })
+    (record { level = levelOf (bareRec k b); code = record { at = 0; does = i } ∷ w .code; blocks = w .blocks; versions = w .versions }))
 
 module _ (g : Instr → Instr) where
   by-test : (a : Bool) (x y : View) → viewWith g (cond a x y) ≡ cond a (viewWith g x) (viewWith g y)
@@ -153,19 +159,59 @@ pub new-whole : (r q : Rec) → Literal r q → 0 < q .size
 unfolding literalLength
 new-whole r q l = omega (arith, l .new-size)
 
-kept-put : (k : ℕ) (b : List ℕ) (x : View) → 0 < plainLength k b → putBare (instrBy Form.Narrow k b) k b x ≡ putBare (instrBy Form.Wide k b) k b x
-unfolding putBare
-kept-put k b x h = go (eqb k kind.VERSION) (eqb k kind.BLOCK) refl refl
-  where
-    go : (v w : Bool) → eqb k kind.VERSION ≡ v → eqb k kind.BLOCK ≡ w → putBare (instrBy Form.Narrow k b) k b x ≡ putBare (instrBy Form.Wide k b) k b x
-    go true w e f = rw e refl
-    go false true e f = rw (e, f) refl
-    go false false e f = ap (λ (i : Instr). putBare i k b x) (kept-instr k b e f h)
+-- what two views show alike, by what is due before them: of instructions that is said where no level is due
+record Near (d : Due) (x y : View) : Type 0 where
+  level : x .level ≡ y .level
+  code : d .levels ≡ 0 → x .code ≡ y .code
+  blocks : x .blocks ≡ y .blocks
+  versions : x .versions ≡ y .versions
 
--- the instruction itself, each in its form
-turn-same : (r q : Rec) → (Literal r q ⊎ Kept r q) → (x : View) → turn (λ i. i) Form.Narrow r x ≡ turn (λ i. i) Form.Wide q x
-unfolding putBare literalKind
-turn-same r q (inl l) x =
+-- a record of both forms, which stays as it is
+module _ (d : Due) (k : ℕ) (b : List ℕ) (x y : View) (a : Near (dueAfter d (bareRec k b)) x y) (order : inOrder d k ≡ true) (known : 0 < plainLength k b) where
+  abbrev Put : Type 0
+  Put = Near d (putBare (instrBy Form.Narrow k b) k b x) (putBare (instrBy Form.Wide k b) k b y)
+
+  kept-version : eqb k kind.VERSION ≡ true → Put
+  unfolding putBare
+  kept-version e = rw e (record { level = refl; code = λ z. refl; blocks = refl; versions = ap (λ (l : ℕ). versionOf (bareRec k b) l (x .blocks) ∷ x .versions) (a .level) ∙ ap₂ (λ (bs : List Block) (vs : List Version). versionOf (bareRec k b) (y .level) bs ∷ vs) (a .blocks) (a .versions) })
+
+  kept-level : eqb k kind.VERSION ≡ false → eqb k kind.BLOCK ≡ false → eqb k kind.LEVEL ≡ true → Put
+  unfolding putBare inOrder choose
+  kept-level e f g = rw (e, f) (record { level = refl; code = λ z. absurd (due z); blocks = a .blocks; versions = a .versions })
+    where
+      due : d .levels ≡ 0 → ⊥
+      due z = let h : ltb 0 (d .levels) ≡ true = simp (e, f, g) at order in omega (arith, z, ltb-true 0 (d .levels) h)
+
+  kept-block : eqb k kind.VERSION ≡ false → eqb k kind.BLOCK ≡ true → Put
+  unfolding putBare inOrder dueAfter choose
+  kept-block e f = rw (e, f) (record { level = refl; code = λ z. refl; blocks = ap₂ (λ (c : List Line) (bs : List Block). blockOf (bareRec k b) c ∷ bs) (a .code none) (a .blocks); versions = a .versions })
+    where
+      is : k ≡ kind.BLOCK
+      is = eqb-true k kind.BLOCK f
+
+      none : dueAfter d (bareRec k b) .levels ≡ 0
+      none = let h : (eqb (d .levels) 0 and ltb 0 (d .blocks) and eqb (d .instructions) 0) ≡ true = simp is at order in simp (is, eqb-true (d .levels) 0 (and-both _ _ h .0))
+
+  kept-line : eqb k kind.VERSION ≡ false → eqb k kind.BLOCK ≡ false → eqb k kind.LEVEL ≡ false → Put
+  unfolding putBare dueAfter choose
+  kept-line e f g = rw (e, f) (record { level = refl; code = λ z. ap₂ (λ (i : Instr) (c : List Line). record { at = 0; does = i } ∷ c) (kept-instr k b e f g known) (a .code (left z)); blocks = a .blocks; versions = a .versions })
+    where
+      left : d .levels ≡ 0 → dueAfter d (bareRec k b) .levels ≡ 0
+      left z = simp (e, f, g, z)
+
+  kept-near : Put
+  kept-near = go (eqb k kind.VERSION) (eqb k kind.BLOCK) (eqb k kind.LEVEL) refl refl refl
+    where
+      go : (v w u : Bool) → eqb k kind.VERSION ≡ v → eqb k kind.BLOCK ≡ w → eqb k kind.LEVEL ≡ u → Put
+      go true w u e f g = kept-version e
+      go false true u e f g = kept-block e f
+      go false false true e f g = kept-level e f g
+      go false false false e f g = kept-line e f g
+
+-- a record of either kind, each in its form
+turn-near : (d : Due) (r q : Rec) (x y : View) → (Literal r q ⊎ Kept r q) → inOrder d (r .kind) ≡ true → Near (dueAfter d r) x y → Near d (turn (λ i. i) Form.Narrow r x) (turn (λ i. i) Form.Wide q y)
+unfolding putBare dueAfter choose literalKind
+turn-near d r q x y (inl l) order a =
     rw (
       whole-eqb (old-whole r q l),
       whole-eqb (new-whole r q l),
@@ -175,8 +221,24 @@ turn-same r q (inl l) x =
       l .new,
       l .register,
       l .number,
-    ) refl
-turn-same r q (inr k) x = rw (k .same-kind, k .same-size, k .same-body) (ap (cond (eqb (r .size) 0) nowhere) (kept-put (r .kind) (r .body) x (omega (arith, k .whole, k .known))))
+    ) (record { level = refl; code = λ z. ap (λ (c : List Line). record { at = 0; does = LIT (r .body ! 0) (numberIn Form.Narrow (r .body)) } ∷ c) (a .code (left z)); blocks = a .blocks; versions = a .versions })
+  where
+    left : d .levels ≡ 0 → dueAfter d r .levels ≡ 0
+    left z = simp (l .old, z)
+turn-near d r q x y (inr k) order a =
+    rw (k .same-kind, k .same-size, k .same-body, whole-eqb (k .whole)) (kept-near d (r .kind) (r .body) x y a order (omega (arith, k .whole, k .known)))
+
+-- views of records in both forms, where the records are in order
+views-near : (end : ℕ) (rs qs : List Rec) (d : Due) → Widened rs qs → scan placed dueAfter (noneDue end) d rs ≡ Nothing → Near d (viewWith (λ i. i) (viewBy Form.Narrow rs)) (viewWith (λ i. i) (viewBy Form.Wide qs))
+unfolding Widened scan viewBy
+views-near end [] [] d h o = record { level = refl; code = λ z. refl; blocks = refl; versions = refl }
+views-near end [] (q ∷ qs) d h o = absurd h
+views-near end (r ∷ rs) [] d h o = absurd h
+views-near end (r ∷ rs) (q ∷ qs) d h o =
+    let p = passed _ _ (r .at) o in
+    let t = and-both _ _ (and-both _ _ (p .0) .1) in
+    let a = turn-near d r q _ _ (h .0) (t .1) (views-near end rs qs (dueAfter d r) (h .1) (p .1)) in
+    rw (turn-with (λ i. i) Form.Narrow r rs, turn-with (λ i. i) Form.Wide q qs) a
 
 -- its shape, both in the form in force
 turn-shape : (r q : Rec) → (Literal r q ⊎ Kept r q) → (x : View) → turn blank Form.Wide r x ≡ turn blank Form.Wide q x
@@ -184,9 +246,10 @@ unfolding putBare literalKind instrBy choose blank
 turn-shape r q (inl l) x = rw (whole-eqb (old-whole r q l), whole-eqb (new-whole r q l), l .old, l .new, l .register) refl
 turn-shape r q (inr k) x = rw (k .same-kind, k .same-size, k .same-body) refl
 
--- THE LAW: records in both forms make alike programs
-pub forms-alike : (rs qs : List Rec) → Widened rs qs → AllAlike (programBy Form.Narrow rs) (programBy Form.Wide qs)
-forms-alike rs qs h = bare-alike _ _ (ap (λ (w : View). w .versions) (view-with (λ i. i) Form.Narrow Form.Wide turn-same rs qs h))
+-- THE LAW: records in both forms, in the order that question 4 asks for, make alike programs
+pub forms-alike : (rs qs : List Rec) → Widened rs qs → (end : ℕ) → question4 end rs ≡ Nothing → AllAlike (programBy Form.Narrow rs) (programBy Form.Wide qs)
+unfolding question4
+forms-alike rs qs h end o = bare-alike _ _ (views-near end rs qs start h o .versions)
 
 -- THE LAW: both, read in the form in force, make programs of the same shape
 pub forms-shape : (rs qs : List Rec) → Widened rs qs → map shape (program rs) ≡ map shape (program qs)

@@ -15,7 +15,7 @@ bareBlock b = record { at = 0; mark = b .mark; result = b .result; code = map ba
 
 -- a version without offsets
 abbrev pub bare : Version → Version
-bare v = record { at = 0; function = v .function; version = v .version; parameters = v .parameters; types = v .types; return = v .return; blocks = map bareBlock (v .blocks) }
+bare v = record { at = 0; function = v .function; version = v .version; parameters = v .parameters; types = v .types; return = v .return; level = v .level; blocks = map bareBlock (v .blocks) }
 
 -- what a look-up found, without offsets
 unfoldable pub bareOf : Option Version → Option Version

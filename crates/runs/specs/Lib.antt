@@ -3,3 +3,4 @@ pub mod Splits
 pub mod Searches
 pub mod Alike
 pub mod Wider
+pub mod Levels

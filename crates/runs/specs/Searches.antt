@@ -24,5 +24,5 @@ CountIs P f (stop e) n = n ≡ ofFunction P f
 -- each search of an accepted image looks at exactly so many, and what it has is what the function has
 unfoldable pub SearchCounts : Type 0
 SearchCounts =
-    (s : List ℕ) (m : ℕ) → verdictOf s ≡ Verdict.Accepted m → (f mark ret : ℕ) (pairs : List Argument) (ks : List ℕ)
-    → CountIs (programOf s) f (picked (programOf s) f mark ret pairs ks) (searched (programOf s) f mark ret pairs ks) × (versionsOf (programOf s) f ≡ ofFunction (programOf s) f)
+    (s : List ℕ) (m : ℕ) → verdictOf s ≡ Verdict.Accepted m → (level f mark ret : ℕ) (pairs : List Argument) (ks : List ℕ)
+    → CountIs (programOf s) f (picked (programOf s) level f mark ret pairs ks) (searched (programOf s) level f mark ret pairs ks) × (versionsOf (programOf s) f ≡ ofFunction (programOf s) f)

@@ -55,10 +55,10 @@ WiderEvents = (R S : ℕ) → R ≤ S → (es : List Event) (r : Run) → AllDef
 -- ---- an image in both forms
 
 -- a run from the start as it was before: an image of the 32-bit form, integers in the narrow range
-unfoldable pub runBefore : List ℕ → ℕ → ℕ → List ℤ → ℕ → List ℤ → Ran
-runBefore image f v words n buffer =
+unfoldable pub runBefore : List ℕ → ℕ → ℕ → ℕ → List ℤ → ℕ → List ℤ → Ran
+runBefore image level f v words n buffer =
     let P = programBy Form.Narrow (records image) in
-    let b = beginAfter (verdictIn Form.Narrow image) P f v words buffer in
+    let b = beginAfter (verdictIn Form.Narrow image) P level f v words buffer in
     runAfterTo NARROW-RANGE (b .entry) P (b .state) n buffer
 
 -- its programs in both forms are the same but for offsets, so that `WiderStep` and `WiderBudget` speak of every later step and budget too
@@ -72,9 +72,9 @@ unfoldable pub SixtyFour : Type 0
 SixtyFour =
     (image : List ℕ) → ((i : ℕ) → image ! i < 256) → (n m : ℕ) → verdictIn Form.Narrow image ≡ Verdict.Accepted n
     → let new = moved Form.Narrow (records image) in verdictOf new ≡ Verdict.Accepted m
-    → (f v : ℕ) (words : List ℤ) (budget : ℕ) (buffer : List ℤ)
-    → runBefore image f v words budget buffer .answer ≢ Answer.Ended End.Undef
-    → runOf new f v words budget buffer ≡ runBefore image f v words budget buffer
+    → (level f v : ℕ) (words : List ℤ) (budget : ℕ) (buffer : List ℤ)
+    → runBefore image level f v words budget buffer .answer ≢ Answer.Ended End.Undef
+    → runOf new level f v words budget buffer ≡ runBefore image level f v words budget buffer
 
 -- It is accepted where it is not too long, with as many versions
 unfoldable pub LongerAccepted : Type 0

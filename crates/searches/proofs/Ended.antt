@@ -39,39 +39,39 @@ module _ (P : Program) (s : State) (x : Status) where
       go stuck = refl
       go (stop e) = refl
 
-  by-same : (f : Frame) (i : Instr) → searchBy P withStatus f i ≡ searchBy P s f i
+  by-same : (f : Frame) (level : ℕ) (i : Instr) → searchBy P withStatus f level i ≡ searchBy P s f level i
   unfolding searchBy
-  by-same f (LIT d i) = refl
-  by-same f (MOVE d a) = refl
-  by-same f (USE d a) = refl
-  by-same f (DUP d a) = refl
-  by-same f (VEC d rs) = refl
-  by-same f (LEN d a) = refl
-  by-same f (GET d a i) = refl
-  by-same f (SET a i e) = refl
-  by-same f (ARITH d op a b) = refl
-  by-same f (SELECT d c a b) = refl
-  by-same f (CAST d a) = refl
-  by-same f (NAMED d y) = refl
-  by-same f (STORE y a) = refl
-  by-same f (PROM d block) = refl
-  by-same f (FORCE d a) = refl
-  by-same f (PEEK d a y) = refl
-  by-same f (POKE a y e) = refl
-  by-same f (CALL d g w rs) = refl
-  by-same f (DISPATCH d g mark ret pairs) = rw (kinds-same f (registersOf pairs)) refl
-  by-same f (SKIP a n) = refl
+  by-same f level (LIT d i) = refl
+  by-same f level (MOVE d a) = refl
+  by-same f level (USE d a) = refl
+  by-same f level (DUP d a) = refl
+  by-same f level (VEC d rs) = refl
+  by-same f level (LEN d a) = refl
+  by-same f level (GET d a i) = refl
+  by-same f level (SET a i e) = refl
+  by-same f level (ARITH d op a b) = refl
+  by-same f level (SELECT d c a b) = refl
+  by-same f level (CAST d a) = refl
+  by-same f level (NAMED d y) = refl
+  by-same f level (STORE y a) = refl
+  by-same f level (PROM d block) = refl
+  by-same f level (FORCE d a) = refl
+  by-same f level (PEEK d a y) = refl
+  by-same f level (POKE a y e) = refl
+  by-same f level (CALL d g w rs) = refl
+  by-same f level (DISPATCH d g mark ret pairs) = rw (kinds-same f (registersOf pairs)) refl
+  by-same f level (SKIP a n) = refl
 
   pub search-ended : searchOf P withStatus ≡ searchOf P s
   unfolding searchOf searchFrom searchAt here liveActivations liveFrames
   search-ended = from (here P s)
     where
-      at : (f : Frame) (p : Position) → searchAt P withStatus f p ≡ searchAt P s f p
-      at f (instruction i) = by-same f i
-      at f blockEnd = refl
-      at f outside = refl
+      at : (f : Frame) (level : ℕ) (p : Position) → searchAt P withStatus f level p ≡ searchAt P s f level p
+      at f level (instruction i) = by-same f level i
+      at f level blockEnd = refl
+      at f level outside = refl
 
       from : (t : Try Here) → searchFrom P withStatus t ≡ searchFrom P s t
-      from (got h) = at (h .frame) (positionOf h)
+      from (got h) = at (h .frame) (h .version .level) (positionOf h)
       from stuck = refl
       from (stop e) = refl

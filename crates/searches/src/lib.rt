@@ -23,7 +23,7 @@ fn counted(image: &[u8], table: &[u16; 1152], function: u8, looked: usize) -> Se
     )
 }
 
-/// What the instruction at `at` looks at, in the frame `k`.
+/// What the instruction at `at` looks at, in the frame `k` of the version at `v`.
 fn looks(
     image: &[u8],
     table: &[u16; 1152],
@@ -32,10 +32,11 @@ fn looks(
     promises: &[u8; 192],
     calls: usize,
     k: usize,
+    v: usize,
     at: usize,
 ) -> Search
     requires { ⌜ Indexed (now image) (now table) × (k < 32) ⌝ }
-    ensures { λ r. ⌜ Looks (now (image .entry)) r (now (owners .entry)) (now (codes .entry)) (now (promises .entry)) calls k at ⌝ }
+    ensures { λ r. ⌜ Looks (now (image .entry)) r (now (owners .entry)) (now (codes .entry)) (now (promises .entry)) calls k v at ⌝ }
 {
     if layout::kind_at(image, at) != layout::kinds::DISPATCH {
         return Search::Elsewhere;
@@ -53,6 +54,7 @@ fn looks(
         calls,
         k,
         at,
+        v,
         function,
         mark,
         returns,
@@ -105,6 +107,7 @@ pub fn search(
         promises,
         calls as usize,
         spot.frame,
+        spot.version,
         spot.at,
     )
 }

@@ -19,7 +19,7 @@ use Rattle.layout.specs.Questions.{question2}
 use Rattle.layout.specs.declared.Found.the-variants.{Nothing}
 use Rattle.layout.proofs.Bools.{and-both}
 use Rattle.layout.proofs.Walk.{rest-cons, size-at, whole-length}
-use Rattle.program.specs.Program.{Line, Block, Version, Program, View, blockOf, lineOf, versionOf, nowhere, program, findVersion}
+use Rattle.program.specs.Program.{Line, Block, Version, Program, View, blockOf, levelOf, lineOf, versionOf, nowhere, program, findVersion}
 use Rattle.program.specs.Places.{viewAt, past, versionAt, blockAt}
 use Rattle.program.proofs.Laid.{passed}
 use Rattle.program.proofs.Views.{view-end, Whole, at-version, at-block, at-line}
@@ -108,15 +108,15 @@ module _ (s : List ℕ) (a e : ℕ) (ae : a ≤ e) (es : e ≤ length s) where
 
 -- ---- what stands at an offset
 
--- nothing more, a VERSION, a BLOCK or an instruction, whole
+-- nothing more, a VERSION, a BLOCK or another record, whole
 data Seen (s : List ℕ) (p : ℕ) : Type 0 where
   at-none : length s ≤ p → viewAt s p ≡ nowhere → Seen s p
   at-a-version : p < length s → 0 < sizeAt s p → question2 (rest s (past s p)) ≡ Nothing → kindAt s p ≡ kind.VERSION
-      → viewAt s p ≡ record { code = []; blocks = []; versions = versionAt s p ∷ viewAt s (past s p) .versions } → Seen s p
+      → viewAt s p ≡ record { level = 0; code = []; blocks = []; versions = versionAt s p ∷ viewAt s (past s p) .versions } → Seen s p
   at-a-block : p < length s → 0 < sizeAt s p → question2 (rest s (past s p)) ≡ Nothing → kindAt s p ≡ kind.BLOCK
-      → viewAt s p ≡ record { code = []; blocks = blockAt s p ∷ viewAt s (past s p) .blocks; versions = viewAt s (past s p) .versions } → Seen s p
+      → viewAt s p ≡ record { level = 0; code = []; blocks = blockAt s p ∷ viewAt s (past s p) .blocks; versions = viewAt s (past s p) .versions } → Seen s p
   at-a-line : p < length s → 0 < sizeAt s p → question2 (rest s (past s p)) ≡ Nothing → (kindAt s p ≡ kind.VERSION → ⊥) → (kindAt s p ≡ kind.BLOCK → ⊥)
-      → viewAt s p ≡ record { code = lineOf (recAt s p) ∷ viewAt s (past s p) .code; blocks = viewAt s (past s p) .blocks; versions = viewAt s (past s p) .versions } → Seen s p
+      → viewAt s p ≡ record { level = levelOf (recAt s p); code = lineOf (recAt s p) ∷ viewAt s (past s p) .code; blocks = viewAt s (past s p) .blocks; versions = viewAt s (past s p) .versions } → Seen s p
 
 whole-here : (s : List ℕ) (p : ℕ) → p < length s → 0 < sizeAt s p → Whole s p (sizeAt s p) (kindAt s p)
 whole-here s p h w = record { inside = h; size = refl; whole = λ z. absurd (omega (arith, w, z)); kind = refl }
@@ -169,26 +169,27 @@ block-alike : (r q : Rec) (ls ms : List Line) → r .body ≡ q .body → map ba
 block-alike r q ls ms e f =
     ap (λ (b : List ℕ). record { at = 0; mark = b ! 0; result = b ! 1; code = map bareLine ls }) e ∙ ap (λ (c : List Line). record { at = 0; mark = q .body ! 0; result = q .body ! 1; code = c }) f
 
-version-alike : (r q : Rec) (xs ys : List Block) → r .body ≡ q .body → map bareBlock xs ≡ map bareBlock ys → Alike (versionOf r xs) (versionOf q ys)
+version-alike : (r q : Rec) (l m : ℕ) (xs ys : List Block) → r .body ≡ q .body → l ≡ m → map bareBlock xs ≡ map bareBlock ys → Alike (versionOf r l xs) (versionOf q m ys)
 unfolding Alike
-version-alike r q xs ys e f = ap (λ (b : List ℕ). with-body b (map bareBlock xs)) e ∙ ap (with-body (q .body)) f
+version-alike r q l m xs ys e g f = ap₂ (λ (b : List ℕ) (k : ℕ). with-body b k (map bareBlock xs)) e g ∙ ap (with-body (q .body) m) f
   where
-    with-body : List ℕ → List Block → Version
-    with-body b blocks = record { at = 0; function = b ! 0; version = b ! 1; parameters = b ! 2; types = fields b 6 (b ! 3); return = b ! 4; blocks = blocks }
+    with-body : List ℕ → ℕ → List Block → Version
+    with-body b level blocks = record { at = 0; function = b ! 0; version = b ! 1; parameters = b ! 2; types = fields b 6 (b ! 3); return = b ! 4; level = level; blocks = blocks }
 
--- ---- a version's part holds its blocks and instructions, and no other version
+-- ---- a version's part holds its level, blocks and instructions, and no other version
 
 record Shown (s : List ℕ) (a e i : ℕ) : Type 0 where
+  level : viewAt s (a + i) .level ≡ viewAt (slice s a e) i .level
   code : map bareLine (viewAt s (a + i) .code) ≡ map bareLine (viewAt (slice s a e) i .code)
   blocks : map bareBlock (viewAt s (a + i) .blocks) ≡ map bareBlock (viewAt (slice s a e) i .blocks)
   alone : viewAt (slice s a e) i .versions ≡ []
 
 module _ (s : List ℕ) (a e : ℕ) (ae : a ≤ e) (es : e ≤ length s) where
   -- at its end
-  shown-end : (i : ℕ) → a + i ≡ e → viewAt s (a + i) .code ≡ [] → viewAt s (a + i) .blocks ≡ [] → Shown s a e i
-  shown-end i h c b =
+  shown-end : (i : ℕ) → a + i ≡ e → viewAt s (a + i) .level ≡ 0 → viewAt s (a + i) .code ≡ [] → viewAt s (a + i) .blocks ≡ [] → Shown s a e i
+  shown-end i h g c b =
       let v = view-end (slice s a e) i (rw (part-length s a e ae es) (omega arith)) in
-      record { code = rw (c, v) refl; blocks = rw (b, v) refl; alone = rw v refl }
+      record { level = rw (g, v) refl; code = rw (c, v) refl; blocks = rw (b, v) refl; alone = rw v refl }
 
   -- what lies behind a record of it that is no VERSION
   record Behind (i : ℕ) : Type 0 where
@@ -196,6 +197,7 @@ module _ (s : List ℕ) (a e : ℕ) (ae : a ≤ e) (es : e ≤ length s) where
     whole : 0 < sizeAt (slice s a e) i
     kinds : kindAt (slice s a e) i ≡ kindAt s (a + i)
     body : bodyAt (slice s a e) i ≡ bodyAt s (a + i)
+    level : viewAt s (past s (a + i)) .level ≡ viewAt (slice s a e) (past (slice s a e) i) .level
     code : map bareLine (viewAt s (past s (a + i)) .code) ≡ map bareLine (viewAt (slice s a e) (past (slice s a e) i) .code)
     blocks : map bareBlock (viewAt s (past s (a + i)) .blocks) ≡ map bareBlock (viewAt (slice s a e) (past (slice s a e) i) .blocks)
     alone : viewAt (slice s a e) (past (slice s a e) i) .versions ≡ []
@@ -214,25 +216,28 @@ module _ (s : List ℕ) (a e : ℕ) (ae : a ≤ e) (es : e ≤ length s) where
         whole = rw (part-size s a e ae es i w g) w;
         kinds = part-kind s a e ae es i w g;
         body = part-body s a e ae es i w g;
+        level = rw (x, y) (n .level);
         code = rw (x, y) (n .code);
         blocks = rw (x, y) (n .blocks);
         alone = rw y (n .alone);
       }
 
-  shown-block : (i : ℕ) → kindAt s (a + i) ≡ kind.BLOCK → viewAt s (a + i) ≡ record { code = []; blocks = blockAt s (a + i) ∷ viewAt s (past s (a + i)) .blocks; versions = viewAt s (past s (a + i)) .versions } → Behind i → Shown s a e i
+  shown-block : (i : ℕ) → kindAt s (a + i) ≡ kind.BLOCK → viewAt s (a + i) ≡ record { level = 0; code = []; blocks = blockAt s (a + i) ∷ viewAt s (past s (a + i)) .blocks; versions = viewAt s (past s (a + i)) .versions } → Behind i → Shown s a e i
   unfolding blockAt
   shown-block i k v n =
       let u = at-block (whole-here (slice s a e) i (n .inside) (n .whole)) (n .kinds ∙ k) in
       record {
+        level = rw (v, u) refl;
         code = rw (v, u) refl;
         blocks = rw (v, u) (ap₂ (λ (x : Block) (xs : List Block). x ∷ xs) (block-alike (recAt s (a + i)) (recAt (slice s a e) i) (viewAt s (past s (a + i)) .code) (viewAt (slice s a e) (past (slice s a e) i) .code) (sym (n .body)) (n .code)) (n .blocks));
         alone = rw u (n .alone);
       }
 
-  shown-line : (i : ℕ) → (kindAt s (a + i) ≡ kind.VERSION → ⊥) → (kindAt s (a + i) ≡ kind.BLOCK → ⊥) → viewAt s (a + i) ≡ record { code = lineOf (recAt s (a + i)) ∷ viewAt s (past s (a + i)) .code; blocks = viewAt s (past s (a + i)) .blocks; versions = viewAt s (past s (a + i)) .versions } → Behind i → Shown s a e i
+  shown-line : (i : ℕ) → (kindAt s (a + i) ≡ kind.VERSION → ⊥) → (kindAt s (a + i) ≡ kind.BLOCK → ⊥) → viewAt s (a + i) ≡ record { level = levelOf (recAt s (a + i)); code = lineOf (recAt s (a + i)) ∷ viewAt s (past s (a + i)) .code; blocks = viewAt s (past s (a + i)) .blocks; versions = viewAt s (past s (a + i)) .versions } → Behind i → Shown s a e i
   shown-line i k b v n =
       let u = at-line (whole-here (slice s a e) i (n .inside) (n .whole)) (λ z. k (sym (n .kinds) ∙ z)) (λ z. b (sym (n .kinds) ∙ z)) in
       record {
+        level = rw (v, u) (rw (n .kinds, n .body) refl);
         code = rw (v, u) (rw (n .kinds, n .body) (ap (λ (c : List Line). bareLine (lineOf (recAt s (a + i))) ∷ c) (n .code)));
         blocks = rw (v, u) (n .blocks);
         alone = rw u (n .alone);
@@ -240,8 +245,8 @@ module _ (s : List ℕ) (a e : ℕ) (ae : a ≤ e) (es : e ≤ length s) where
 
   shown-step : (i : ℕ) → a + i ≤ length s → question2 (rest s (a + i)) ≡ Nothing → ahead s (a + i) ≡ e → Seen s (a + i) → ((j : ℕ) → i < j → a + j ≤ length s → question2 (rest s (a + j)) ≡ Nothing → ahead s (a + j) ≡ e → Shown s a e j) → Shown s a e i
   unfolding startOf versionAt
-  shown-step i h q d (at-none l v) ih = shown-end i (omega (arith, l, h, (rw v at d))) (rw v refl) (rw v refl)
-  shown-step i h q d (at-a-version l w q′ k v) ih = shown-end i (rw v at d) (rw v refl) (rw v refl)
+  shown-step i h q d (at-none l v) ih = shown-end i (omega (arith, l, h, (rw v at d))) (rw v refl) (rw v refl) (rw v refl)
+  shown-step i h q d (at-a-version l w q′ k v) ih = shown-end i (rw v at d) (rw v refl) (rw v refl) (rw v refl)
   shown-step i h q d (at-a-block l w q′ k v) ih = shown-block i k v (behind i l w q′ (rw v at d) ih)
   shown-step i h q d (at-a-line l w q′ k b v) ih = shown-line i k b v (behind i l w q′ (rw v at d) ih)
 
@@ -270,7 +275,7 @@ own-version s p l w q k =
     record {
       version = versionAt (slice s p e) 0;
       only = ap (λ (x : View). x .versions) u ∙ ap (λ (l : Program). versionAt (slice s p e) 0 ∷ l) (n .alone);
-      alike = version-alike (recAt s p) (recAt (slice s p e) 0) (viewAt s (past s p) .blocks) (viewAt (slice s p e) (past (slice s p e) 0) .blocks) (sym body) (rw z at (n .blocks));
+      alike = version-alike (recAt s p) (recAt (slice s p e) 0) _ _ (viewAt s (past s p) .blocks) (viewAt (slice s p e) (past (slice s p e) 0) .blocks) (sym body) (rw z at (n .level)) (rw z at (n .blocks));
     }
 
 at-own : (s : List ℕ) (p : ℕ) → versionAt s p .at ≡ p

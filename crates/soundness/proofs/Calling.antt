@@ -322,10 +322,10 @@ module _ (P : Program) (sure : Sure P) (s : State) (a : Activation) (rest : List
       go true q = omega (arith, eqb-true mark 1 q, marked-i P sure s a rest l W _ is q)
       go false q = omega (arith, eqb-false mark 1 q, ltb-true mark 2 (and-both _ _ (bounded-i P sure s a rest l W _ is) .0))
 
-  dispatch-rules : (C : Version) → (findVersion P (C .function) (C .version) ≡ some C) × (dispatches mark ret pairs (map (valueKind P (s .frames) (s .promises)) (map (cellAt (s .frames) (a .frame)) (registersOf pairs))) C ≡ true) → Enters P sure s a rest l W C (registersOf pairs) d
+  dispatch-rules : (C : Version) → (findVersion P (C .function) (C .version) ≡ some C) × (dispatches (Z .level) mark ret pairs (map (valueKind P (s .frames) (s .promises)) (map (cellAt (s .frames) (a .frame)) (registersOf pairs))) C ≡ true) → Enters P sure s a rest l W C (registersOf pairs) d
   unfolding dispatches fits touch
   dispatch-rules C h =
-      let x = and-both _ _ (h .1) in
+      let x = and-both _ _ (and-both _ _ (h .1) .1) in
       let y = and-both _ _ (x .1) in
       let z = and-both _ _ (y .1) in
       let u = and-both _ _ (z .1) in

@@ -1,10 +1,10 @@
--- From one step to a budget: the invariant is kept, and what the claim says of a state that has it.
+-- A step keeps the invariant and is not stuck, and what the claim says of a state that has it.
 use mathlib.Core.Path.{_≡_, refl, sym, ap, _∙_, subst}
 use mathlib.Core.Logic.{_≢_, _⊎_, inl, inr}
-use mathlib.Core.List.{List, [], _∷_, List·Memᴰ, List·Memᴰ·head, List·Memᴰ·tail}
+use mathlib.Core.List.{List}
 use mathlib.Core.Option.{some}
 use mathlib.Core.Bool.{Bool, true, false, true≢false, false≢true}
-use Prim.Native.Nat.{ℕ, zero, suc, _+_, _<_}
+use Prim.Native.Nat.{ℕ, _+_, _<_}
 use native.Mathlib.Decide.{decLt}
 use native.Mathlib.Omega.{arith}
 use lib.IntN.{ℤ}
@@ -20,11 +20,9 @@ use Rattle.rules.specs.Fits.{typeOf}
 use Rattle.machine.specs.Try.{Try, got, stuck, stop, _>>=_, orStuck, at}
 use Rattle.machine.specs.States.{register, named, withEnd}
 use Rattle.machine.specs.Steps.{advance}
-use Rattle.machine.specs.Runs.{saying, settled, stepIn, stepInTo, stepOf, stepOfTo, continued, runFrom, runFromTo, budgetIn, budgetInTo, longEnough, budgetOf, budgetOfTo}
-use Rattle.machine.specs.Events.{onward, triedUnder, triedIn, triedBy}
+use Rattle.machine.specs.Runs.{saying, settled, stepIn, stepInTo, stepOf, stepOfTo}
 use Rattle.machine.specs.declared.End.{End}
 use Rattle.machine.specs.declared.Frame.{Frame}
-use Rattle.machine.specs.declared.Ran.{Ran}
 use Rattle.machine.specs.declared.Said.{Said}
 use Rattle.machine.specs.declared.State.{State}
 use Rattle.machine.specs.declared.Status.{Status}
@@ -64,77 +62,6 @@ module _ (P : Program) (safe : StepSafe P) where
       go : (st : Status) → s .status ≡ st → Inv P (stepIn P s st .state)
       go Status.Running e = settled-keeps s (advance P s) inv (safe s inv e)
       go (Status.Ended x) e = inv
-
-  continued-keeps : (s : State) (d : Said) (n : ℕ) (more : State → Ran) → Inv P s → ((t : State) → Inv P t → Inv P (more t .state)) → Inv P (continued s d n more .state)
-  unfolding continued
-  continued-keeps s Said.GoesOn n more inv ih = ih s inv
-  continued-keeps s (Said.Ended e) n more inv ih = inv
-  continued-keeps s Said.Stuck n more inv ih = inv
-
-  -- steps under a budget
-  pub run-keeps : (m : ℕ) (s : State) (n : ℕ) → Inv P s → Inv P (runFrom P m s n .state)
-  unfolding runFromTo
-  run-keeps zero s n inv = inv
-  run-keeps (suc m) s n inv = continued-keeps (stepOf P s .state) (stepOf P s .said) n (λ t. runFrom P m t (n + 1)) (step-keeps s inv) (λ t i. run-keeps m t (n + 1) i)
-
-  -- a budget that is not refused
-  budget-in-keeps : (s : State) (n : ℕ) (st : Status) → Inv P s → Inv P (budgetIn P s n st .state)
-  unfolding budgetInTo
-  budget-in-keeps s n Status.Running inv = run-keeps n s 0 inv
-  budget-in-keeps s n (Status.Ended e) inv = inv
-
-  -- any budget
-  pub budget-keeps : (s : State) (n : ℕ) (buffer : List ℤ) → Inv P s → Inv P (budgetOf P s n buffer .state)
-  unfolding budgetOfTo
-  budget-keeps s n buffer inv = go (longEnough buffer) refl
-    where
-      go : (b : Bool) → longEnough buffer ≡ b → Inv P (budgetOf P s n buffer .state)
-      go true e = rw (e, budgetOfTo) (budget-in-keeps s n (s .status) inv)
-      go false e = rw (e, budgetOfTo) inv
-
--- ---- every state in which a step was tried has the invariant
-
--- what holds of every state in a list
-abbrev pub All : (State → Type 0) → List State → Type 0
-All Q l = (b : State) → List·Memᴰ b l → Q b
-
--- no state
-all-none : (Q : State → Type 0) → All Q []
-all-none Q b m = elim m [ ]
-
--- one more
-all-cons : (Q : State → Type 0) (s : State) (l : List State) → Q s → All Q l → All Q (s ∷ l)
-all-cons Q s l q all b (List·Memᴰ·head e) = subst Q (sym e) q
-all-cons Q s l q all b (List·Memᴰ·tail m) = all b m
-
-module _ (P : Program) (safe : StepSafe P) where
-  -- those behind a step
-  onward-all : (s : State) (d : Said) (more : State → List State) → Inv P s → ((t : State) → Inv P t → All (Inv P) (more t)) → All (Inv P) (onward s d more)
-  unfolding onward
-  onward-all s Said.GoesOn more inv ih = ih s inv
-  onward-all s (Said.Ended e) more inv ih = all-none (Inv P)
-  onward-all s Said.Stuck more inv ih = all-none (Inv P)
-
-  -- those under a budget
-  under-all : (m : ℕ) (s : State) → Inv P s → All (Inv P) (triedUnder P m s)
-  unfolding triedUnder
-  under-all zero s inv = all-none (Inv P)
-  under-all (suc m) s inv = all-cons (Inv P) s _ inv (onward-all (stepOf P s .state) (stepOf P s .said) (λ t. triedUnder P m t) (step-keeps P safe s inv) (λ t i. under-all m t i))
-
-  -- those of a budget that is not refused
-  in-all : (s : State) (n : ℕ) (st : Status) → Inv P s → All (Inv P) (triedIn P s n st)
-  unfolding triedIn
-  in-all s n Status.Running inv = under-all n s inv
-  in-all s n (Status.Ended e) inv = all-none (Inv P)
-
-  -- those of any budget
-  pub tried-all : (s : State) (n : ℕ) (buffer : List ℤ) → Inv P s → All (Inv P) (triedBy P s n buffer)
-  unfolding triedBy
-  tried-all s n buffer inv = go (longEnough buffer) refl
-    where
-      go : (b : Bool) → longEnough buffer ≡ b → All (Inv P) (triedBy P s n buffer)
-      go true e = rw (e, triedBy) (in-all s n (s .status) inv)
-      go false e = rw (e, triedBy) (all-none (Inv P))
 
   -- ---- no step is stuck
 

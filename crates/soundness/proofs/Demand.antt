@@ -11,7 +11,7 @@ use Rattle.soundness.proofs.Closing.{step-unstuck, live-known, register
 use Rattle.soundness.proofs.Quiet.{reflective-runs, none-quiet}
 use Rattle.soundness.proofs.Safety.{one-call}
 use Rattle.soundness.proofs.Taken.{taken-passed, live-alike}
-use Rattle.soundness.proofs.Histories.{Sound, sure-of, safe-of, after-keeps, history-sound, begun-sound}
+use Rattle.soundness.proofs.Histories.{Sound, sure-of, safe-of, after-sound, history-sound, begun-sound}
 
 -- what the claim says of a sound run and the list of events that follow
 sound-safe : (es : List Event) (r : Run) → Sound r → Safe (history es r) (after es r)
@@ -25,7 +25,7 @@ sound-safe es r o = record {
 }
   where
     last : Sound (after es r)
-    last = after-keeps es r o
+    last = after-sound es r o
 
     P : Program
     P = programIn (after es r)
@@ -39,14 +39,14 @@ sound-safe es r o = record {
 -- DEMAND 3
 pub demand3 : Demand3
 unfolding Demand3
-demand3 image f v words buffer h events = sound-safe events (begun image f v words buffer) (begun-sound image f v words buffer h)
+demand3 image level f v words buffer h events = sound-safe events (begun image level f v words buffer) (begun-sound image level f v words buffer h)
 
 -- THE LAW: a change that is taken leaves every live call the version that it entered
 pub stay : Stay
 unfolding Stay entered
-stay image f v words buffer h events new e k g l =
-    let r = after events (begun image f v words buffer) in
-    let o = after-keeps events (begun image f v words buffer) (begun-sound image f v words buffer h) in
+stay image level f v words buffer h events new e k g l =
+    let r = after events (begun image level f v words buffer) in
+    let o = after-sound events (begun image level f v words buffer) (begun-sound image level f v words buffer h) in
     let W = versionAt (programIn r) (r .state .frames) k in
     let y = live-known (programIn r) (sure-of r o) (r .state) (o .inv) k g l in
     let t = live-alike (r .image) new (o .versions) (o .verdict) (r .state) (taken-passed (r .image) new (r .state) e) k g W l y in
@@ -55,5 +55,5 @@ stay image f v words buffer h events new e k g l =
 -- THE LAW: in every state in which a step was tried, one activation means one call
 pub last-call : LastCall
 unfolding LastCall
-last-call image f v words buffer h events b m run d =
-    one-call (programIn b) (b .state) (history-sound events (begun image f v words buffer) (begun-sound image f v words buffer h) b m .inv) run d
+last-call image level f v words buffer h events b m run d =
+    one-call (programIn b) (b .state) (history-sound events (begun image level f v words buffer) (begun-sound image level f v words buffer h) b m .inv) run d

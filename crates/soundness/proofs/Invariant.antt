@@ -36,7 +36,7 @@ Sure P = (f w : ℕ) (v : Version) → findVersion P f w ≡ some v → Checked 
 -- ---- versions and types of the frames; defaults are not unfolded in proofs
 
 pub noVersion : Version
-noVersion = record { at = 0; function = 0; version = 0; parameters = 0; types = []; return = 0; blocks = [] }
+noVersion = record { at = 0; function = 0; version = 0; parameters = 0; types = []; return = 0; level = 0; blocks = [] }
 
 pub noBlock : Block
 noBlock = record { at = 0; mark = 0; result = 0; code = [] }

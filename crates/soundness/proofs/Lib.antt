@@ -34,3 +34,4 @@ pub mod Taken
 pub mod Histories
 pub mod Results
 pub mod Demand
+pub mod Levels

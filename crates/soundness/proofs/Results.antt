@@ -6,7 +6,9 @@ use mathlib.Core.Option.{Option, none, some}
 use mathlib.Core.Bool.{Bool, true, false}
 use Prim.Native.Nat.{ℕ, zero, suc, _+_, _≤_}
 use native.Mathlib.Omega.{arith}
+use lib.Dec.{leb}
 use lib.IntN.{ℤ}
+use Rattle.layout.specs.Tests.{any}
 use Rattle.layout.specs.declared.Found.{Found}
 use Rattle.layout.specs.declared.Found.the-variants.{Nothing, At}
 use Rattle.program.specs.Program.{Version, Program, findVersion, parameterTypes}
@@ -14,7 +16,7 @@ use Rattle.checker.specs.Verdicts.{ask, verdictOf, verdictIn}
 use Rattle.checker.specs.declared.Verdict.{Verdict}
 use Rattle.machine.specs.States.{over}
 use Rattle.machine.specs.Runs.{stepOf, lastStep, continued, runFrom, runFromTo, budgetIn, budgetInTo, longEnough, budgetOf, budgetOfTo, written, bufferOf}
-use Rattle.machine.specs.Begin.{Given, arguments, refused, question11, question12, question13, enteredOf, beginAfter, beginOf, programOf, runAfter, runAfterTo, runOfTo}
+use Rattle.machine.specs.Begin.{Given, arguments, refused, question11, question19, runLevel, question12, question13, enteredOf, beginAfter, beginOf, programOf, runAfter, runAfterTo, runOfTo}
 use Rattle.machine.specs.Changes.{answer15, changedBy, changeAfter, changeOf}
 use Rattle.machine.specs.Events.{Run, Event, single, budget, change, programIn, handle, handleTo, replies, repliesTo}
 use Rattle.machine.specs.declared.Answer.{Answer}
@@ -25,70 +27,75 @@ use Rattle.machine.specs.declared.Ran.{Ran}
 use Rattle.machine.specs.declared.Said.{Said}
 use Rattle.machine.specs.declared.State.{State}
 use Rattle.machine.specs.declared.Status.{Status}
-use Rattle.soundness.specs.Results.{Refusal, Result, isRefused, isSteps, isEnded, Told, Results, Outcome, isTaken, isNotTaken, Listed, steps, gives, changes, AllListed, end, next, Replies}
+use Rattle.soundness.specs.Results.{Among, toImage, toBeginning, Refusal, ofImage, ofBeginning, Result, isRefused, isSteps, isEnded, Told, Results, Outcome, isTaken, isRefusedImage, isRefused15, Listed, steps, gives, changes, AllListed, end, next, Replies}
 use Rattle.soundness.specs.Claim.{begun}
 use Rattle.soundness.proofs.Invariant.{Inv}
 use Rattle.soundness.proofs.Closing.{StepSafe, step-keeps, step-unstuck}
-use Rattle.soundness.proofs.Histories.{Sound, safe-of, handle-keeps, begun-sound}
+use Rattle.soundness.proofs.Histories.{Sound, safe-of, handle-sound, begun-sound}
 
 -- ---- refusals
 
 -- of the questions to an image, by their numbers
 unfoldable Numbered : Verdict → Type 0
-Numbered (Verdict.Refused q p) = (1 ≤ q) × (q ≤ 14) × (11 ≤ q → q ≤ 13 → ⊥)
+Numbered (Verdict.Refused q p) = Among toImage q
 Numbered (Verdict.Accepted n) = Unit {0}
 
 -- a question refuses by its own number
-ask-numbered : (n : ℕ) (x : Found) (more : Verdict) → 1 ≤ n → n ≤ 14 → (11 ≤ n → n ≤ 13 → ⊥) → Numbered more → Numbered (ask n x more)
+ask-numbered : (n : ℕ) (x : Found) (more : Verdict) → Among toImage n → Numbered more → Numbered (ask n x more)
 unfolding ask Numbered
-ask-numbered n Nothing more h l o m = m
-ask-numbered n (At p) more h l o m = (h, l, o)
+ask-numbered n Nothing more h m = m
+ask-numbered n (At p) more h m = h
 
 -- so do all questions to an image
 verdict-numbered : (image : List ℕ) → Numbered (verdictOf image)
-unfolding verdictIn Numbered
+unfolding verdictIn Numbered Among any
 verdict-numbered image =
-    ask-numbered 1 _ _ (omega arith) (omega arith) (λ x y. omega arith) (ask-numbered 2 _ _ (omega arith) (omega arith) (λ x y. omega arith) (ask-numbered 3 _ _ (omega arith) (omega arith) (λ x y. omega arith) (ask-numbered 4 _ _ (omega arith) (omega arith) (λ x y. omega arith) (ask-numbered 5 _ _ (omega arith) (omega arith) (λ x y. omega arith)
-    (ask-numbered 6 _ _ (omega arith) (omega arith) (λ x y. omega arith) (ask-numbered 7 _ _ (omega arith) (omega arith) (λ x y. omega arith) (ask-numbered 14 _ _ (omega arith) (omega arith) (λ x y. omega arith) (ask-numbered 8 _ _ (omega arith) (omega arith) (λ x y. omega arith) (ask-numbered 9 _ _ (omega arith) (omega arith) (λ x y. omega arith) (ask-numbered 10 _ _ (omega arith) (omega arith) (λ x y. omega arith) tt))))))))))
+    ask-numbered 1 _ _ refl (ask-numbered 2 _ _ refl (ask-numbered 3 _ _ refl (ask-numbered 4 _ _ refl (ask-numbered 5 _ _ refl
+    (ask-numbered 6 _ _ refl (ask-numbered 7 _ _ refl (ask-numbered 14 _ _ refl (ask-numbered 8 _ _ refl (ask-numbered 18 _ _ refl (ask-numbered 9 _ _ refl (ask-numbered 10 _ _ refl tt)))))))))))
 
 -- of an entry
 unfoldable Entered : Entry → Type 0
 Entered Entry.Begun = Unit {0}
 Entered (Entry.Refused q p) = Refusal q p
 
--- the last three have the offset 0
-late : (q : ℕ) → 11 ≤ q → q ≤ 13 → Refusal q 0
-late q h l = record { first = omega arith; last = omega arith; offset = λ _ _. refl }
-
 -- question 13
 thirteenth : (s : State) (buffer : List ℤ) → Entered (question13 s buffer .entry)
-unfolding question13 refused Entered
+unfolding question13 refused Entered Among any
 thirteenth s buffer = go (longEnough buffer) refl
   where
     go : (b : Bool) → longEnough buffer ≡ b → Entered (question13 s buffer .entry)
     go true e = rw (e, question13) tt
-    go false e = rw (e, question13) (late 13 (omega arith) (omega arith))
+    go false e = rw (e, question13) (ofBeginning 13 refl)
 
 -- question 12
 twelfth : (W : Version) (o : Option (List Given)) (buffer : List ℤ) → Entered (question12 W o buffer .entry)
-unfolding question12 refused Entered
-twelfth W none buffer = late 12 (omega arith) (omega arith)
+unfolding question12 refused Entered Among any
+twelfth W none buffer = ofBeginning 12 refl
 twelfth W (some xs) buffer = thirteenth _ buffer
 
+-- question 19
+nineteenth : (level : ℕ) (W : Version) (words buffer : List ℤ) → Entered (question19 level W words buffer .entry)
+unfolding question19 refused Entered Among any
+nineteenth level W words buffer = go (leb (W .level) (runLevel level)) refl
+  where
+    go : (b : Bool) → leb (W .level) (runLevel level) ≡ b → Entered (question19 level W words buffer .entry)
+    go true e = rw (e, question19) (twelfth W (arguments (parameterTypes W) words) buffer)
+    go false e = rw (e, question19) (ofBeginning 19 refl)
+
 -- question 11
-eleventh : (o : Option Version) (words buffer : List ℤ) → Entered (question11 o words buffer .entry)
-unfolding question11 refused Entered
-eleventh none words buffer = late 11 (omega arith) (omega arith)
-eleventh (some W) words buffer = twelfth W (arguments (parameterTypes W) words) buffer
+eleventh : (level : ℕ) (o : Option Version) (words buffer : List ℤ) → Entered (question11 level o words buffer .entry)
+unfolding question11 refused Entered Among any
+eleventh level none words buffer = ofBeginning 11 refl
+eleventh level (some W) words buffer = nineteenth level W words buffer
 
 -- begin refuses by one of the questions
-begin-entered : (image : List ℕ) (f v : ℕ) (words buffer : List ℤ) → Entered (beginOf image f v words buffer .entry)
+begin-entered : (image : List ℕ) (level f v : ℕ) (words buffer : List ℤ) → Entered (beginOf image level f v words buffer .entry)
 unfolding beginOf beginAfter enteredOf refused Entered Numbered
-begin-entered image f v words buffer = go (verdictOf image) (verdict-numbered image)
+begin-entered image level f v words buffer = go (verdictOf image) (verdict-numbered image)
   where
-    go : (a : Verdict) → Numbered a → Entered (beginAfter a (programOf image) f v words buffer .entry)
-    go (Verdict.Refused q p) m = record { first = m .0; last = m .1; offset = λ h l. absurd (m .2 h l) }
-    go (Verdict.Accepted n) m = eleventh (findVersion (programOf image) f v) words buffer
+    go : (a : Verdict) → Numbered a → Entered (beginAfter a (programOf image) level f v words buffer .entry)
+    go (Verdict.Refused q p) m = ofImage q p m
+    go (Verdict.Accepted n) m = eleventh level (findVersion (programOf image) f v) words buffer
 
 -- ---- runs
 
@@ -162,7 +169,7 @@ refused-told n buffer s q p h = record { answer = isRefused q p h; inside = omeg
 
 -- and any budget on a state with the invariant
 pub budget-told : (P : Program) → StepSafe P → (s : State) (n : ℕ) (buffer : List ℤ) → Inv P s → Told n buffer (budgetOf P s n buffer)
-unfolding budgetOfTo budgetInTo
+unfolding budgetOfTo budgetInTo Among any
 budget-told P safe s n buffer inv = long (longEnough buffer) refl
   where
     inner : (st : Status) → Told n buffer (budgetIn P s n st)
@@ -171,7 +178,7 @@ budget-told P safe s n buffer inv = long (longEnough buffer) refl
 
     long : (b : Bool) → longEnough buffer ≡ b → Told n buffer (budgetOf P s n buffer)
     long true e = rw (e, budgetOfTo) (inner (s .status))
-    long false e = rw (e, budgetOfTo) (refused-told n buffer s 13 0 (late 13 (omega arith) (omega arith)))
+    long false e = rw (e, budgetOfTo) (refused-told n buffer s 13 0 (ofBeginning 13 refl))
 
 -- and only 13 refuses it
 refused-13 : (P : Program) → StepSafe P → (s : State) (n : ℕ) (buffer : List ℤ) → Inv P s → (q p : ℕ) → budgetOf P s n buffer .answer ≡ Answer.Refused q p → (q ≡ 13) × (p ≡ 0)
@@ -189,14 +196,14 @@ refused-13 P safe s n buffer inv q p = long (longEnough buffer) refl
 -- THE LAW: every run from the start has a result
 pub results : Results
 unfolding Results runOfTo runAfterTo Entered
-results image f v words n buffer = go (beginOf image f v words buffer .entry) refl (begin-entered image f v words buffer)
+results image level f v words n buffer = go (beginOf image level f v words buffer .entry) refl (begin-entered image level f v words buffer)
   where
     s : State
-    s = beginOf image f v words buffer .state
+    s = beginOf image level f v words buffer .state
 
-    go : (e : Entry) → beginOf image f v words buffer .entry ≡ e → Entered e → Told n buffer (runAfter e (programOf image) s n buffer)
+    go : (e : Entry) → beginOf image level f v words buffer .entry ≡ e → Entered e → Told n buffer (runAfter e (programOf image) s n buffer)
     go (Entry.Refused q p) e h = refused-told n buffer s q p h
-    go Entry.Begun e h = let o = begun-sound image f v words buffer e in budget-told (programOf image) (safe-of (begun image f v words buffer) o) s n buffer (o .inv)
+    go Entry.Begun e h = let o = begun-sound image level f v words buffer e in budget-told (programOf image) (safe-of (begun image level f v words buffer) o) s n buffer (o .inv)
 
 -- ---- lists of events
 
@@ -207,10 +214,10 @@ outcome old new s = go (verdictOf new) (verdict-numbered new)
   where
     by15 : (x : Found) → Outcome (changedBy x)
     by15 Nothing = isTaken
-    by15 (At p) = isNotTaken 15 p (omega arith) (omega arith) (λ _ h. omega arith)
+    by15 (At p) = isRefused15 p
 
     go : (a : Verdict) → Numbered a → Outcome (changeAfter a old new s)
-    go (Verdict.Refused q p) m = isNotTaken q p (m .0) (omega (arith, m .1)) (m .2)
+    go (Verdict.Refused q p) m = isRefusedImage q p m
     go (Verdict.Accepted n) m = by15 (answer15 old new s)
 
 listed : (e : Event) (r : Run) → Sound r → Listed e (handle e r .reply)
@@ -222,9 +229,9 @@ listed (change new) r o = changes new _ (outcome (r .image) new (r .state))
 all-listed : (es : List Event) (r : Run) → Sound r → AllListed es (replies es r)
 unfolding repliesTo
 all-listed [] r o = end
-all-listed (e ∷ es) r o = next e _ es _ (listed e r o) (all-listed es (handle e r .run) (handle-keeps e r o))
+all-listed (e ∷ es) r o = next e _ es _ (listed e r o) (all-listed es (handle e r .run) (handle-sound e r o))
 
 -- THE LAW: every event of every list has a listed reply
 pub all-replies : Replies
 unfolding Replies
-all-replies image f v words buffer h events = all-listed events (begun image f v words buffer) (begun-sound image f v words buffer h)
+all-replies image level f v words buffer h events = all-listed events (begun image level f v words buffer) (begun-sound image level f v words buffer h)

@@ -8,6 +8,7 @@ use Prim.Native.Nat.{ℕ, zero, suc, _+_, _≤_, _<_}
 use native.Mathlib.Nat.{le-of-suc-le-suc, not-suc-le-zero}
 use native.Mathlib.Decide.{decLt}
 use native.Mathlib.Omega.{arith}
+use lib.Dec.{leb}
 use lib.IntN.{ℤ}
 use lib.ListN.{length, getD, replicate, length-replicate, getD-replicate, List·getD-eq-default}
 use lib.Seq.{length-take-le, getD-take}
@@ -19,7 +20,7 @@ use Rattle.checker.proofs.Accepted.{Checked}
 use Rattle.machine.specs.States.{ACTIVATIONS, VECTORS, PROMISES, place, newFrame, newVector, over}
 use Rattle.machine.specs.Calls.{frameFor}
 use Rattle.machine.specs.Runs.{longEnough}
-use Rattle.machine.specs.Begin.{Given, integer, vector, givenKind, matched, arguments, valuesOf, vectorsOf, firstState, refused, question11, question12, question13, enteredOf}
+use Rattle.machine.specs.Begin.{Given, integer, vector, givenKind, matched, arguments, valuesOf, vectorsOf, firstState, refused, question11, question19, runLevel, question12, question13, enteredOf}
 use Rattle.machine.specs.Begin as begin
 use Rattle.machine.specs.declared.Activation.{Activation}
 use Rattle.machine.specs.declared.Cache.{Cache}
@@ -243,7 +244,7 @@ module _ (P : Program) (sure : Sure P) (f w : ℕ) (W : Version) (found : findVe
     stack = λ _. (first-stands, (refl, refl), refl);
   }
 
--- ---- questions 11 to 13
+-- ---- questions 11, 19, 12 and 13
 
 -- a buffer that is long enough changes nothing
 after-13 : (P : Program) (s : State) (buffer : List ℤ) → Inv P s → question13 s buffer .entry ≡ Entry.Begun → Inv P (question13 s buffer .state)
@@ -255,14 +256,18 @@ after-13 P s buffer inv h = go (longEnough buffer) refl h
     go false e g = absurd (refused-begun 13 0 (rw (e, question13) at g))
 
 -- THE LAW: a begun run of a checked program
-pub begun-inv : (P : Program) → Sure P → (f v : ℕ) (words buffer : List ℤ) → enteredOf P f v words buffer .entry ≡ Entry.Begun → Inv P (enteredOf P f v words buffer .state)
-unfolding enteredOf question11 question12 refused
-begun-inv P sure f v words buffer h = go (findVersion P f v) refl h
+pub begun-inv : (P : Program) → Sure P → (level f v : ℕ) (words buffer : List ℤ) → enteredOf P level f v words buffer .entry ≡ Entry.Begun → Inv P (enteredOf P level f v words buffer .state)
+unfolding enteredOf question11 question19 question12 refused
+begun-inv P sure level f v words buffer h = go (findVersion P f v) refl h
   where
     given : (W : Version) → findVersion P f v ≡ some W → (o : Option (List Given)) → arguments (parameterTypes W) words ≡ o → question12 W o buffer .entry ≡ Entry.Begun → Inv P (question12 W o buffer .state)
     given W e none a g = absurd (refused-begun 12 0 g)
     given W e (some xs) a g = after-13 P _ buffer (first-inv P sure f v W e xs (arguments-matched (parameterTypes W) words xs a)) g
 
-    go : (o : Option Version) → findVersion P f v ≡ o → question11 o words buffer .entry ≡ Entry.Begun → Inv P (question11 o words buffer .state)
+    low : (W : Version) → findVersion P f v ≡ some W → (b : Bool) → leb (W .level) (runLevel level) ≡ b → question19 level W words buffer .entry ≡ Entry.Begun → Inv P (question19 level W words buffer .state)
+    low W e true l g = rw (l, question19) (given W e (arguments (parameterTypes W) words) refl (rw (l, question19) at g))
+    low W e false l g = absurd (refused-begun 19 0 (rw (l, question19) at g))
+
+    go : (o : Option Version) → findVersion P f v ≡ o → question11 level o words buffer .entry ≡ Entry.Begun → Inv P (question11 level o words buffer .state)
     go none e g = absurd (refused-begun 11 0 g)
-    go (some W) e g = given W e (arguments (parameterTypes W) words) refl g
+    go (some W) e g = low W e (leb (W .level) (runLevel level)) refl g

@@ -132,12 +132,12 @@ pub record Safe (h : List Run) (now : Run) : Type 0 where
   pub quiet : (b : Run) → List·Memᴰ b h → reflective (programIn b) (b .state) ≡ true → (k : ℕ) (f : Frame) → Live (b .state) k f → isQuiet (entered (programIn b) f) ≡ false
 
 -- the run that begin gives, under its image
-abbrev pub begun : List ℕ → ℕ → ℕ → List ℤ → List ℤ → Run
-begun image f v words buffer = record { image = image; state = beginOf image f v words buffer .state }
+abbrev pub begun : List ℕ → ℕ → ℕ → ℕ → List ℤ → List ℤ → Run
+begun image level f v words buffer = record { image = image; state = beginOf image level f v words buffer .state }
 
 -- After every list of steps, budgets and changes from the state of every run that begin did not refuse; begin puts the questions to the image too
 unfoldable pub Demand3 : Type 0
 Demand3 =
-    (image : List ℕ) (f v : ℕ) (words buffer : List ℤ) → beginOf image f v words buffer .entry ≡ Entry.Begun
+    (image : List ℕ) (level f v : ℕ) (words buffer : List ℤ) → beginOf image level f v words buffer .entry ≡ Entry.Begun
     → (events : List Event)
-    → let r = begun image f v words buffer in Safe (history events r) (after events r)
+    → let r = begun image level f v words buffer in Safe (history events r) (after events r)

@@ -12,5 +12,5 @@ use Rattle.soundness.specs.Claim.{begun}
 -- Where the lowest activation of a begun run stands on top, no call but the first is live: DONE ends that one alone.
 unfoldable pub LastCall : Type 0
 LastCall =
-    (image : List ℕ) (f v : ℕ) (words buffer : List ℤ) → beginOf image f v words buffer .entry ≡ Entry.Begun
-    → (events : List Event) (b : Run) → List·Memᴰ b (history events (begun image f v words buffer)) → b .state .status ≡ Status.Running → b .state .depth ≡ 1 → b .state .calls ≡ 1
+    (image : List ℕ) (level f v : ℕ) (words buffer : List ℤ) → beginOf image level f v words buffer .entry ≡ Entry.Begun
+    → (events : List Event) (b : Run) → List·Memᴰ b (history events (begun image level f v words buffer)) → b .state .status ≡ Status.Running → b .state .depth ≡ 1 → b .state .calls ≡ 1

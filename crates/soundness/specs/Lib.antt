@@ -2,3 +2,4 @@ pub mod Claim
 pub mod LastCall
 pub mod Results
 pub mod Stay
+pub mod Levels

@@ -2,8 +2,11 @@
 use mathlib.Core.Path.{_≡_}
 use mathlib.Core.Logic.{_≢_}
 use mathlib.Core.List.{List, [], _∷_}
+use mathlib.Core.Bool.{true}
 use Prim.Native.Nat.{ℕ, _≤_}
 use lib.IntN.{ℤ}
+use lib.Dec.{eqb}
+use Rattle.layout.specs.Tests.{any}
 use Rattle.machine.specs.Runs.{bufferOf}
 use Rattle.machine.specs.Begin.{beginOf, runOf}
 use Rattle.machine.specs.Events.{Event, single, budget, change, Reply, said, gave, became, replies}
@@ -15,11 +18,22 @@ use Rattle.machine.specs.declared.Ran.{Ran}
 use Rattle.machine.specs.declared.Said.{Said}
 use Rattle.soundness.specs.Claim.{begun}
 
--- the number of one of the questions 1 to 14, and an offset, which is 0 for those to a run, 11 to 13
-pub record Refusal (q p : ℕ) : Type 0 where
-  pub first : 1 ≤ q
-  pub last : q ≤ 14
-  pub offset : 11 ≤ q → q ≤ 13 → p ≡ 0
+-- the number is one of these
+unfoldable pub Among : List ℕ → ℕ → Type 0
+Among ns q = any (eqb q) ns ≡ true
+
+-- the questions put to an image, in order
+abbrev pub toImage : List ℕ
+toImage = 1 ∷ 2 ∷ 3 ∷ 4 ∷ 5 ∷ 6 ∷ 7 ∷ 14 ∷ 8 ∷ 18 ∷ 9 ∷ 10 ∷ []
+
+-- and to a beginning
+abbrev pub toBeginning : List ℕ
+toBeginning = 11 ∷ 19 ∷ 12 ∷ 13 ∷ []
+
+-- a question's number and an offset, which is 0 for a question to a beginning
+pub data Refusal : ℕ → ℕ → Type 0 where
+  ofImage : (q p : ℕ) → Among toImage q → Refusal q p
+  ofBeginning : (q : ℕ) → Among toBeginning q → Refusal q 0
 
 -- a refusal, STEPS, or an end: DONE, UNDEF, DEEP, VECTORS or PROMISES; there is no other, so none is stuck
 pub data Result : Answer → Type 0 where
@@ -39,14 +53,15 @@ pub record Told (n : ℕ) (buffer : List ℤ) (r : Ran) : Type 0 where
   -- Only DONE with a vector writes to the buffer.
   pub kept : ((k : ℕ) → r .answer ≢ Answer.Ended (End.Vector k)) → bufferOf r buffer ≡ buffer
 
--- Every image, entry, argument words, budget and buffer has such a result
+-- Every image, level, entry, argument words, budget and buffer has such a result
 unfoldable pub Results : Type 0
-Results = (image : List ℕ) (f v : ℕ) (words : List ℤ) (n : ℕ) (buffer : List ℤ) → Told n buffer (runOf image f v words n buffer)
+Results = (image : List ℕ) (level f v : ℕ) (words : List ℤ) (n : ℕ) (buffer : List ℤ) → Told n buffer (runOf image level f v words n buffer)
 
--- a change is taken, or refused by one of the questions to an image, 1 to 10 and 14, or by 15
+-- a change is taken, refused by one of the questions to an image, or by 15
 pub data Outcome : Changed → Type 0 where
   isTaken : Outcome Changed.Taken
-  isNotTaken : (q p : ℕ) → 1 ≤ q → q ≤ 15 → (11 ≤ q → q ≤ 13 → ⊥) → Outcome (Changed.Refused q p)
+  isRefusedImage : (q p : ℕ) → Among toImage q → Outcome (Changed.Refused q p)
+  isRefused15 : (p : ℕ) → Outcome (Changed.Refused 15 p)
 
 -- the reply to an event is one of those listed for it: no step is stuck, and a budget is refused by 13 alone
 pub data Listed : Event → Reply → Type 0 where
@@ -61,4 +76,4 @@ pub data AllListed : List Event → List Reply → Type 0 where
 
 -- Every event of every list, on every begun run, has such a reply
 unfoldable pub Replies : Type 0
-Replies = (image : List ℕ) (f v : ℕ) (words buffer : List ℤ) → beginOf image f v words buffer .entry ≡ Entry.Begun → (events : List Event) → AllListed events (replies events (begun image f v words buffer))
+Replies = (image : List ℕ) (level f v : ℕ) (words buffer : List ℤ) → beginOf image level f v words buffer .entry ≡ Entry.Begun → (events : List Event) → AllListed events (replies events (begun image level f v words buffer))

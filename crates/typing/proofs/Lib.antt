@@ -4,3 +4,4 @@ pub mod Pairs
 pub mod TypeBytes
 pub mod Ways
 pub mod Within
+pub mod Levels

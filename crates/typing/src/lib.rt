@@ -1,7 +1,8 @@
-//! Type bytes, and questions 6, 8 and 9.
+//! Type bytes, and questions 6, 8, 18 and 9.
 
 mod arguments;
 mod fits;
+pub mod question18;
 pub mod question6;
 pub mod question8;
 pub mod question9;

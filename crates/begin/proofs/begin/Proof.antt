@@ -36,20 +36,20 @@ refused-requires-2 c κs = search needs
 enum-known-v : tie.Need-enum-known-v
 enum-known-v c = search needs
 
-entered-requires : tie.Need-entered-requires
-entered-requires c κs = entry-bounded _ _ _ (c .before .before .before .before .before .before .before .before .args .words .now) (c .before .before .before .before .before .before .before .before .args .buffer .now) _ (sym (c .before .before .before .before .before .before .verdict .ensures) ∙ c .before .before .before .before .enum-told .given .1) _ (sym (c .before .before .before .version .ensures) ∙ c .before .v .given .1)
+entered-at-requires : tie.Need-entered-at-requires
+entered-at-requires c κs = entry-bounded _ (c .before .before .before .before .before .before .before .before .args .level) _ _ (c .before .before .before .before .before .before .before .before .args .words .now) (c .before .before .before .before .before .before .before .before .args .buffer .now) _ (sym (c .before .before .before .before .before .before .verdict .ensures) ∙ c .before .before .before .before .enum-told .given .1) _ (sym (c .before .before .before .version .ensures) ∙ c .before .v .given .1)
 
 returns : tie.Need-returns
 returns c =
-    c .refused .ensures ∙ refused-by _ _ _ _ _ _ _ (sym (c .before .before .before .before .verdict .ensures) ∙ c .before .before .q .given .1)
+    c .refused .ensures ∙ refused-by _ _ _ _ _ _ _ _ (sym (c .before .before .before .before .verdict .ensures) ∙ c .before .before .q .given .1)
 
 returns-2 : tie.Need-returns-2
 returns-2 c =
-    c .refused2 .ensures ∙ no-entry _ _ _ _ _ _ (sym (c .before .before .before .before .before .before .verdict .ensures) ∙ c .before .before .before .before .enum-told .given .1) (sym (c .before .before .before .version .ensures) ∙ c .before .enum-told2 .given .1)
+    c .refused2 .ensures ∙ no-entry _ _ _ _ _ _ _ (sym (c .before .before .before .before .before .before .verdict .ensures) ∙ c .before .before .before .before .enum-told .given .1) (sym (c .before .before .before .version .ensures) ∙ c .before .enum-told2 .given .1)
 
 returns-3 : tie.Need-returns-3
 returns-3 c =
-    c .entered .ensures ∙ entry-at _ _ _ _ _ _ (sym (c .before .before .before .before .before .before .before .verdict .ensures) ∙ c .before .before .before .before .before .enum-told .given .1) _ (sym (c .before .before .before .before .version .ensures) ∙ c .before .before .v .given .1)
+    c .entered-at .ensures ∙ entry-at _ _ _ _ _ _ _ (sym (c .before .before .before .before .before .before .before .verdict .ensures) ∙ c .before .before .before .before .before .enum-told .given .1) _ (sym (c .before .before .before .before .version .ensures) ∙ c .before .before .v .given .1)
 
 pub begin-spec : {M : Type 1} → statement M
 begin-spec =
@@ -64,7 +64,7 @@ begin-spec =
     enum-told-2
     refused-requires-2
     enum-known-v
-    entered-requires
+    entered-at-requires
     returns
     returns-2
     returns-3)

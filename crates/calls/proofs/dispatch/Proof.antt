@@ -28,17 +28,17 @@ enter-requires c κs = search needs
 returns : tie.Need-returns
 unfolding Within
 returns c =
-    (dispatched-unknown _ _ _ _ _ _ _ _ _ _ _ _ ((c .before .before .search) .ensures .0) ((c .enum-told) .given .1), tt)
+    (dispatched-unknown _ _ _ _ _ _ _ _ _ _ _ _ _ ((c .before .before .search) .ensures .0) ((c .enum-told) .given .1), tt)
 
 returns-2 : tie.Need-returns-2
 unfolding Within
 returns-2 c =
-    (dispatched-undef _ _ _ _ _ _ _ _ _ _ _ _ _ ((c .before .before .search) .ensures .0) ((c .enum-told2) .given .1), tt)
+    (dispatched-undef _ _ _ _ _ _ _ _ _ _ _ _ _ _ ((c .before .before .search) .ensures .0) ((c .enum-told2) .given .1), tt)
 
 returns-3 : tie.Need-returns-3
 unfolding Within
 returns-3 c =
-    (dispatched-on _ _ _ _ _ _ _ _ _ _ _ _ _ _ _ _ ((c .before .before .before .before .before .before .before .before .search) .ensures .0) ((c .before .before .before .before .before .before .v) .given .1) ((c .enter) .ensures), entered-within _ _ _ _ _ _ _ _ _ _ ((c .enter) .ensures))
+    (dispatched-on _ _ _ _ _ _ _ _ _ _ _ _ _ _ _ _ _ ((c .before .before .before .before .before .before .before .before .search) .ensures .0) ((c .before .before .before .before .before .before .v) .given .1) ((c .enter) .ensures), entered-within _ _ _ _ _ _ _ _ _ _ ((c .enter) .ensures))
 
 pub dispatch-spec : {M : Type 1} → statement M
 dispatch-spec =

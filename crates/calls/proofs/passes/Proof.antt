@@ -1,69 +1,22 @@
--- `calls::passes`: the tests of the definition, one after the other.
-use Rattle.calls.proofs.Picking.{passes-uneven, passes-refused, passes-other, passes-outside, passes-marked}
+-- `calls::passes`: a version that suits passes where its level is not above.
+use Rattle.calls.proofs.Picking.{passes-unsuited, passes-level}
+use borrow.Author.Needs.{needs}
 use borrow.Author.Tests.{not-true, not-false}
 use mathlib.Core.Path.{sym, _∙_}
-use borrow.Author.Needs.{needs}
 use Rattle.calls.proofs.passes.Statement.{statement}
 use Rattle.calls.proofs.passes.Tie as tie
-use Rattle.calls.proofs.passes.Reads as reads
-use Rattle.calls.proofs.passes.Lts as lts
-use Rattle.calls.proofs.mark_of.Reads as mark-of-reads
-use Rattle.calls.proofs.parameters_of.Reads as parameters-of-reads
-use Rattle.calls.proofs.part.Reads as part-reads
-use Rattle.calls.proofs.take_all.Reads as take-all-reads
-use Rattle.layout.proofs.size_at.Reads as size-at-reads
-use Rattle.typing.proofs.types.is_within.Reads as is-within-reads
 
-size-at-requires : tie.Need-size-at-requires
-size-at-requires c κs = search needs
-
-parameters-of-requires : tie.Need-parameters-of-requires
-parameters-of-requires c κs = search needs
+suits-requires : tie.Need-suits-requires
+suits-requires c κs = search needs
 
 returns : tie.Need-returns
-returns c =
-    passes-uneven _ _ _ _ _ _ ((c .before .parameters-of) .ensures) ((c .if1) .taken)
+returns c = passes-unsuited _ _ _ _ _ _ (sym ((c .before .suits) .ensures) ∙ not-true ((c .before .suits) .result) ((c .if1) .taken))
 
-take-all-requires : tie.Need-take-all-requires
-take-all-requires c κs = search needs
+not-above-requires : tie.Need-not-above-requires
+not-above-requires c κs = search needs
 
 returns-2 : tie.Need-returns-2
-returns-2 c =
-    passes-refused _ _ _ _ _ _ ((c .before .before .before .parameters-of) .ensures) ((c .before .before .if1) .left) (sym ((c .before .take-all) .ensures) ∙ not-true ((c .before .take-all) .result) ((c .if2) .taken))
-
-part-requires : tie.Need-part-requires
-part-requires c κs = search needs
-
-returns-3 : tie.Need-returns-3
-returns-3 c =
-    passes-other _ _ _ _ _ _ ((c .before .before .before .before .before .parameters-of) .ensures) ((c .before .before .before .before .if1) .left) (sym ((c .before .before .before .take-all) .ensures) ∙ not-false ((c .before .before .before .take-all) .result) ((c .before .before .if2) .left)) _ ((c .before .part) .ensures .0) ((c .if3) .taken)
-
-is-within-requires : tie.Need-is-within-requires
-is-within-requires c κs = search needs
-
-returns-4 : tie.Need-returns-4
-returns-4 c =
-    passes-outside _ _ _ _ _ _ ((c .before .before .before .before .before .before .before .parameters-of) .ensures) ((c .before .before .before .before .before .before .if1) .left) (sym ((c .before .before .before .before .before .take-all) .ensures) ∙ not-false ((c .before .before .before .before .before .take-all) .result) ((c .before .before .before .before .if2) .left)) _ ((c .before .before .before .part) .ensures .0) ((c .before .before .if3) .left) (sym ((c .before .is-within) .ensures) ∙ not-true ((c .before .is-within) .result) ((c .if4) .taken))
-
-mark-of-requires : tie.Need-mark-of-requires
-mark-of-requires c κs = search needs
-
-returns-5 : tie.Need-returns-5
-returns-5 c =
-    passes-marked _ _ _ _ _ _ ((c .before .before .before .before .before .before .before .before .parameters-of) .ensures) ((c .before .before .before .before .before .before .before .if1) .left) (sym ((c .before .before .before .before .before .before .take-all) .ensures) ∙ not-false ((c .before .before .before .before .before .before .take-all) .result) ((c .before .before .before .before .before .if2) .left)) _ ((c .before .before .before .before .part) .ensures .0) ((c .before .before .before .if3) .left) (sym ((c .before .before .is-within) .ensures) ∙ not-false ((c .before .before .is-within) .result) ((c .before .if4) .left)) ((c .mark-of) .ensures)
+returns-2 c = (c .not-above) .ensures ∙ passes-level _ _ _ _ _ _ (sym ((c .before .before .suits) .ensures) ∙ not-false ((c .before .before .suits) .result) ((c .before .if1) .left))
 
 pub passes-spec : {M : Type 1} → statement M
-passes-spec =
-    tie.close
-    (tie.spec
-    size-at-requires
-    parameters-of-requires
-    returns
-    take-all-requires
-    returns-2
-    part-requires
-    returns-3
-    is-within-requires
-    returns-4
-    mark-of-requires
-    returns-5)
+passes-spec = tie.close (tie.spec suits-requires returns not-above-requires returns-2)

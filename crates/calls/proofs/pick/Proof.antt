@@ -3,6 +3,7 @@ use Rattle.calls.proofs.Searching.{Left, left-first, left-last, left-mi
 use Rattle.calls.specs.Searching.{Picks, passesBy}
 use Rattle.kinds.proofs.Looking.{listed-missing, listed-found}
 use Rattle.machine.specs.Begin.{programOf}
+use Rattle.program.specs.Places.{versionAt}
 use borrow.Author.Needs.{needs}
 use native.Mathlib.Omega.{arith}
 use Prim.Native.Nat.{_-_}
@@ -15,10 +16,10 @@ use Rattle.calls.proofs.passes.Reads as passes-reads
 use Rattle.index.proofs.version.Reads as version-reads
 
 abbrev Inv-loop : tie.InvT-loop
-Inv-loop image table offered function mark returns n f w₀ looked₀ w looked = Left (programOf image) function (passesBy offered mark returns n) w looked
+Inv-loop image table offered own function mark returns n f w₀ looked₀ w looked = Left (programOf image) function (passesBy offered (versionAt image own .level) mark returns n) w looked
 
 abbrev μ-loop : tie.MeasureT-loop
-μ-loop image table offered function mark returns n f w₀ looked₀ w looked = 4 - w
+μ-loop image table offered own function mark returns n f w₀ looked₀ w looked = 4 - w
 
 loop-holds : tie.Need-loop-holds Inv-loop μ-loop
 loop-holds c =
@@ -36,9 +37,9 @@ passes-requires : tie.Need-passes-requires Inv-loop μ-loop
 passes-requires c κs =
     ((c .before .before .before .before .before .before .before) .pre, sym ((c .before .before .before .version) .ensures) ∙ (c .before .v) .given .1)
 
-add-t15 : tie.Need-add-t15 Inv-loop μ-loop
+add-t16 : tie.Need-add-t16 Inv-loop μ-loop
 unfolding Left
-add-t15 c =
+add-t16 c =
     omega (arith, (c .before .before .before .before .before .before .before .loop) .inv .0, (c .before .before .before .before .before .before .before .loop) .inv .1)
 
 returns : tie.Need-returns Inv-loop μ-loop
@@ -96,7 +97,7 @@ pick-spec =
     version-requires
     enum-known-v
     passes-requires
-    add-t15
+    add-t16
     returns
     add-looked
     add-w

@@ -22,10 +22,10 @@ use Rattle.kinds.proofs.argument_kind.Reads as argument-kind-reads
 use Rattle.layout.proofs.size_at.Reads as size-at-reads
 
 abbrev Inv-loop : tie.InvT-loop
-Inv-loop image table owners codes promises calls k at function mark returns n offered₀ size i₀ offered i = (i ≤ n) × (length offered ≡ 256) × Gathered (argumentKind (programOf image) owners promises calls codes k) (bodyAt image at) offered i
+Inv-loop image table owners codes promises calls k at own function mark returns n offered₀ size i₀ offered i = (i ≤ n) × (length offered ≡ 256) × Gathered (argumentKind (programOf image) owners promises calls codes k) (bodyAt image at) offered i
 
 abbrev μ-loop : tie.MeasureT-loop
-μ-loop image table owners codes promises calls k at function mark returns n offered₀ size i₀ offered i = n - i
+μ-loop image table owners codes promises calls k at own function mark returns n offered₀ size i₀ offered i = n - i
 
 size-at-requires : tie.Need-size-at-requires Inv-loop μ-loop
 size-at-requires c κs =
@@ -54,7 +54,7 @@ argument-kind-requires c κs =
 returns : tie.Need-returns Inv-loop μ-loop
 unfolding Bounded
 returns c =
-    (seeks-unknown _ _ _ _ _ _ _ _ _ _ _ _ _ ((c .before .before .before .loop-test) .taken) ((c .before .before .part) .ensures .0) (kind-none _ _ (over-argument _ _ _ _ _ _ _) ((c .before .argument-kind) .ensures) ((c .if1) .taken)), tt)
+    (seeks-unknown _ _ _ _ _ _ _ _ _ _ _ _ _ _ ((c .before .before .before .loop-test) .taken) ((c .before .before .part) .ensures .0) (kind-none _ _ (over-argument _ _ _ _ _ _ _) ((c .before .argument-kind) .ensures) ((c .if1) .taken)), tt)
 
 mul-part-2 : tie.Need-mul-part-2 Inv-loop μ-loop
 mul-part-2 c =
@@ -95,7 +95,7 @@ pick-requires c κs =
 
 returns-2 : tie.Need-returns-2 Inv-loop μ-loop
 returns-2 c =
-    seeks-picked _ _ _ _ _ _ _ _ _ _ _ _ _ ((c .before .before .before .loop) .inv .0) ((c .before .before .loop-test) .left) ((c .before .before .before .loop) .inv .2) _ ((c .pick) .ensures)
+    seeks-picked _ _ _ _ _ _ _ _ _ _ _ _ _ _ ((c .before .before .before .loop) .inv .0) ((c .before .before .loop-test) .left) ((c .before .before .before .loop) .inv .2) _ ((c .pick) .ensures)
 
 pub search-spec : {M : Type 1} → statement M
 search-spec =

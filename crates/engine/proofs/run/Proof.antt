@@ -25,14 +25,14 @@ same-length c = search needs
 
 returns : tie.Need-returns
 returns c =
-    (run-refused _ _ _ _ _ _ _ ((c .before .before .before .before .begin) .ensures) _ _ ((c .before .entry) .given .1), leaves _ _ _ _ _)
+    (run-refused _ _ _ _ _ _ _ _ ((c .before .before .before .before .begin) .ensures) _ _ ((c .before .entry) .given .1), leaves _ _ _ _ _)
 
 same-length-2 : tie.Need-same-length-2
 same-length-2 c = search needs
 
 returns-2 : tie.Need-returns-2
 returns-2 c =
-    (run-begun _ _ _ _ _ _ _ ((c .before .before .before .before .before .before .begin) .ensures) ((c .before .before .before .enum-told) .given .1) ((c .before .budget) .ensures .0), (c .before .budget) .ensures .1)
+    (run-begun _ _ _ _ _ _ _ _ ((c .before .before .before .before .before .before .begin) .ensures) ((c .before .before .before .enum-told) .given .1) ((c .before .budget) .ensures .0), (c .before .budget) .ensures .1)
 
 pub run-spec : {M : Type 1} → statement M
 run-spec =

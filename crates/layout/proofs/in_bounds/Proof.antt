@@ -35,6 +35,9 @@ field-requires-6 c κs = search needs
 field-requires-7 : tie.Need-field-requires-7
 field-requires-7 c κs = search needs
 
+field-requires-8 : tie.Need-field-requires-8
+field-requires-8 c κs = search needs
+
 returns : tie.Need-returns
 unfolding inBounds choose
 returns c =
@@ -66,19 +69,24 @@ returns-6 c =
     simp (sym ((c .before .before .kind-at) .ensures) ∙ (c .before .match) .keys5, ← (c .field5) .ensures .0)
 
 returns-7 : tie.Need-returns-7
-unfolding inBounds choose _and_
+unfolding inBounds choose
 returns-7 c =
-    simp (sym ((c .before .before .before .before .kind-at) .ensures) ∙ (c .before .before .before .match) .keys6, ← (c .before .before .field6) .ensures .0, ← (c .field7) .ensures .0, lt-ltb _ _ ((c .before .if2) .taken))
+    simp (sym ((c .before .before .kind-at) .ensures) ∙ (c .before .match) .keys6, ← (c .field6) .ensures .0)
 
 returns-8 : tie.Need-returns-8
 unfolding inBounds choose _and_
 returns-8 c =
-    simp (sym ((c .before .before .before .kind-at) .ensures) ∙ (c .before .before .match) .keys6, ← (c .before .field6) .ensures .0, le-ltb _ _ ((c .if2) .left))
+    simp (sym ((c .before .before .before .before .kind-at) .ensures) ∙ (c .before .before .before .match) .keys7, ← (c .before .before .field7) .ensures .0, ← (c .field8) .ensures .0, lt-ltb _ _ ((c .before .if2) .taken))
 
 returns-9 : tie.Need-returns-9
-unfolding inBounds choose
+unfolding inBounds choose _and_
 returns-9 c =
-    simp (← (c .before .kind-at) .ensures, ne-eqb _ _ ((c .match) .rest .0 .0 .0 .0 .0 .1), ne-eqb _ _ ((c .match) .rest .0 .0 .0 .0 .1), ne-eqb _ _ ((c .match) .rest .0 .0 .0 .1), ne-eqb _ _ ((c .match) .rest .0 .0 .1), ne-eqb _ _ ((c .match) .rest .0 .1), ne-eqb _ _ ((c .match) .rest .1))
+    simp (sym ((c .before .before .before .kind-at) .ensures) ∙ (c .before .before .match) .keys7, ← (c .before .field7) .ensures .0, le-ltb _ _ ((c .if2) .left))
+
+returns-10 : tie.Need-returns-10
+unfolding inBounds choose
+returns-10 c =
+    simp (← (c .before .kind-at) .ensures, ne-eqb _ _ ((c .match) .rest .0 .0 .0 .0 .0 .0 .1), ne-eqb _ _ ((c .match) .rest .0 .0 .0 .0 .0 .1), ne-eqb _ _ ((c .match) .rest .0 .0 .0 .0 .1), ne-eqb _ _ ((c .match) .rest .0 .0 .0 .1), ne-eqb _ _ ((c .match) .rest .0 .0 .1), ne-eqb _ _ ((c .match) .rest .0 .1), ne-eqb _ _ ((c .match) .rest .1))
 
 pub in-bounds-spec : {M : Type 1} → statement M
 in-bounds-spec =
@@ -93,6 +101,7 @@ in-bounds-spec =
     field-requires-5
     field-requires-6
     field-requires-7
+    field-requires-8
     returns
     returns-2
     returns-3
@@ -101,4 +110,5 @@ in-bounds-spec =
     returns-6
     returns-7
     returns-8
-    returns-9)
+    returns-9
+    returns-10)

@@ -65,12 +65,12 @@ returns-5 c =
 returns-6 : tie.Need-returns-6
 unfolding plainLength choose
 returns-6 c =
-    simp (sym ((c .before .before .kind-at) .ensures) ∙ (c .before .match) .keys6, (c .field2) .ensures .0)
+    simp (sym ((c .before .kind-at) .ensures) ∙ (c .match) .keys6)
 
 returns-7 : tie.Need-returns-7
 unfolding plainLength choose
 returns-7 c =
-    simp (sym ((c .before .kind-at) .ensures) ∙ (c .match) .keys7)
+    simp (sym ((c .before .before .kind-at) .ensures) ∙ (c .before .match) .keys7, (c .field2) .ensures .0)
 
 returns-8 : tie.Need-returns-8
 unfolding plainLength choose
@@ -130,22 +130,27 @@ returns-18 c =
 returns-19 : tie.Need-returns-19
 unfolding plainLength choose
 returns-19 c =
-    simp (sym ((c .before .before .kind-at) .ensures) ∙ (c .before .match) .keys19, (c .field3) .ensures .0)
+    simp (sym ((c .before .kind-at) .ensures) ∙ (c .match) .keys19)
 
 returns-20 : tie.Need-returns-20
 unfolding plainLength choose
 returns-20 c =
-    simp (sym ((c .before .before .kind-at) .ensures) ∙ (c .before .match) .keys20, (c .field4) .ensures .0)
+    simp (sym ((c .before .before .kind-at) .ensures) ∙ (c .before .match) .keys20, (c .field3) .ensures .0)
 
 returns-21 : tie.Need-returns-21
 unfolding plainLength choose
 returns-21 c =
-    simp (sym ((c .before .kind-at) .ensures) ∙ (c .match) .keys21)
+    simp (sym ((c .before .before .kind-at) .ensures) ∙ (c .before .match) .keys21, (c .field4) .ensures .0)
 
 returns-22 : tie.Need-returns-22
 unfolding plainLength choose
 returns-22 c =
-    simp (← (c .before .kind-at) .ensures, ne-eqb _ _ ((c .match) .rest .0 .0 .0 .0 .0 .0 .0 .0 .0 .0 .0 .0 .0 .0 .0 .0 .0 .0 .0 .0 .1), ne-eqb _ _ ((c .match) .rest .0 .0 .0 .0 .0 .0 .0 .0 .0 .0 .0 .0 .0 .0 .0 .0 .0 .0 .0 .1), ne-eqb _ _ ((c .match) .rest .0 .0 .0 .0 .0 .0 .0 .0 .0 .0 .0 .0 .0 .0 .0 .0 .0 .0 .1), ne-eqb _ _ ((c .match) .rest .0 .0 .0 .0 .0 .0 .0 .0 .0 .0 .0 .0 .0 .0 .0 .0 .0 .1), ne-eqb _ _ ((c .match) .rest .0 .0 .0 .0 .0 .0 .0 .0 .0 .0 .0 .0 .0 .0 .0 .0 .1), ne-eqb _ _ ((c .match) .rest .0 .0 .0 .0 .0 .0 .0 .0 .0 .0 .0 .0 .0 .0 .0 .1), ne-eqb _ _ ((c .match) .rest .0 .0 .0 .0 .0 .0 .0 .0 .0 .0 .0 .0 .0 .0 .1), ne-eqb _ _ ((c .match) .rest .0 .0 .0 .0 .0 .0 .0 .0 .0 .0 .0 .0 .0 .1), ne-eqb _ _ ((c .match) .rest .0 .0 .0 .0 .0 .0 .0 .0 .0 .0 .0 .0 .1), ne-eqb _ _ ((c .match) .rest .0 .0 .0 .0 .0 .0 .0 .0 .0 .0 .0 .1), ne-eqb _ _ ((c .match) .rest .0 .0 .0 .0 .0 .0 .0 .0 .0 .0 .1), ne-eqb _ _ ((c .match) .rest .0 .0 .0 .0 .0 .0 .0 .0 .0 .1), ne-eqb _ _ ((c .match) .rest .0 .0 .0 .0 .0 .0 .0 .0 .1), ne-eqb _ _ ((c .match) .rest .0 .0 .0 .0 .0 .0 .0 .1), ne-eqb _ _ ((c .match) .rest .0 .0 .0 .0 .0 .0 .1), ne-eqb _ _ ((c .match) .rest .0 .0 .0 .0 .0 .1), ne-eqb _ _ ((c .match) .rest .0 .0 .0 .0 .1), ne-eqb _ _ ((c .match) .rest .0 .0 .0 .1), ne-eqb _ _ ((c .match) .rest .0 .0 .1), ne-eqb _ _ ((c .match) .rest .0 .1), ne-eqb _ _ ((c .match) .rest .1))
+    simp (sym ((c .before .kind-at) .ensures) ∙ (c .match) .keys22)
+
+returns-23 : tie.Need-returns-23
+unfolding plainLength choose
+returns-23 c =
+    simp (← (c .before .kind-at) .ensures, ne-eqb _ _ ((c .match) .rest .0 .0 .0 .0 .0 .0 .0 .0 .0 .0 .0 .0 .0 .0 .0 .0 .0 .0 .0 .0 .0 .1), ne-eqb _ _ ((c .match) .rest .0 .0 .0 .0 .0 .0 .0 .0 .0 .0 .0 .0 .0 .0 .0 .0 .0 .0 .0 .0 .1), ne-eqb _ _ ((c .match) .rest .0 .0 .0 .0 .0 .0 .0 .0 .0 .0 .0 .0 .0 .0 .0 .0 .0 .0 .0 .1), ne-eqb _ _ ((c .match) .rest .0 .0 .0 .0 .0 .0 .0 .0 .0 .0 .0 .0 .0 .0 .0 .0 .0 .0 .1), ne-eqb _ _ ((c .match) .rest .0 .0 .0 .0 .0 .0 .0 .0 .0 .0 .0 .0 .0 .0 .0 .0 .0 .1), ne-eqb _ _ ((c .match) .rest .0 .0 .0 .0 .0 .0 .0 .0 .0 .0 .0 .0 .0 .0 .0 .0 .1), ne-eqb _ _ ((c .match) .rest .0 .0 .0 .0 .0 .0 .0 .0 .0 .0 .0 .0 .0 .0 .0 .1), ne-eqb _ _ ((c .match) .rest .0 .0 .0 .0 .0 .0 .0 .0 .0 .0 .0 .0 .0 .0 .1), ne-eqb _ _ ((c .match) .rest .0 .0 .0 .0 .0 .0 .0 .0 .0 .0 .0 .0 .0 .1), ne-eqb _ _ ((c .match) .rest .0 .0 .0 .0 .0 .0 .0 .0 .0 .0 .0 .0 .1), ne-eqb _ _ ((c .match) .rest .0 .0 .0 .0 .0 .0 .0 .0 .0 .0 .0 .1), ne-eqb _ _ ((c .match) .rest .0 .0 .0 .0 .0 .0 .0 .0 .0 .0 .1), ne-eqb _ _ ((c .match) .rest .0 .0 .0 .0 .0 .0 .0 .0 .0 .1), ne-eqb _ _ ((c .match) .rest .0 .0 .0 .0 .0 .0 .0 .0 .1), ne-eqb _ _ ((c .match) .rest .0 .0 .0 .0 .0 .0 .0 .1), ne-eqb _ _ ((c .match) .rest .0 .0 .0 .0 .0 .0 .1), ne-eqb _ _ ((c .match) .rest .0 .0 .0 .0 .0 .1), ne-eqb _ _ ((c .match) .rest .0 .0 .0 .0 .1), ne-eqb _ _ ((c .match) .rest .0 .0 .0 .1), ne-eqb _ _ ((c .match) .rest .0 .0 .1), ne-eqb _ _ ((c .match) .rest .0 .1), ne-eqb _ _ ((c .match) .rest .1))
 
 pub plain-length-at-spec : {M : Type 1} → statement M
 plain-length-at-spec =
@@ -182,4 +187,5 @@ plain-length-at-spec =
     returns-19
     returns-20
     returns-21
-    returns-22)
+    returns-22
+    returns-23)

@@ -1,7 +1,7 @@
 -- `layout::question_4`: as question 2, with what is due kept from record to record.
 use Prim.Native.Nat.{_-_}
 use Rattle.layout.proofs.Bools.{and-on, and-off}
-use Rattle.layout.proofs.Turns.{turn-next, turn-refused, missing-blocks, missing-instructions, none-missing}
+use Rattle.layout.proofs.Turns.{turn-next, turn-refused, none-missing, some-missing}
 use Rattle.layout.proofs.Walk.{Along, ended, broken, say-no, go-on, ends-inside}
 use Rattle.layout.proofs.question_4.Statement.{statement}
 use Rattle.layout.proofs.question_4.Tie as tie
@@ -69,17 +69,16 @@ returns-3 : tie.Need-returns-3 Inv-loop μ-loop
 returns-3 c =
     say-no (record { along = (c .before .before .before .before .before .loop) .inv; inside = (c .before .before .before .before .loop-test) .taken; size = (c .before .before .before .size-at) .ensures; whole = (c .before .before .if1) .left }) (and-off _ (sym ((c .before .in-bounds) .ensures) ∙ (c .if2) .left))
 
+is-idle-requires : tie.Need-is-idle-requires Inv-loop μ-loop
+is-idle-requires c κs = search needs
+
 returns-4 : tie.Need-returns-4 Inv-loop μ-loop
 returns-4 c =
-    missing-blocks _ _ ((c .if3) .taken) ∙ ended ((c .before .before .before .loop) .inv) ((c .before .before .loop-test) .left)
+    none-missing _ _ (sym ((c .before .is-idle) .ensures) ∙ (c .if3) .taken) ∙ ended ((c .before .before .before .loop) .inv) ((c .before .before .loop-test) .left)
 
 returns-5 : tie.Need-returns-5 Inv-loop μ-loop
 returns-5 c =
-    missing-instructions _ _ ((c .before .before .if3) .left) ((c .if4) .taken) ∙ ended ((c .before .before .before .before .before .loop) .inv) ((c .before .before .before .before .loop-test) .left)
-
-returns-6 : tie.Need-returns-6 Inv-loop μ-loop
-returns-6 c =
-    none-missing _ _ ((c .before .before .if3) .left) ((c .if4) .left) ∙ ended ((c .before .before .before .before .before .loop) .inv) ((c .before .before .before .before .loop-test) .left)
+    some-missing _ _ (sym ((c .before .is-idle) .ensures) ∙ (c .if3) .left) ∙ ended ((c .before .before .before .loop) .inv) ((c .before .before .loop-test) .left)
 
 pub question-4-spec : {M : Type 1} → statement M
 question-4-spec =
@@ -99,6 +98,6 @@ question-4-spec =
     enum-told
     returns-2
     returns-3
+    is-idle-requires
     returns-4
-    returns-5
-    returns-6)
+    returns-5)

@@ -19,7 +19,7 @@ kind-at-requires c κs = search needs
 
 returns : tie.Need-returns
 returns c =
-    no-looks _ _ _ _ _ _ _ ((c .before .kind-at) .ensures) ((c .if1) .taken)
+    no-looks _ _ _ _ _ _ _ _ ((c .before .kind-at) .ensures) ((c .if1) .taken)
 
 field-requires : tie.Need-field-requires
 field-requires c κs = search needs
@@ -70,17 +70,17 @@ counted-requires-2 c κs =
 returns-2 : tie.Need-returns-2
 unfolding saidBy
 returns-2 c =
-    dispatch-looks _ _ _ _ _ _ _ _ _ _ _ _ _ _ ((c .before .before .before .before .before .before .before .before .kind-at) .ensures) ((c .before .before .before .before .before .before .before .if1) .left) ((c .before .before .before .before .before .before .field) .ensures .0) ((c .before .before .before .before .before .field2) .ensures .0) ((c .before .before .before .before .field3) .ensures .0) ((c .before .before .before .field4) .ensures .0) ((c .before .before .search) .ensures .0) ((c .enum-told) .given .1) refl
+    dispatch-looks _ _ _ _ _ _ _ _ _ _ _ _ _ _ _ ((c .before .before .before .before .before .before .before .before .kind-at) .ensures) ((c .before .before .before .before .before .before .before .if1) .left) ((c .before .before .before .before .before .before .field) .ensures .0) ((c .before .before .before .before .before .field2) .ensures .0) ((c .before .before .before .before .field3) .ensures .0) ((c .before .before .before .field4) .ensures .0) ((c .before .before .search) .ensures .0) ((c .enum-told) .given .1) refl
 
 returns-3 : tie.Need-returns-3
 unfolding saidBy
 returns-3 c =
-    dispatch-looks _ _ _ _ _ _ _ _ _ _ _ _ _ _ ((c .before .before .before .before .before .before .before .before .before .before .kind-at) .ensures) ((c .before .before .before .before .before .before .before .before .before .if1) .left) ((c .before .before .before .before .before .before .before .before .field) .ensures .0) ((c .before .before .before .before .before .before .before .field2) .ensures .0) ((c .before .before .before .before .before .before .field3) .ensures .0) ((c .before .before .before .before .before .field4) .ensures .0) ((c .before .before .before .before .search) .ensures .0) ((c .before .before .c) .given .1) ((c .counted) .ensures)
+    dispatch-looks _ _ _ _ _ _ _ _ _ _ _ _ _ _ _ ((c .before .before .before .before .before .before .before .before .before .before .kind-at) .ensures) ((c .before .before .before .before .before .before .before .before .before .if1) .left) ((c .before .before .before .before .before .before .before .before .field) .ensures .0) ((c .before .before .before .before .before .before .before .field2) .ensures .0) ((c .before .before .before .before .before .before .field3) .ensures .0) ((c .before .before .before .before .before .field4) .ensures .0) ((c .before .before .before .before .search) .ensures .0) ((c .before .before .c) .given .1) ((c .counted) .ensures)
 
 returns-4 : tie.Need-returns-4
 unfolding saidBy
 returns-4 c =
-    dispatch-looks _ _ _ _ _ _ _ _ _ _ _ _ _ _ ((c .before .before .before .before .before .before .before .before .before .before .kind-at) .ensures) ((c .before .before .before .before .before .before .before .before .before .if1) .left) ((c .before .before .before .before .before .before .before .before .field) .ensures .0) ((c .before .before .before .before .before .before .before .field2) .ensures .0) ((c .before .before .before .before .before .before .field3) .ensures .0) ((c .before .before .before .before .before .field4) .ensures .0) ((c .before .before .before .before .search) .ensures .0) ((c .before .before .c2) .given .1) ((c .counted2) .ensures)
+    dispatch-looks _ _ _ _ _ _ _ _ _ _ _ _ _ _ _ ((c .before .before .before .before .before .before .before .before .before .before .kind-at) .ensures) ((c .before .before .before .before .before .before .before .before .before .if1) .left) ((c .before .before .before .before .before .before .before .before .field) .ensures .0) ((c .before .before .before .before .before .before .before .field2) .ensures .0) ((c .before .before .before .before .before .before .field3) .ensures .0) ((c .before .before .before .before .before .field4) .ensures .0) ((c .before .before .before .before .search) .ensures .0) ((c .before .before .c2) .given .1) ((c .counted2) .ensures)
 
 pub looks-spec : {M : Type 1} → statement M
 looks-spec =

@@ -24,14 +24,14 @@ same-length c = search needs
 
 returns : tie.Need-returns
 returns c =
-    run-answers-refused _ _ _ _ _ _ _ _ _ ((c .before .before .before .before .enter) .ensures) _ _ ((c .before .before .entry) .given .1) ((c .answer) .ensures)
+    run-answers-refused _ _ _ _ _ _ _ _ _ _ ((c .before .before .before .before .enter) .ensures) _ _ ((c .before .before .entry) .given .1) ((c .answer) .ensures)
 
 same-length-2 : tie.Need-same-length-2
 same-length-2 c = search needs
 
 returns-2 : tie.Need-returns-2
 returns-2 c =
-    run-answers _ _ _ _ _ _ _ _ _ ((c .before .before .before .before .before .before .before .before .before .before .before .before .before .before .before .before .before .before .before .enter) .ensures) _ ((c .before .before .before .before .before .before .before .before .before .before .before .before .before .before .before .before .before .enum-told) .given .1) ((c .before .budget) .ensures)
+    run-answers _ _ _ _ _ _ _ _ _ _ ((c .before .before .before .before .before .before .before .before .before .before .before .before .before .before .before .before .before .before .before .enter) .ensures) _ ((c .before .before .before .before .before .before .before .before .before .before .before .before .before .before .before .before .before .enum-told) .given .1) ((c .before .budget) .ensures)
 
 pub run-spec : {M : Type 1} → statement M
 run-spec =

@@ -17,12 +17,12 @@ returns c = sym (ask-no 8 _ (sym ((c .before .before .before .question-8) .ensur
 enum-told : tie.Need-enum-told
 enum-told c = search needs
 
-from-9-requires : tie.Need-from-9-requires
-from-9-requires c κs = search needs
+from-18-requires : tie.Need-from-18-requires
+from-18-requires c κs = search needs
 
 returns-2 : tie.Need-returns-2
 returns-2 c =
-    (c .from-9) .ensures ∙ sym (ask-yes 8 _ (sym ((c .before .before .before .question-8) .ensures) ∙ (c .before .enum-told) .given .1))
+    (c .from-18) .ensures ∙ sym (ask-yes 8 _ (sym ((c .before .before .before .question-8) .ensures) ∙ (c .before .enum-told) .given .1))
 
 pub from-8-spec : {M : Type 1} → statement M
-from-8-spec = tie.close (tie.spec question-8-requires enum-known-p returns enum-told from-9-requires returns-2)
+from-8-spec = tie.close (tie.spec question-8-requires enum-known-p returns enum-told from-18-requires returns-2)
