@@ -18,6 +18,7 @@
  * within 0 to 100. */
 static const uint8_t built_in[] = {
     21, 0, 1, 0, 0, 0, 3, 11, 3, 1, 2, 2, 3, 2, 2, 2, 2, 2, 2, 2, 3, /* VERSION 0.0 */
+    5, 0, 3, 0, 0,                                                   /* LEVEL, the portal */
     7, 0, 2, 0, 0, 10, 16,                                          /* BLOCK, its result in r10 */
     13, 0, 36, 0, 4, 4, 0, 0, 0, 0, 0, 0, 0,                        /* LIT r4 = 4 */
     8, 0, 24, 0, 3, 1, 0, 1,                                        /* r3 = r0 - r1 */
@@ -36,6 +37,7 @@ static const uint8_t built_in[] = {
     9, 0, 33, 0, 9, 1, 0, 1, 9,                                     /* */
     9, 0, 20, 0, 10, 3, 7, 8, 9,                                    /* VEC r10 = r7, r8, r9 */
     17, 0, 1, 0, 1, 0, 1, 7, 2, 1, 2, 2, 2, 2, 2, 2, 2,             /* VERSION 1.0 */
+    5, 0, 3, 0, 0,                                                  /* LEVEL, the portal */
     7, 0, 2, 0, 0, 6, 6,                                            /* BLOCK, its result in r6 */
     13, 0, 36, 0, 1, 100, 0, 0, 0, 0, 0, 0, 0,                      /* LIT r1 = 100 */
     8, 0, 24, 0, 2, 4, 1, 0,                                        /* r2 = r1 < r0 */
@@ -52,7 +54,7 @@ static fir_state state;
 /* What is checked of an image, by the number of the question. */
 static const char *const questions[] = {"accepted", "size",      "records", "kinds", "bounds", "numbering", "type bytes",
                                         "existence", "types", "effects", "flow",  "entry",  "arguments", "buffer",
-                                        "skips",     "change"};
+                                        "skips",     "change", "literal", "room", "calls", "level"};
 
 static int refused(const char *what, unsigned question, size_t offset)
 {
@@ -66,11 +68,12 @@ static int64_t warmed(int64_t measured, const int64_t *valves)
     return measured + (valves[0] + valves[1] + valves[2]) / 12 - 5;
 }
 
-/* Begins the run of a new set of positions: what is wanted, what is measured, and the positions so far. */
+/* Begins the run of a new set of positions: what is wanted, what is measured, and the positions so far. It states the level of
+ * site staff: an image in FILE may have versions for the factory, and none of them is entered. */
 static fir_entry begin(const uint8_t *image, size_t length, int64_t wanted, int64_t measured, const int64_t *valves)
 {
     const int64_t words[] = {-1, wanted, -1, measured, VALVES, valves[0], valves[1], valves[2]};
-    return fir_begin(image, length, 0, 0, words, sizeof words / sizeof *words, valves, FIR_ITEMS, &state);
+    return fir_begin(image, length, FIR_STAFF, 0, 0, words, sizeof words / sizeof *words, valves, FIR_ITEMS, &state);
 }
 
 static int control(const uint8_t *image, size_t length)

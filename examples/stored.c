@@ -15,6 +15,7 @@
 /* The speed that three rooms ask of the pump: 0.0 asks each of them by 1.0, and adds up. */
 static const uint8_t stored[] = {
     15, 0, 1, 0, 0, 0, 2, 5, 2, 1, 2, 3, 2, 2, 2, /* VERSION 0.0: r0 wanted, r1 the rooms */
+    5, 0, 3, 0, 0,                                /* LEVEL, the portal */
     7, 0, 2, 0, 0, 4, 11,                         /* BLOCK, its result in r4 */
     9, 0, 16, 0, 2, 0, 0, 0, 0,                   /* LIT r2 = 0, with a number of 4 bytes */
     7, 0, 22, 0, 3, 1, 2,                         /* GET r3 = r1[r2] */
@@ -28,12 +29,13 @@ static const uint8_t stored[] = {
     10, 0, 33, 0, 3, 1, 0, 2, 0, 3,               /* CALL r3 = 1.0(r0, r3) */
     8, 0, 24, 0, 4, 0, 4, 3,                      /* r4 = r4 + r3 */
     12, 0, 1, 0, 1, 0, 2, 2, 2, 1, 2, 2,          /* VERSION 1.0: r0 wanted, r1 the room */
+    5, 0, 3, 0, 0,                                /* LEVEL, the portal */
     7, 0, 2, 0, 0, 0, 1,                          /* BLOCK, its result in r0 */
     8, 0, 24, 0, 0, 1, 0, 1,                      /* r0 = r0 - r1 */
 };
 
 /* The first literal of the moved image, and the highest byte of its number. */
-#define LITERAL 22
+#define LITERAL 27
 #define HIGHEST (LITERAL + 12)
 
 static uint8_t moved[FIR_IMAGE_BYTES];
@@ -53,7 +55,7 @@ static void run(size_t length)
     static const int64_t words[] = {-1, 210, 3, 200, 195, 225};
     static int64_t buffer[FIR_ITEMS];
     static fir_state state;
-    fir_answer answer = fir_run(moved, length, 0, 0, words, 6, BUDGET, buffer, FIR_ITEMS, &state);
+    fir_answer answer = fir_run(moved, length, FIR_PORTAL, 0, 0, words, 6, BUDGET, buffer, FIR_ITEMS, &state);
     if (answer.code == FIR_INTEGER)
         printf("the speed is %ld, after %lu steps\n", (long)answer.value, (unsigned long)answer.steps);
     else

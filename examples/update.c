@@ -16,6 +16,7 @@
 /* The speed that three rooms ask of the pump: 0.0 asks each of them by 1.0, and adds up. */
 static const uint8_t pump[] = {
     15, 0, 1, 0, 0, 0, 2, 5, 2, 1, 2, 3, 2, 2, 2, /* VERSION 0.0: r0 wanted, r1 the rooms */
+    5, 0, 3, 0, 0,                                /* LEVEL, the portal */
     7, 0, 2, 0, 0, 4, 11,                         /* BLOCK, its result in r4 */
     13, 0, 36, 0, 2, 0, 0, 0, 0, 0, 0, 0, 0,      /* LIT r2 = 0 */
     7, 0, 22, 0, 3, 1, 2,                         /* GET r3 = r1[r2] */
@@ -29,13 +30,15 @@ static const uint8_t pump[] = {
     10, 0, 33, 0, 3, 1, 0, 2, 0, 3,               /* CALL r3 = 1.0(r0, r3) */
     8, 0, 24, 0, 4, 0, 4, 3,                      /* r4 = r4 + r3 */
     12, 0, 1, 0, 1, 0, 2, 2, 2, 1, 2, 2,          /* VERSION 1.0: r0 wanted, r1 the room */
+    5, 0, 3, 0, 0,                                /* LEVEL, the portal */
     7, 0, 2, 0, 0, 0, 1,                          /* BLOCK, its result in r0 */
     8, 0, 24, 0, 0, 1, 0, 1,                      /* r0 = r0 - r1 */
 };
 
-/* The same with another 1.0, of 61 bytes in place of 27: a room that is too warm asks for nothing. */
+/* The same with another 1.0, of 66 bytes in place of 32: a room that is too warm asks for nothing. */
 static const uint8_t later[] = {
     15, 0, 1, 0, 0, 0, 2, 5, 2, 1, 2, 3, 2, 2, 2, /* VERSION 0.0, as before */
+    5, 0, 3, 0, 0,                                /* */
     7, 0, 2, 0, 0, 4, 11,                         /* */
     13, 0, 36, 0, 2, 0, 0, 0, 0, 0, 0, 0, 0,      /* */
     7, 0, 22, 0, 3, 1, 2,                         /* */
@@ -49,6 +52,7 @@ static const uint8_t later[] = {
     10, 0, 33, 0, 3, 1, 0, 2, 0, 3,               /* */
     8, 0, 24, 0, 4, 0, 4, 3,                      /* */
     13, 0, 1, 0, 1, 0, 2, 3, 2, 1, 2, 2, 2,       /* VERSION 1.0: r0 wanted, r1 the room */
+    5, 0, 3, 0, 0,                                /* LEVEL, the portal */
     7, 0, 2, 0, 0, 0, 5,                          /* BLOCK, its result in r0 */
     8, 0, 24, 0, 0, 1, 0, 1,                      /* r0 = r0 - r1 */
     13, 0, 36, 0, 2, 0, 0, 0, 0, 0, 0, 0, 0,      /* LIT r2 = 0 */
@@ -134,8 +138,8 @@ static int control(void)
     fir_answer answer;
     fir_entry entry;
     put(pump, sizeof pump);
-    entry = fir_begin(memory.image, memory.length, 0, 0, words, sizeof words / sizeof *words, buffer, FIR_ITEMS,
-                      &memory.state);
+    entry = fir_begin(memory.image, memory.length, FIR_PORTAL, 0, 0, words, sizeof words / sizeof *words, buffer,
+                      FIR_ITEMS, &memory.state);
     if (entry.question != FIR_ACCEPTED || !store())
         return 1;
     for (number = 0; number < 10; number++) {

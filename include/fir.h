@@ -33,7 +33,8 @@ extern "C" {
  * image is a record of kind 36 with a number of 8 bytes.
  *
  * Integers once had 32 bits, and a literal was a record of kind 16 with a number of 4 bytes. An image of that form is refused
- * by question 3 at its first literal; fir_widen moves it to the form in force. A state that the library of that time stored
+ * by question 3 at its first literal; fir_widen moves it to the form in force. (Both forms carry levels, and an image without
+ * them is refused by 4 in both: its versions need LEVEL records first.) A state that the library of that time stored
  * cannot be read: it has 9,544 bytes and not 17,040, its fields stand elsewhere, and bytes do not show which library wrote
  * them. Such a run is begun anew. Whoever called that library compiles again with this header: structs and arrays have
  * other widths. */
@@ -49,21 +50,50 @@ extern "C" {
 #define FIR_ITEMS 16          /* items of a vector, and the fewest places of a result buffer */
 #define FIR_PLACES 64         /* places for vectors, and for promises */
 
+/* ---- Levels of staff ---- */
+
+/* Tenants' portal, site staff and factory share one image. Each version states its level, by a LEVEL record right behind its
+ * VERSION record: kind 3, one body byte. A run states a level as it begins, in fir_begin or fir_run. */
+#define FIR_PORTAL 0
+#define FIR_STAFF 1
+#define FIR_FACTORY 2 /* the highest: a run that states a number above it counts as this one */
+
+/* A version CALLs versions of its own level or lower ones alone (18); a DISPATCH passes over versions above the level of
+ * the version that it stands in, also where a lower version forces the block; and a run begins at a version of its level
+ * or a lower one alone (19). So no version above the run's level is ever entered, whatever the arguments, steps, budgets
+ * and changes of the image are. At each higher level the run is the same: nothing of its level is kept in the state.
+ *
+ * What that protects from: somebody who chooses entry, arguments and budgets, and for whom the controller states the level,
+ * reaches nothing above it. What it does not protect from:
+ *   - Who may state which level is the controller's business: the library takes the number as it is given.
+ *   - A state that was begun is stepped without a level, by whoever has it. Where somebody may not go on with a run that
+ *     others began, the controller does not lend them its state.
+ *   - Whoever may write an image, or a stored image or state, writes its levels and its calls too. The questions ask whether
+ *     an image keeps to the levels that it states, not who stated them. fir_change compares the levels of versions with a
+ *     live call, which are among their bytes, and no others.
+ *   - Levels part no data. A version gives arguments, vectors and promises to those that it calls. Whoever is given a
+ *     promise, of a lower level too, may force it, which executes its block with the rights of the version that it stands
+ *     in, and by PEEK and POKE read and write the names of its call. fir_look shows all.
+ *   - A host that was compiled for a library before levels, and is not compiled again, passes other arguments than the
+ *     library takes. */
+
 /* ---- Refusals: the question that says no, in the order in which they are put ---- */
 
 #define FIR_ACCEPTED 0           /* none does */
 #define FIR_REFUSED_SIZE 1       /* the image has 1 to 32,768 bytes */
 #define FIR_REFUSED_RECORDS 2    /* each record has a full head, a length of at least 4, and ends inside the image */
 #define FIR_REFUSED_KINDS 3      /* each kind is known, its length the one its fields make */
-#define FIR_REFUSED_BOUNDS 4     /* numbers, counts, marks, op and n are in bounds, records in order */
+#define FIR_REFUSED_BOUNDS 4     /* numbers, counts, marks, levels, op and n are in bounds, records in order */
 #define FIR_REFUSED_NUMBERING 5  /* the first version is 0.0, each next one follows on it */
 #define FIR_REFUSED_TYPE_BYTES 6 /* each type byte is allowed at its place */
 #define FIR_REFUSED_EXISTENCE 7  /* what is named exists, and every block but 0 is named by exactly one PROM */
 #define FIR_REFUSED_SKIPS 14     /* no SKIP goes past the end of its block, or of a skipped part that it stands in */
 #define FIR_REFUSED_TYPES 8      /* types fit */
+#define FIR_REFUSED_CALLS 18     /* no CALL names a version of a higher level */
 #define FIR_REFUSED_EFFECTS 9    /* each block's mark covers its effect */
 #define FIR_REFUSED_FLOW 10      /* flow holds */
 #define FIR_REFUSED_ENTRY 11     /* the entry exists */
+#define FIR_REFUSED_LEVEL 19     /* the entry is of the run's level or lower */
 #define FIR_REFUSED_ARGUMENTS 12 /* the argument words are used up, each argument matching its parameter */
 #define FIR_REFUSED_BUFFER 13    /* the result buffer has at least 16 places */
 #define FIR_REFUSED_CHANGE 15    /* every version with a live call has the same bytes and number in both images */
@@ -77,8 +107,8 @@ typedef struct fir_verdict {
     uint8_t question;
 } fir_verdict;
 
-/* Whether a run has begun, or goes on under a new image: FIR_ACCEPTED, or the question that refuses it, 1 to 15, and the
- * offset. With FIR_ACCEPTED and 11 to 13 the offset is 0. */
+/* Whether a run has begun, or goes on under a new image: FIR_ACCEPTED, or the question that refuses it, 1 to 15, 18 or 19,
+ * and the offset. With FIR_ACCEPTED, 11 to 13 and 19 the offset is 0. */
 typedef struct fir_entry {
     uint16_t offset;
     uint8_t question;
@@ -188,8 +218,8 @@ size_t fir_report_in(const uint8_t *image, size_t image_length, uint8_t form, ui
  * number, and all else stays byte for byte. The moved image stands in the buffer from place 0 on, and `detail` is its length.
  * It passes the questions of its form, with the same text; moved back it is the same image again, byte for byte.
  *
- * The image is first put to the questions of the form that it comes from, 1 to 10 and 14. Then 16, at the first literal that
- * does not fit 32 bits, which only fir_narrow meets; then 17, at 0. A buffer of FIR_IMAGE_BYTES is always long enough for what
+ * The image is first put to the questions of the form that it comes from, 1 to 10, 14 and 18. Then 16, at the first literal
+ * that does not fit 32 bits, which only fir_narrow meets; then 17, at 0. A buffer of FIR_IMAGE_BYTES is always long enough for what
  * the bound lets through, and for fir_narrow one as long as the image. A refusal writes nothing; places of the buffer past the
  * moved image stay. */
 fir_verdict fir_widen(const uint8_t *image, size_t image_length, uint8_t *out, size_t out_length);
@@ -197,11 +227,12 @@ fir_verdict fir_narrow(const uint8_t *image, size_t image_length, uint8_t *out, 
 
 /* ---- Running ---- */
 
-/* Begins a run of a version of a function and writes its state. Argument words are -1 and an integer, or 0 to 16 and that
- * many integers, for each parameter; a head word counts with all of its 64 bits. The buffer is asked for its length only.
- * Where the run is refused, the state is as it was. */
-fir_entry fir_begin(const uint8_t *image, size_t image_length, size_t function, size_t version, const int64_t *words,
-                    size_t words_length, const int64_t *buffer, size_t buffer_length, fir_state *state);
+/* Begins a run of a version of a function at a level and writes its state. Argument words are -1 and an integer, or 0 to 16
+ * and that many integers, for each parameter; a head word counts with all of its 64 bits, as a level does. The buffer is
+ * asked for its length only. Where the run is refused, the state is as it was. */
+fir_entry fir_begin(const uint8_t *image, size_t image_length, size_t level, size_t function, size_t version,
+                    const int64_t *words, size_t words_length, const int64_t *buffer, size_t buffer_length,
+                    fir_state *state);
 
 /* Takes a single step. */
 fir_said fir_step(const uint8_t *image, size_t image_length, fir_state *state);
@@ -211,16 +242,18 @@ fir_said fir_step(const uint8_t *image, size_t image_length, fir_state *state);
 fir_answer fir_budget(const uint8_t *image, size_t image_length, fir_state *state, uint32_t budget, int64_t *buffer,
                       size_t buffer_length);
 
-/* Begins a run and takes at most `budget` steps. Where it is refused, the state is as it was. */
-fir_answer fir_run(const uint8_t *image, size_t image_length, size_t function, size_t version, const int64_t *words,
-                   size_t words_length, uint32_t budget, int64_t *buffer, size_t buffer_length, fir_state *state);
+/* Begins a run at a level and takes at most `budget` steps. Where it is refused, the state is as it was. */
+fir_answer fir_run(const uint8_t *image, size_t image_length, size_t level, size_t function, size_t version,
+                   const int64_t *words, size_t words_length, uint32_t budget, int64_t *buffer, size_t buffer_length,
+                   fir_state *state);
 
 /* ---- A new image for a run that goes on ---- */
 
 /* Whether the run of a state, ended or not, may go on under a new image in place of the one in force: FIR_ACCEPTED, or the
- * question that refuses it and its offset. Put are the questions to the new image, 1 to 10 and 14, and then 15; the old
- * image is not asked again. 15 is at the new image's first version with a live call that differs, or at the new image's
- * length if none differs and one is missing. A run that is DONE has no live call and may go on under any accepted image.
+ * question that refuses it and its offset. Put are the questions to the new image, 1 to 10, 14 and 18, and then 15; the
+ * old image is not asked again, and no level is stated. 15 is at the new image's first version with a live call that
+ * differs, or at the new image's length if none differs and one is missing. A run that is DONE has no live call and may go
+ * on under any accepted image.
  *
  * Nothing is written and no step is taken: the state is carried over whole, and the answer alone says under which image it
  * goes on. With FIR_ACCEPTED the new image is in force from then on, and the old one need not be kept; else the old image
@@ -251,7 +284,8 @@ fir_value fir_look(const fir_state *state, size_t call, size_t place);
 /* What the search of a DISPATCH comes to: how many versions it looks at, and how many the function has. */
 typedef struct fir_searched {
     uint8_t dispatch; /* 1 where the state stands at a DISPATCH; else 0, and the others are 0 */
-    uint8_t looked;   /* the number of the first version that fits plus 1, or all of the function where none does */
+    uint8_t looked;   /* the number of the first version that fits plus 1, or all of the function where none does; those
+                       * that are passed over for their level are among them */
     uint8_t versions; /* how many versions the function has */
 } fir_searched;
 

@@ -31,6 +31,7 @@ static inline void record(image *to, unsigned kind, const uint8_t *body, size_t 
 enum {
     VERSION = 1,
     BLOCK = 2,
+    LEVEL = 3,
     LIT_32 = 16, /* of the form of 32 bits */
     VEC = 20,
     ARITH = 24,
@@ -48,6 +49,7 @@ static inline void countdown(image *to, unsigned busy)
     unsigned i;
     to->length = 0;
     RECORD(to, VERSION, 0, 0, 1, 4, 2, 1, 2, 2, 2, 2);
+    RECORD(to, LEVEL, FIR_PORTAL);
     RECORD(to, BLOCK, 0, 3, (uint8_t)(busy + 3));
     RECORD(to, LIT, 1, 1, 0, 0, 0, 0, 0, 0, 0);
     RECORD(to, ARITH, 2, 1, 0, 1);
@@ -63,6 +65,7 @@ static inline void chain(image *to, unsigned functions)
     to->length = 0;
     for (f = 0; f < functions; f++) {
         RECORD(to, VERSION, (uint8_t)f, 0, 1, 3, 2, 1, 2, 2, 2);
+        RECORD(to, LEVEL, FIR_PORTAL);
         RECORD(to, BLOCK, 0, 2, 48);
         RECORD(to, LIT, 1, 1, 0, 0, 0, 0, 0, 0, 0);
         for (i = 0; i < 46; i++)
@@ -80,6 +83,7 @@ static inline void nested(image *to)
     unsigned b;
     to->length = 0;
     RECORD(to, VERSION, 0, 0, 1, 16, 2, 8, 2, 4, 4, 4, 4, 4, 4, 4, 2, 2, 2, 2, 2, 2, 2, 2);
+    RECORD(to, LEVEL, FIR_FACTORY);
     for (b = 0; b < 8; b++) {
         RECORD(to, BLOCK, 0, (uint8_t)(8 + b), b < 7 ? 2 : 1);
         if (b < 7) {
@@ -90,17 +94,19 @@ static inline void nested(image *to)
         }
     }
     RECORD(to, VERSION, 1, 0, 1, 1, 2, 1, 2);
+    RECORD(to, LEVEL, FIR_PORTAL);
     RECORD(to, BLOCK, 0, 0, 0);
 }
 
-/* Versions of `count` literals each, at either end of 32 bits, in a form. */
+/* Versions of `count` literals each, at either end of 32 bits, in a form, and an ARITH; their levels go round. */
 static inline void literals(image *to, unsigned form, unsigned versions, unsigned count)
 {
     unsigned v, i;
     to->length = 0;
     for (v = 0; v < versions; v++) {
         RECORD(to, VERSION, (uint8_t)(v / 4), (uint8_t)(v % 4), 0, 1, 2, 1, 2);
-        RECORD(to, BLOCK, 0, 0, (uint8_t)count);
+        RECORD(to, LEVEL, (uint8_t)(v % (FIR_FACTORY + 1)));
+        RECORD(to, BLOCK, 0, 0, (uint8_t)(count + 1));
         for (i = 0; i < count; i++) {
             const uint8_t low = i % 2 == 0 ? 255 : 0, high = i % 2 == 0 ? 127 : 128, sign = i % 2 == 0 ? 0 : 255;
             if (form == FIR_FORM_32)
@@ -108,6 +114,7 @@ static inline void literals(image *to, unsigned form, unsigned versions, unsigne
             else
                 RECORD(to, LIT, 0, low, low, low, high, sign, sign, sign, sign);
         }
+        RECORD(to, ARITH, 0, 4, 0, 0);
     }
 }
 
@@ -120,6 +127,7 @@ static inline void searching(image *to, unsigned versions, unsigned fitting)
     unsigned v;
     to->length = 0;
     RECORD(to, VERSION, 0, 0, 1, 2, 2, 2, 2, 4);
+    RECORD(to, LEVEL, FIR_PORTAL);
     RECORD(to, BLOCK, 0, 0, 3);
     RECORD(to, LIT, 0, 1, 0, 0, 0, 0, 0, 0, 0);
     RECORD(to, PROM, 1, 1);
@@ -127,8 +135,44 @@ static inline void searching(image *to, unsigned versions, unsigned fitting)
     RECORD(to, BLOCK, 0, 0, 0);
     for (v = 0; v < versions; v++) {
         RECORD(to, VERSION, 1, (uint8_t)v, 8, 8, 2, 1, 2, 4, 4, 4, 4, 4, 4, v == fitting ? 4 : 3);
+        RECORD(to, LEVEL, FIR_PORTAL);
         RECORD(to, BLOCK, 0, 0, 0);
     }
+}
+
+#define ALL_LEVELS (FIR_FACTORY + 1)
+
+/* 0.0 to 0.2, of the portal, site staff and the factory, dispatch on function 1; its versions 1.0 to 1.2 are of the factory,
+ * site staff and the portal, and give 10 to 12. */
+static inline void leveled(image *to)
+{
+    unsigned v;
+    to->length = 0;
+    for (v = 0; v < ALL_LEVELS; v++) {
+        RECORD(to, VERSION, 0, (uint8_t)v, 1, 1, 2, 1, 2);
+        RECORD(to, LEVEL, (uint8_t)v);
+        RECORD(to, BLOCK, 0, 0, 1);
+        RECORD(to, DISPATCH, 0, 1, 0, 2, 1, 2, 0);
+    }
+    for (v = 0; v < ALL_LEVELS; v++) {
+        RECORD(to, VERSION, 1, (uint8_t)v, 1, 1, 2, 1, 2);
+        RECORD(to, LEVEL, (uint8_t)(FIR_FACTORY - v));
+        RECORD(to, BLOCK, 0, 0, 1);
+        RECORD(to, LIT, 0, (uint8_t)(10 + v), 0, 0, 0, 0, 0, 0, 0);
+    }
+}
+
+/* 0.0 of a level calls 0.1 of a level. The CALL stands at 23. */
+static inline void calling(image *to, unsigned own, unsigned called)
+{
+    to->length = 0;
+    RECORD(to, VERSION, 0, 0, 1, 1, 2, 1, 2);
+    RECORD(to, LEVEL, (uint8_t)own);
+    RECORD(to, BLOCK, 0, 0, 1);
+    RECORD(to, CALL, 0, 0, 1, 1, 0);
+    RECORD(to, VERSION, 0, 1, 1, 1, 2, 1, 2);
+    RECORD(to, LEVEL, (uint8_t)called);
+    RECORD(to, BLOCK, 0, 0, 0);
 }
 
 #endif

@@ -25,7 +25,7 @@ static void same(const char *what, size_t is, size_t wanted)
 /* The bytes between the length and the value of a state, which no call writes. */
 static void padding_stays(void)
 {
-    static const uint8_t identity[] = {11, 0, 1, 0, 0, 0, 1, 1, 2, 1, 2, 7, 0, 2, 0, 0, 0, 0};
+    static const uint8_t identity[] = {11, 0, 1, 0, 0, 0, 1, 1, 2, 1, 2, 5, 0, 3, 0, 0, 7, 0, 2, 0, 0, 0, 0};
     static const int64_t words[] = {-1, 7};
     static int64_t buffer[FIR_ITEMS];
     static fir_state state;
@@ -33,8 +33,8 @@ static void padding_stays(void)
     uint8_t *bytes = (uint8_t *)&state;
     size_t at;
     memset(&state, 0xa5, sizeof state);
-    fir_run(identity, sizeof identity, 0, 0, words, 2, 9, buffer, FIR_ITEMS, &state);
-    fir_begin(identity, sizeof identity, 0, 0, words, 2, buffer, FIR_ITEMS, &state);
+    fir_run(identity, sizeof identity, FIR_PORTAL, 0, 0, words, 2, 9, buffer, FIR_ITEMS, &state);
+    fir_begin(identity, sizeof identity, FIR_PORTAL, 0, 0, words, 2, buffer, FIR_ITEMS, &state);
     fir_step(identity, sizeof identity, &state);
     fir_budget(identity, sizeof identity, &state, 9, buffer, FIR_ITEMS);
     same("state.status", state.status, FIR_INTEGER);

@@ -62,7 +62,7 @@ static void reports(const image *narrow, const image *wide)
 int main(void)
 {
     static image narrow, wide, beyond;
-    size_t first = 11 + 7;
+    size_t first = 11 + 5 + 7;
     literals(&narrow, FIR_FORM_32, 3, 2);
     literals(&wide, FIR_FORM_64, 3, 2);
     asked(&narrow, FIR_FORM_32, FIR_ACCEPTED, 3);
@@ -87,13 +87,13 @@ int main(void)
     moves(fir_narrow, &beyond, FIR_IMAGE_BYTES, FIR_REFUSED_LITERAL, first + 13, NULL);
     moves(fir_narrow, &beyond, 0, FIR_REFUSED_LITERAL, first + 13, NULL);
 
-    /* 64 versions of 38 literals have 32,768 bytes, of 39 more */
-    literals(&narrow, FIR_FORM_32, 64, 38);
-    literals(&wide, FIR_FORM_64, 64, 38);
+    /* 64 versions of 37 literals have 32,768 bytes, of 38 more */
+    literals(&narrow, FIR_FORM_32, 64, 37);
+    literals(&wide, FIR_FORM_64, 64, 37);
     same("the longest image", wide.length, FIR_IMAGE_BYTES);
     moves(fir_widen, &narrow, FIR_IMAGE_BYTES, FIR_ACCEPTED, FIR_IMAGE_BYTES, wide.bytes);
     moves(fir_narrow, &wide, FIR_IMAGE_BYTES, FIR_ACCEPTED, narrow.length, narrow.bytes);
-    literals(&narrow, FIR_FORM_32, 64, 39);
+    literals(&narrow, FIR_FORM_32, 64, 38);
     moves(fir_widen, &narrow, FIR_IMAGE_BYTES, FIR_REFUSED_ROOM, 0, NULL);
 
     /* nothing at all, and no literal */

@@ -1,7 +1,7 @@
 #!/usr/bin/env bash
 # Tries the C interface: its header as C99 and as C++, the layout of what crosses it, the stack that each function takes, what
-# a search answers, an image moved there and back, and the examples controller, update and stored, whose output stands beside
-# them. Needs a C and a C++ compiler and valgrind. Its last line is `interface: N passed, 0 failed`; where something fails, it
+# a search answers, an image moved there and back, levels, and the examples controller, update and stored, whose output stands
+# beside them. Needs a C and a C++ compiler and valgrind. Its last line is `interface: N passed, 0 failed`; where something fails, it
 # says what and its status is 1.
 set -euo pipefail
 cd "$(dirname "$0")/../.."
@@ -30,7 +30,7 @@ ok "the header is C++98"
 c++ -x c++ -std=c++17 "${strict[@]}" -c "$out/empty.cc" -o "$out/empty_cc.o" || fail "the header as C++17"
 ok "the header is C++17"
 
-for host in layout stack search moves; do
+for host in layout stack search moves levels; do
     cc -std=c99 -O2 "${strict[@]}" "tests/interface/$host.c" "$library" -lpthread -o "$out/$host" || fail "$host does not compile"
     "$out/$host" || fail "$host"
     ok "$host"

@@ -52,7 +52,7 @@ int main(void)
         for (fitting = 0; fitting <= versions; fitting++) {
             unsigned looked = fitting < versions ? fitting + 1 : versions;
             searching(&tried, versions, fitting);
-            fir_begin(tried.bytes, tried.length, 0, 0, words, 2, buffer, FIR_ITEMS, &state);
+            fir_begin(tried.bytes, tried.length, FIR_PORTAL, 0, 0, words, 2, buffer, FIR_ITEMS, &state);
             answers("before", 0, 0, 0);
             ended(go_on(SEARCH_STEPS), FIR_STEPS);
             answers("at a DISPATCH", 1, looked, versions);

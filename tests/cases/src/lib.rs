@@ -1,15 +1,42 @@
 //! The images that the paper names, and the image of a text, for tests.
 
-/// The image of a text that is known to be well formed.
+/// The image of a text that is known to be well formed. A version that states no
+/// level is for the portal, so that a text need not speak of levels.
 #[track_caller]
 pub fn image(text: &str) -> Vec<u8> {
+    exact(&leveled(text))
+}
+
+/// The image of a text that is known to be well formed, as it stands.
+#[track_caller]
+pub fn exact(text: &str) -> Vec<u8> {
     text::assemble(text).unwrap_or_else(|error| panic!("{error}\n{text}"))
 }
 
-/// The image I of the paper.
-pub const IDENTITY: [u8; 18] = [
-    0x0B, 0x00, 0x01, 0x00, 0x00, 0x00, 0x01, 0x01, 0x02, 0x01, 0x02, 0x07, 0x00, 0x02, 0x00, 0x00,
-    0x00, 0x00,
+/// The text with a level, that of the portal, for each version that states none.
+pub fn leveled(text: &str) -> String {
+    let mut leveled = String::new();
+    let mut due = false;
+    for line in text.lines() {
+        let word = line.split_whitespace().next().unwrap_or_default();
+        let passes = word.is_empty() || word.starts_with('#') || word == "registers";
+        if due && !passes && word != "level" {
+            leveled += "  level portal\n";
+        }
+        due = word == "version" || (due && passes);
+        leveled += line;
+        leveled.push('\n');
+    }
+    if due {
+        leveled += "  level portal\n";
+    }
+    leveled
+}
+
+/// The image I of the paper, at level 0.
+pub const IDENTITY: [u8; 23] = [
+    0x0B, 0x00, 0x01, 0x00, 0x00, 0x00, 0x01, 0x01, 0x02, 0x01, 0x02, 0x05, 0x00, 0x03, 0x00, 0x00,
+    0x07, 0x00, 0x02, 0x00, 0x00, 0x00, 0x00,
 ];
 
 /// P6: a result register that is assigned, r0, or not, r1.
@@ -181,16 +208,18 @@ pub fn filling(instructions: &str) -> String {
     )
 }
 
-/// For changes of the image: 0.0, at 0 to 36, calls 1.0 twice, which adds a number
+/// For changes of the image: 0.0, at 0 to 41, calls 1.0 twice, which adds a number
 /// to its argument. After 0 steps, 4 and 8 no call of 1.0 is live.
 pub fn adding(number: i64) -> String {
     format!(
         "version 0.0(r0: int) -> int
+  level portal
   block 0 quiet -> r0
     r0 = call 1.0(r0)
     r0 = call 1.0(r0)
 version 1.0(r0: int) -> int
   registers r1: int
+  level portal
   block 0 quiet -> r0
     r1 = lit {number}
     r0 = add r0, r1
@@ -208,10 +237,11 @@ pub fn computing(op: &str) -> String {
     )
 }
 
-/// Sixty-four bits: a body that gives what a record, at 18, assigns to r0.
+/// Sixty-four bits: a body that gives what a record, at 23, assigns to r0.
 pub fn giving(record: &[u8]) -> Vec<u8> {
-    let head = [11, 0, 1, 0, 0, 0, 0, 1, 2, 1, 2, 7, 0, 2, 0, 0, 0, 1];
-    [&head[..], record].concat()
+    let version = [11, 0, 1, 0, 0, 0, 0, 1, 2, 1, 2];
+    let (level, block) = ([5, 0, 3, 0, 0], [7, 0, 2, 0, 0, 0, 1]);
+    [&version[..], &level, &block, record].concat()
 }
 
 /// The greatest integer.

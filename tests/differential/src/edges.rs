@@ -1,6 +1,6 @@
 //! Images at the edges of the rules, made by hand.
 
-use cases::{image, IDENTITY};
+use cases::{exact, image, IDENTITY};
 use generator::{accepted_of, Theme};
 use reference::bounds::{MAX_IMAGE, VERSIONS_EACH};
 
@@ -71,6 +71,7 @@ pub fn edges() -> Vec<(String, Vec<u8>)> {
         let image = image(&text);
         edges.push((text, image));
     }
+    edges.extend(LEVELS.map(|text| (text.to_string(), exact(text))));
     edges
 }
 
@@ -141,6 +142,20 @@ const AFTER: [&str; 7] = [
     "r0 = prom 1\nblock 1 quiet -> r0\nr0 = prom 1",
     "r0 = call 0.0()\nr0 = call 1.0(r0)",
     "r0 = dispatch 1(r0: int) -> int quiet",
+];
+
+/// Levels that are missing, twice, elsewhere or unknown, and calls that go up.
+const LEVELS: [&str; 8] = [
+    "version 0.0(r0: int) -> int\nblock 0 quiet -> r0",
+    "version 0.0(r0: int) -> int blocks=1",
+    "version 0.0(r0: int) -> int\nlevel staff\nlevel staff\nblock 0 quiet -> r0",
+    "version 0.0(r0: int) -> int\nblock 0 quiet -> r0\nlevel staff",
+    "level staff\nversion 0.0(r0: int) -> int\nblock 0 quiet -> r0",
+    "version 0.0(r0: int) -> int\nlevel 3\nblock 0 quiet -> r0",
+    "version 0.0(r0: int) -> int\nlevel portal\nblock 0 quiet -> r0\nr0 = call 0.1(r0)
+     version 0.1(r0: int) -> int\nlevel staff\nblock 0 quiet -> r0",
+    "version 0.0(r0: int) -> int\nlevel staff\nblock 0 quiet -> r0\nr0 = call 0.1(r0)
+     version 0.1(r0: int) -> int\nlevel portal\nblock 0 quiet -> r0",
 ];
 
 /// Records that are stray or missing.

@@ -54,15 +54,18 @@ fn nothing_begun() -> Run<'static> {
     Run::load_with_its_own_image(untouched(), &[])
 }
 
-/// Begins a run; it stands before its first step, or is untouched and refused.
+/// Begins a run at a level; it stands before its first step, or is untouched and
+/// refused.
 pub fn begin<'i>(
     image: &'i [u8],
+    level: usize,
     (function, version): (usize, usize),
     words: &[Integer],
     buffer: &[Integer],
 ) -> (Run<'i>, Result<(), Refusal>) {
     let mut run = nothing_begun();
-    let begun = run.restart(image, Entry { function, version }, words, buffer);
+    let entry = Entry { function, version };
+    let begun = run.restart(image, level, entry, words, buffer);
     (run, begun.map_err(refusal))
 }
 
@@ -92,10 +95,11 @@ pub fn search(run: &Run) -> Option<(u8, u8)> {
     Some((search.looked as u8, search.versions as u8))
 }
 
-/// A run from its start, its answer, and the steps taken; it is untouched where
-/// it is refused.
+/// A run from its start at a level, its answer, and the steps taken; it is untouched
+/// where it is refused.
 pub fn run<'i>(
     image: &'i [u8],
+    level: usize,
     (function, version): (usize, usize),
     words: &[Integer],
     budget: Steps,
@@ -103,7 +107,7 @@ pub fn run<'i>(
 ) -> (Run<'i>, Answer, Steps) {
     let mut run = nothing_begun();
     let entry = Entry { function, version };
-    let Ran { answer, steps } = run.rerun(image, entry, words, budget, buffer);
+    let Ran { answer, steps } = run.rerun(image, level, entry, words, budget, buffer);
     (run, answer_of(answer), steps)
 }
 

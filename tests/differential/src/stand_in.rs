@@ -270,6 +270,7 @@ unsafe extern "C" fn fir_narrow(
 unsafe extern "C" fn fir_begin(
     image: *const u8,
     image_length: usize,
+    level: usize,
     function: usize,
     version: usize,
     words: *const i64,
@@ -281,7 +282,7 @@ unsafe extern "C" fn fir_begin(
     let (words, buffer) = (lent(words, words_length), lent(buffer, buffer_length));
     let program = program(lent(image, image_length));
     let begun =
-        program.and_then(|program| State::begin(&program, function, version, words, buffer));
+        program.and_then(|program| State::begin(&program, level, function, version, words, buffer));
     entry(begun.map(|state| *after = snapshot(&state)))
 }
 
@@ -333,6 +334,7 @@ unsafe extern "C" fn fir_budget(
 unsafe extern "C" fn fir_run(
     image: *const u8,
     image_length: usize,
+    level: usize,
     function: usize,
     version: usize,
     words: *const i64,
@@ -345,6 +347,7 @@ unsafe extern "C" fn fir_run(
     let begun = fir_begin(
         image,
         image_length,
+        level,
         function,
         version,
         words,

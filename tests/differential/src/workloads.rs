@@ -20,6 +20,9 @@ pub struct Workload {
 }
 
 impl Workload {
+    /// The level that the run states, the highest.
+    pub const LEVEL: usize = 2;
+
     /// The words that the run begins with.
     pub const WORDS: [i64; 2] = [-1, 5];
 
@@ -50,6 +53,7 @@ fn level(function: usize, mark: &str, calls: usize) -> Vec<u8> {
     let call = format!("r0 = call {below}.0(r0)\n");
     image(&format!(
         "version {function}.0(r0: int) -> int
+           level factory
            block 0 {mark} -> r0
            {}",
         call.repeat(calls)

@@ -3,7 +3,7 @@
 use cases::{image, IDENTITY};
 use differential::comparison::{assert_report, assert_verdict, assert_written};
 use differential::edges::{edges, identities, EVERY_INSTRUCTION};
-use generator::{any, Tally};
+use generator::{any, call_up, level_fault, Tally, LEVEL_FAULTS, PLACES_OF_CALLS};
 use reference::bounds::VERSIONS;
 use reference::questions::QUESTIONS;
 use reference::{report, report_of, Program, Verdict};
@@ -15,6 +15,12 @@ const IMAGES: u64 = 220_000;
 /// The fewest of them that question 14 refuses.
 const FEWEST_14: usize = 5_000;
 
+/// The fewest of them that question 18 refuses, for a call in each place, and that 3 or 4
+/// refuses for each fault of a LEVEL record.
+const FEWEST_18: usize = 5_000;
+const FEWEST_EACH_PLACE: usize = 100;
+const FEWEST_EACH_FAULT: usize = 200;
+
 /// The texts of one in so many refused images are compared, those of accepted ones all.
 const REFUSED_TEXTS: usize = 4;
 
@@ -25,6 +31,8 @@ struct Met {
     accepted: usize,
     /// The refusals by number.
     refused: Tally<u8>,
+    /// The faults of LEVEL records, and the places of calls that go up.
+    levels: Tally<&'static str>,
     /// The accepted images with exactly 1 version.
     with_one: usize,
     /// The accepted images with exactly 64 versions.
@@ -40,6 +48,8 @@ impl Met {
         let reference = Program::accept(image);
         let verdict = Verdict::of(&reference);
         assert_verdict(image, verdict, origin);
+        let wrong = level_fault(image, verdict).or_else(|| call_up(image, verdict));
+        wrong.into_iter().for_each(|wrong| self.levels.meet(wrong));
         if self.count(verdict) {
             assert_report(image, &report_of(&reference), origin);
             self.texts += 1;
@@ -81,6 +91,7 @@ impl fmt::Display for Met {
             let count = self.refused.count(&number);
             writeln!(formatter, "{count:>8}  refused by {number}")?;
         }
+        write!(formatter, "{}", self.levels)?;
         writeln!(formatter, "{:>8}  texts compared", self.texts)
     }
 }
@@ -100,6 +111,14 @@ fn verdicts_agree() {
     assert!(generated.all(), "generated images did not meet all");
     let past_the_end = generated.refused.count(&14);
     assert!(past_the_end >= FEWEST_14, "{past_the_end} refused by 14");
+    let up = generated.refused.count(&18);
+    assert!(up >= FEWEST_18, "{up} refused by 18");
+    let places = PLACES_OF_CALLS.map(|place| (place, FEWEST_EACH_PLACE));
+    let faults = LEVEL_FAULTS.map(|fault| (fault, FEWEST_EACH_FAULT));
+    for (wrong, fewest) in places.into_iter().chain(faults) {
+        let count = generated.levels.count(&wrong);
+        assert!(count >= fewest, "{wrong}: {count}");
+    }
     assert!(at_edges.all(), "images at the edges did not meet all");
 }
 
@@ -108,7 +127,7 @@ fn reports_go_into_buffers_of_every_length() {
     let images = [
         vec![],
         IDENTITY.to_vec(),
-        IDENTITY[..17].to_vec(),
+        IDENTITY[..22].to_vec(),
         image(EVERY_INSTRUCTION),
         identities(VERSIONS),
     ];

@@ -11,6 +11,9 @@ use reference::{widened, Answer, End, Form, Program, Range, State};
 /// How many programs are generated.
 const PROGRAMS: u64 = 12_000;
 
+/// The highest level, which every entry may be begun at.
+const HIGHEST: usize = 2;
+
 /// The name of an answer, without its numbers.
 fn name(answer: Answer) -> &'static str {
     match answer {
@@ -34,12 +37,12 @@ fn run(seed: u64) -> Option<String> {
     let program = Program::accept_in(Form::Narrow, &image).expect("accepted before");
     let entry = entry(seed, &program)?;
     let words = words_before(seed, &program, entry);
-    let begun = State::begin(&program, entry.0, entry.1, &words, &[0; BUFFER]).ok()?;
+    let begun = State::begin(&program, HIGHEST, entry.0, entry.1, &words, &[0; BUFFER]).ok()?;
     let budget = Random::new(seed).pick(&[5, 60, 20_000, 20_000, 20_000, 20_000]) as Steps;
     let (mut expected, mut found) = ([-7; BUFFER], [-7; BUFFER]);
     let (after, right, count) = begun.budget_to(Range::NARROW, &program, budget, &mut expected);
     let wide = widened(&image).expect("whole records");
-    let (run, answer, steps) = engine::run(&wide, entry, &words, budget, &mut found);
+    let (run, answer, steps) = engine::run(&wide, HIGHEST, entry, &words, budget, &mut found);
     if right == Answer::Ended(End::Undef) {
         let same = if answer == right { "the same" } else { "now" };
         return Some(format!("UNDEF before, {same}: {}", name(answer)));

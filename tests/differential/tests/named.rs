@@ -1,9 +1,9 @@
 //! The cases that the paper names, with verdicts and texts worked out by hand.
 
 use cases::{
-    assigned_on_one_way, calling_with, emptied_on_one_way, emptying_after, filling, giving, image,
-    resulting, returning, skipping_inside, CALLS_ITSELF, CALL_INTO_ITSELF, DIVISION, DUP_AND_SET,
-    IDENTITY, SET_ON_SHARED, SKIPS_NONE, SKIPS_ONE, USE_INTO_ITSELF,
+    assigned_on_one_way, calling_with, emptied_on_one_way, emptying_after, exact, filling, giving,
+    image, resulting, returning, skipping_inside, CALLS_ITSELF, CALL_INTO_ITSELF, DIVISION,
+    DUP_AND_SET, IDENTITY, SET_ON_SHARED, SKIPS_NONE, SKIPS_ONE, USE_INTO_ITSELF,
 };
 use differential::comparison::{assert_report, assert_verdict};
 use differential::edges::{identities, EVERY_INSTRUCTION};
@@ -34,7 +34,7 @@ fn says(image: &[u8], expected: Verdict, text: &str) {
 }
 
 /// The identity with another byte at a place.
-fn identity_with(byte: u8, place: usize) -> [u8; 18] {
+fn identity_with(byte: u8, place: usize) -> [u8; 23] {
     let mut image = IDENTITY;
     image[place] = byte;
     image
@@ -51,8 +51,8 @@ fn p1_empty_image_is_1_at_0() {
 }
 
 #[test]
-fn p4_identity_without_its_last_byte_is_2_at_11() {
-    refuses(&IDENTITY[..17], 2, 11);
+fn p4_identity_without_its_last_byte_is_2_at_16() {
+    refuses(&IDENTITY[..22], 2, 16);
 }
 
 #[test]
@@ -75,7 +75,7 @@ fn p7_dup_set_and_owned_return_is_accepted() {
 
 #[test]
 fn p9_set_on_the_shared_vector_is_8_at_the_set() {
-    refuses(&image(SET_ON_SHARED), 8, 14 + 7 + 6 + 13 + 13);
+    refuses(&image(SET_ON_SHARED), 8, 14 + 5 + 7 + 6 + 13 + 13);
 }
 
 #[test]
@@ -90,7 +90,7 @@ fn p11_a_body_that_calls_itself_is_accepted() {
 
 #[test]
 fn mistake_one_owned_register_given_as_owned_and_borrowed_in_one_call_is_8() {
-    refuses(&image(&calling_with("r0, r0")), 8, 13 + 7);
+    refuses(&image(&calling_with("r0, r0")), 8, 13 + 5 + 7);
     // 0.0 reads r0, r1, empties r1, assigns r2; 1.0 reads r0, assigns r2.
     let image = image(&calling_with("r0, r1"));
     accepts(&image, &["0.0 2 1 1 0", "1.0 1 1 0 0"]);
@@ -110,7 +110,7 @@ fn mistake_one_owned_register_given_as_owned_and_borrowed_in_one_dispatch_is_8()
         "r0: borrow vector, r0: own vector",
         "r0: own vector, r0: own vector",
     ] {
-        refuses(&with_arguments(arguments), 8, 13 + 7);
+        refuses(&with_arguments(arguments), 8, 13 + 5 + 7);
     }
     accepts(
         &with_arguments("r0: own vector, r1: borrow vector"),
@@ -140,7 +140,7 @@ fn read_after_force(first: &str) -> Vec<u8> {
 
 #[test]
 fn mistake_reading_a_register_that_only_a_forced_block_assigned_is_10() {
-    refuses(&read_after_force(""), 10, 18);
+    refuses(&read_after_force(""), 10, 23);
     // Reads nothing; assigns r1, r2, r0; the promise captures r1.
     accepts(
         &read_after_force("r1 = lit 4"),
@@ -181,7 +181,7 @@ fn mistake_returning_kind_0_from_a_dispatch_is_6() {
                  r0 = dispatch 0(r0: any) -> {kind} quiet"
         ))
     };
-    refuses(&returning("any"), 6, 12 + 7 + 13);
+    refuses(&returning("any"), 6, 12 + 5 + 7 + 13);
     accepts(&returning("value"), &["0.0 1 2 0 0"]);
 }
 
@@ -201,7 +201,7 @@ fn the_65th_version_is_4_at_its_place() {
     let lines: Vec<String> = (0..64).map(lines).collect();
     let lines: Vec<&str> = lines.iter().map(String::as_str).collect();
     accepts(&identities(64), &lines);
-    refuses(&identities(65), 4, 64 * 18);
+    refuses(&identities(65), 4, 64 * 23);
 }
 
 #[test]
@@ -221,17 +221,17 @@ fn a_part_may_end_where_the_part_around_it_and_the_block_end() {
 
 #[test]
 fn a_skip_past_the_part_around_it_is_14_at_the_inner_skip() {
-    // VERSION 13 bytes, BLOCK 7, LIT 13, SKIP 6, LIT 13.
-    refuses(&image(&skipping_inside(2)), 14, 13 + 7 + 13 + 6 + 13);
+    // VERSION 13 bytes, LEVEL 5, BLOCK 7, LIT 13, SKIP 6, LIT 13.
+    refuses(&image(&skipping_inside(2)), 14, 13 + 5 + 7 + 13 + 6 + 13);
     // The outer part is shorter by one, so that the inner one ends behind it.
     let shorter = skipping_inside(1).replace("skip 3", "skip 2");
-    refuses(&image(&shorter), 14, 13 + 7 + 13 + 6 + 13);
+    refuses(&image(&shorter), 14, 13 + 5 + 7 + 13 + 6 + 13);
 }
 
 #[test]
 fn a_skip_of_255_instructions_is_14_at_it() {
     let longest = SKIPS_ONE.replace("skip 1", "skip 255");
-    refuses(&image(&longest), 14, 12 + 7 + 13);
+    refuses(&image(&longest), 14, 12 + 5 + 7 + 13);
 }
 
 #[test]
@@ -305,12 +305,110 @@ fn a_literal_is_of_kind_36_with_a_number_of_8_bytes() {
     for bytes in (0..=12).filter(|&bytes| bytes != 8) {
         let mut literal = vec![0; 5 + bytes];
         literal[..4].copy_from_slice(&[5 + bytes as u8, 0, 36, 0]);
-        refuses(&giving(&literal), 3, 18);
+        refuses(&giving(&literal), 3, 23);
     }
 }
 
 #[test]
 fn a_literal_of_kind_16_is_3_whatever_its_length() {
-    refuses(&giving(&[9, 0, 16, 0, 0, 5, 0, 0, 0]), 3, 18);
-    refuses(&giving(&[13, 0, 16, 0, 0, 5, 0, 0, 0, 0, 0, 0, 0]), 3, 18);
+    refuses(&giving(&[9, 0, 16, 0, 0, 5, 0, 0, 0]), 3, 23);
+    refuses(&giving(&[13, 0, 16, 0, 0, 5, 0, 0, 0, 0, 0, 0, 0]), 3, 23);
+}
+
+/// An identity of a level, 23 bytes; its LEVEL stands at 11, its BLOCK at 16.
+fn identity_of(numbers: &str, level: &str) -> String {
+    format!("version {numbers}(r0: int) -> int\nlevel {level}\nblock 0 quiet -> r0\n")
+}
+
+#[test]
+fn an_unknown_level_is_4_at_its_record() {
+    for level in ["portal", "staff", "factory"] {
+        accepts(&image(&identity_of("0.0", level)), &["0.0 1 0 0 0"]);
+    }
+    for level in 3..=255 {
+        refuses(&identity_with(level, 15), 4, 11);
+    }
+}
+
+#[test]
+fn a_level_of_another_length_is_3() {
+    for length in (4..9).filter(|&length| length != 5) {
+        let mut level = vec![0; length];
+        level[..4].copy_from_slice(&[length as u8, 0, 3, 0]);
+        let whole = [&IDENTITY[..11], &level, &IDENTITY[16..]].concat();
+        refuses(&whole, 3, 11);
+    }
+}
+
+#[test]
+fn a_missing_level_is_4_at_the_record_in_its_place_or_at_the_end() {
+    let without = [&IDENTITY[..11], &IDENTITY[16..]].concat();
+    refuses(&without, 4, 11);
+    refuses(&[&IDENTITY[..], &without].concat(), 4, 23 + 11);
+    refuses(&[&IDENTITY[..11], &IDENTITY].concat(), 4, 11);
+    refuses(&IDENTITY[..11], 4, 11);
+    refuses(&[&IDENTITY[..], &IDENTITY[..11]].concat(), 4, 23 + 11);
+}
+
+#[test]
+fn a_level_twice_or_elsewhere_is_4_at_it() {
+    let level = [5, 0, 3, 0, 0];
+    for (place, offset) in [(0, 0), (11, 16), (16, 16), (23, 23)] {
+        let mut image = IDENTITY.to_vec();
+        image.splice(place..place, level);
+        refuses(&image, 4, offset);
+    }
+    // In place of the only instruction, and behind it.
+    let body = "version 0.0(r0: int) -> int\nlevel staff\nblock 0 quiet -> r0 count=1\n";
+    refuses(&exact(&format!("{body}level staff\nr0 = lit 0")), 4, 23);
+    refuses(&exact(&format!("{body}r0 = lit 0\nlevel staff")), 4, 36);
+}
+
+#[test]
+fn a_call_up_is_18_at_the_call_and_others_are_accepted() {
+    let levels = ["portal", "staff", "factory"];
+    for (own, caller) in levels.iter().enumerate() {
+        for (named, called) in levels.iter().enumerate() {
+            let call = identity_of("0.0", caller) + "r0 = call 0.1(r0)\n";
+            let image = image(&(call + &identity_of("0.1", called)));
+            if named <= own {
+                accepts(&image, &["0.0 1 1 0 0", "0.1 1 0 0 0"]);
+            } else {
+                refuses(&image, 18, 23);
+            }
+        }
+    }
+}
+
+#[test]
+fn a_call_up_is_18_in_a_promise_block_and_in_a_skipped_part() {
+    let text = |body: &str| {
+        let head = "version 0.0(r0: int) -> int\nregisters r1: quiet promise\nlevel portal\n";
+        let called = identity_of("0.1", "factory");
+        image(&format!("{head}block 0 quiet -> r0\n{body}\n{called}"))
+    };
+    let promise = "r1 = prom 1\nblock 1 quiet -> r0\nr0 = call 0.1(r0)";
+    refuses(&text(promise), 18, 12 + 5 + 7 + 6 + 7);
+    let skipped = "skip 1 unless r0\nr0 = call 0.1(r0)";
+    refuses(&text(skipped), 18, 12 + 5 + 7 + 6);
+    // A DISPATCH of the same function is asked nothing.
+    let dispatch = "r0 = dispatch 0(r0: int) -> int quiet";
+    let body = identity_of("0.0", "portal") + dispatch + "\n" + &identity_of("0.1", "factory");
+    accepts(&image(&body), &["0.0 1 1 0 0", "0.1 1 0 0 0"]);
+}
+
+#[test]
+fn eighteen_comes_after_8_and_before_9_and_10() {
+    let called = |rest: &str| format!("version 0.1(r0: int) -> int\nlevel staff\n{rest}");
+    let caller = identity_of("0.0", "portal") + "r0 = call 0.1(r0)\n";
+    let vector = called("block 0 quiet -> r0\n").replace("-> int", "-> vector");
+    refuses(&image(&format!("{caller}{vector}")), 8, 23);
+    let reflective = called("block 0 reflective -> r0\n");
+    refuses(&image(&format!("{caller}{reflective}")), 18, 23);
+    let across = caller.replace("portal", "staff");
+    refuses(&image(&format!("{across}{reflective}")), 9, 16);
+    let unread =
+        "version 0.1(r0: int) -> int\nregisters r1: int\nlevel staff\nblock 0 quiet -> r1\n";
+    refuses(&image(&format!("{caller}{unread}")), 18, 23);
+    refuses(&image(&format!("{across}{unread}")), 10, 32);
 }

@@ -10,6 +10,9 @@ use differential::tuned::{Code, Machine};
 use reference::bounds::{Steps, BUFFER};
 use reference::{Answer, End, Integer, Program, Refusal, Said, State};
 
+/// The level that the runs state unless another is named.
+const PORTAL: usize = 0;
+
 /// What the places of a lent buffer hold before a run.
 const UNTOUCHED: Integer = 77;
 
@@ -29,7 +32,7 @@ fn gives(
     buffer[..items.len()].copy_from_slice(items);
 
     let mut found = vec![UNTOUCHED; BUFFER + 4];
-    let (mut run, begun) = engine::begin(image, (0, 0), words, &found);
+    let (mut run, begun) = engine::begin(image, PORTAL, (0, 0), words, &found);
     assert_eq!(begun, Ok(()), "the proved engine begins");
     let (answer, steps) = engine::budget(&mut run, budget, &mut found);
     assert_eq!((answer, steps), expected, "by the proved engine");
@@ -37,7 +40,7 @@ fn gives(
 
     let program = Program::accept(image).expect("an accepted image");
     let mut found = vec![UNTOUCHED; BUFFER + 4];
-    let begun = State::begin(&program, 0, 0, words, &found).expect("the reference begins");
+    let begun = State::begin(&program, PORTAL, 0, 0, words, &found).expect("the reference begins");
     let (_, answer, steps) = begun.clone().budget(&program, budget, &mut found);
     assert_eq!((answer, steps), expected, "by the reference");
     assert_eq!(found, buffer, "by the reference");
@@ -161,7 +164,7 @@ fn a_head_word_counts_with_all_of_its_bits() {
     let (number, offset) = (12, 0);
     for head in [1 << 32, (1 << 32) - 1, (1 << 32) + 1, -(1 << 32) - 1, LEAST] {
         let words = [head, 7];
-        let (_, begun) = engine::begin(&IDENTITY, (0, 0), &words, &[0; BUFFER]);
+        let (_, begun) = engine::begin(&IDENTITY, PORTAL, (0, 0), &words, &[0; BUFFER]);
         assert_eq!(begun, Err(Refusal { number, offset }), "{head}");
     }
 }
@@ -196,7 +199,7 @@ fn vectors_is_said_at_the_65th_and_not_counted() {
 fn the_end_is_given_again_to_steps_and_budgets() {
     let image = image(DUP_AND_SET);
     let mut buffer = [UNTOUCHED; BUFFER];
-    let (mut run, _) = engine::begin(&image, (0, 0), &[1, 1], &buffer);
+    let (mut run, _) = engine::begin(&image, PORTAL, (0, 0), &[1, 1], &buffer);
     engine::budget(&mut run, 5, &mut buffer);
     assert_eq!(engine::step(&mut run), Said::Ended(End::Vector(1)));
     let mut buffer = [UNTOUCHED; BUFFER];
@@ -263,7 +266,7 @@ fn changes(old: &str, steps: Steps, new: &str, expected: Result<(), Refusal>, gi
     let (old, new, buffer) = (image(old), image(new), &mut [UNTOUCHED; BUFFER]);
     let end = (done(gives), 9 - steps);
 
-    let (mut run, _) = engine::begin(&old, (0, 0), &[-1, 5], buffer);
+    let (mut run, _) = engine::begin(&old, PORTAL, (0, 0), &[-1, 5], buffer);
     assert_eq!(engine::budget(&mut run, steps, buffer).1, steps);
     let found = engine::change(&mut run, new.clone());
     assert_eq!(found, expected, "by the proved engine");
@@ -271,7 +274,7 @@ fn changes(old: &str, steps: Steps, new: &str, expected: Result<(), Refusal>, gi
     assert_eq!(found, end, "by the proved engine");
 
     let program = Program::accept(&old).expect("an accepted image");
-    let state = State::begin(&program, 0, 0, &[-1, 5], buffer).expect("a run begins");
+    let state = State::begin(&program, PORTAL, 0, 0, &[-1, 5], buffer).expect("a run begins");
     let (state, ..) = state.budget(&program, steps, buffer);
     let found = reference::change(&old, &new, &state);
     assert_eq!(found, expected, "by the reference");
@@ -293,7 +296,7 @@ fn a_change_is_taken_where_what_differs_has_no_live_call() {
 fn a_change_is_refused_by_15_where_a_version_with_a_live_call_differs() {
     let no = |offset| Err(Refusal { number: 15, offset });
     for steps in [1, 2, 3, 5, 6, 7] {
-        changes(&adding(1), steps, &adding(100), no(36), 5 + 1 + 1);
+        changes(&adding(1), steps, &adding(100), no(41), 5 + 1 + 1);
     }
     // The mark of 0.0's body.
     let marked = adding(1).replacen("quiet", "reflective", 1);
@@ -307,7 +310,7 @@ fn a_change_is_refused_by_the_new_images_own_questions_first() {
     let wrong = adding(100).replace("r0 = add r0, r1", "r0 = add r0, r2");
     let refused = Err(Refusal {
         number: 7,
-        offset: 68,
+        offset: 78,
     });
     for steps in 0..9 {
         changes(&adding(1), steps, &wrong, refused, 5 + 1 + 1);
@@ -354,12 +357,12 @@ fn searching(versions: &[&str]) -> String {
 #[track_caller]
 fn searches(text: &str, words: &[Integer], steps: Steps, expected: Option<(u8, u8)>) {
     let (image, buffer) = (image(text), &mut [UNTOUCHED; BUFFER]);
-    let (mut run, _) = engine::begin(&image, (0, 0), words, buffer);
+    let (mut run, _) = engine::begin(&image, PORTAL, (0, 0), words, buffer);
     engine::budget(&mut run, steps, buffer);
     assert_eq!(engine::search(&run), expected, "by the proved engine");
 
     let program = Program::accept(&image).expect("an accepted image");
-    let state = State::begin(&program, 0, 0, words, buffer).expect("a run begins");
+    let state = State::begin(&program, PORTAL, 0, 0, words, buffer).expect("a run begins");
     let (state, ..) = state.budget(&program, steps, buffer);
     let search = state.search(&program);
     let found = search.map(|search| (search.looked(), search.versions));
@@ -407,4 +410,174 @@ fn a_run_that_is_done_stands_at_no_dispatch() {
     searches(CALLS_ITSELF, &[-1, 7], 100, None);
     let text = searching(&["any"]).replace("             r2 = dispatch 1() -> int quiet\n", "");
     searches(&text, &[-1, 7], 9, None);
+}
+
+/// Versions 0.0 to 0.2, of the portal, site staff and the factory, dispatch on function
+/// 1, whose versions are of these levels and give 10 and their number.
+fn leveled(levels: &[&str]) -> Vec<u8> {
+    let version = |numbers, level, body| {
+        let head = format!("version {numbers}(r0: int) -> int\nlevel {level}\n");
+        format!("{head}block 0 quiet -> r0\nr0 = {body}\n")
+    };
+    let mut text = String::new();
+    for (number, level) in ["portal", "staff", "factory"].iter().enumerate() {
+        let dispatch = "dispatch 1(r0: int) -> int quiet".to_string();
+        text += &version(format!("0.{number}"), level, dispatch);
+    }
+    for (number, level) in levels.iter().enumerate() {
+        text += &version(format!("1.{number}"), level, format!("lit 1{number}"));
+    }
+    image(&text)
+}
+
+/// Asserts what a run of a version of function 0 comes to at a level, by the proved
+/// engine, the reference and the tuned interpreter: a refusal, or its answer, its steps
+/// and how many versions its search looks at.
+#[track_caller]
+fn enters(image: &[u8], level: usize, version: usize, expected: Result<(Answer, Steps, u8), u8>) {
+    let no = |number| Refusal { number, offset: 0 };
+    let (words, buffer) = ([-1, 5], &mut [UNTOUCHED; BUFFER]);
+    let (mut run, begun) = engine::begin(image, level, (0, version), &words, buffer);
+    let found = begun.map(|()| {
+        let looked = engine::search(&run).expect("it stands at a DISPATCH").0;
+        let (answer, steps) = engine::budget(&mut run, 9, buffer);
+        (answer, steps, looked)
+    });
+    assert_eq!(found, expected.map_err(no), "by the proved engine");
+
+    let program = Program::accept(image).expect("an accepted image");
+    let begun = State::begin(&program, level, 0, version, &words, buffer);
+    let found = begun.clone().map(|state| {
+        let looked = state.search(&program).expect("it stands at a DISPATCH");
+        let (_, answer, steps) = state.budget(&program, 9, buffer);
+        (answer, steps, looked.looked())
+    });
+    assert_eq!(found, expected.map_err(no), "by the reference");
+
+    if let (Ok(state), Ok((answer, steps, _))) = (begun, expected) {
+        let code = Code::new(&program);
+        let mut tuned = Machine::new(&program, &code, &state);
+        assert_eq!(tuned.budget(9), (answer, steps), "by the tuned interpreter");
+    }
+}
+
+#[test]
+fn an_entry_above_the_runs_level_is_19() {
+    let image = leveled(&["portal"]);
+    for (level, enterable) in [(0, 1), (1, 2), (2, 3), (3, 3), (256, 3), (usize::MAX, 3)] {
+        for version in 0..3 {
+            let may = version < enterable;
+            let expected = if may { Ok((done(10), 4, 1)) } else { Err(19) };
+            enters(&image, level, version, expected);
+        }
+    }
+}
+
+#[test]
+fn eleven_comes_before_19_and_19_before_12_and_13() {
+    let image = leveled(&["portal"]);
+    for (version, words, places, number) in [
+        (3, &[][..], 0, 11),
+        (2, &[], 0, 19),
+        (0, &[], 0, 12),
+        (0, &[-1, 5], 15, 13),
+    ] {
+        let buffer = vec![0; places];
+        let (_, begun) = engine::begin(&image, PORTAL, (0, version), words, &buffer);
+        assert_eq!(begun, Err(Refusal { number, offset: 0 }), "{number}");
+    }
+}
+
+#[test]
+fn a_dispatch_passes_over_versions_above_its_own_versions_level() {
+    let image = leveled(&["factory", "staff", "portal"]);
+    // At each level that may enter: the level of 0.0 to 0.2 decides, not the run's.
+    for level in 0..=3 {
+        for version in 0..=level.min(2) {
+            let called = 2 - version as u8;
+            let answer = done(10 + Integer::from(called));
+            enters(&image, level, version, Ok((answer, 4, called + 1)));
+        }
+    }
+}
+
+#[test]
+fn a_dispatch_that_finds_versions_above_alone_is_undef_and_looks_at_all() {
+    let undef = Answer::Ended(End::Undef);
+    let image = leveled(&["factory", "staff", "factory"]);
+    enters(&image, 2, 0, Ok((undef, 1, 3)));
+    enters(&image, 2, 1, Ok((done(11), 4, 2)));
+    enters(&image, 2, 2, Ok((done(10), 4, 1)));
+}
+
+/// 0.0, of site staff, makes a promise whose block dispatches on function 2, and gives
+/// it to 1.0, of the portal, which forces it. Function 2 has a version of each level.
+const FORCED_BELOW: &str = "
+    version 0.0(r0: int) -> int
+      registers r1: quiet promise
+      level staff
+      block 0 quiet -> r0
+        r1 = prom 1
+        r0 = call 1.0(r1)
+      block 1 quiet -> r0
+        r0 = dispatch 2(r0: int) -> int quiet
+    version 1.0(r0: quiet promise) -> int
+      registers r1: int
+      level portal
+      block 0 quiet -> r1
+        r1 = force r0
+    version 2.0(r0: int) -> int
+      level factory
+      block 0 quiet -> r0
+        r0 = lit 20
+    version 2.1(r0: int) -> int
+      level staff
+      block 0 quiet -> r0
+        r0 = lit 21
+    version 2.2(r0: int) -> int
+      level portal
+      block 0 quiet -> r0
+        r0 = lit 22
+";
+
+#[test]
+fn a_dispatch_goes_by_the_version_that_holds_it_while_a_lower_one_forces_it() {
+    let (image, buffer) = (image(FORCED_BELOW), &mut [UNTOUCHED; BUFFER]);
+    let (mut run, begun) = engine::begin(&image, 1, (0, 0), &[-1, 5], buffer);
+    assert_eq!(begun, Ok(()));
+    engine::budget(&mut run, 3, buffer);
+    assert_eq!(engine::search(&run), Some((2, 3)));
+    // DISPATCH, LIT, and the ends of 2.1, the forced block, 1.0 and 0.0.
+    assert_eq!(engine::budget(&mut run, 9, buffer), (done(21), 6));
+
+    let program = Program::accept(&image).expect("an accepted image");
+    let state = State::begin(&program, 1, 0, 0, &[-1, 5], buffer).expect("a run begins");
+    let code = Code::new(&program);
+    let mut tuned = Machine::new(&program, &code, &state);
+    assert_eq!(tuned.budget(9), (done(21), 9), "by the tuned interpreter");
+    let (_, answer, steps) = state.budget(&program, 9, buffer);
+    assert_eq!((answer, steps), (done(21), 9), "by the reference");
+}
+
+#[test]
+fn a_change_is_refused_by_15_where_a_live_versions_level_differs() {
+    let leveled = |level: &str| {
+        let text = adding(1).replacen("portal", "factory", 1);
+        text.replace("portal", level)
+    };
+    let no = Err(Refusal {
+        number: 15,
+        offset: 41,
+    });
+    let (old, buffer) = (image(&leveled("staff")), &mut [UNTOUCHED; BUFFER]);
+    for level in ["portal", "factory"] {
+        let new = image(&leveled(level));
+        for (steps, expected) in [(0, Ok(())), (1, no), (3, no), (4, Ok(())), (5, no)] {
+            let (mut run, _) = engine::begin(&old, 2, (0, 0), &[-1, 5], buffer);
+            engine::budget(&mut run, steps, buffer);
+            assert_eq!(engine::change(&mut run, new.clone()), expected, "{level}");
+            let ran = engine::budget(&mut run, 9, buffer);
+            assert_eq!(ran, (done(7), 9 - steps), "{level} after {steps}");
+        }
+    }
 }

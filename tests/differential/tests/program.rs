@@ -105,13 +105,13 @@ fn inputs_of_32768_bytes_are_images() {
     assert!(matches!(verdict(&largest), Verdict::Accepted(_)));
     prints(&largest, &report(&largest));
     prints(&[0; 32_768], "refused 2 at 0\n");
-    prints(&extended(&IDENTITY, 32_768), "refused 2 at 18\n");
+    prints(&extended(&IDENTITY, 32_768), "refused 2 at 23\n");
 }
 
 #[test]
 fn inputs_of_more_than_32768_bytes_are_refused_by_1() {
     let largest = largest();
-    for length in [32_769, 65_535, 65_536, 65_536 + 18, 98_304, 100_000] {
+    for length in [32_769, 65_535, 65_536, 65_536 + 23, 98_304, 100_000] {
         prints(&extended(&largest, length), "refused 1 at 0\n");
         prints(&extended(&IDENTITY, length), "refused 1 at 0\n");
     }
@@ -158,7 +158,7 @@ fn input_in_single_bytes_is_put_together() {
     prints_in_pieces(&IDENTITY, 1, "0.0 1 0 0 0\naccepted 1\n");
     let image = image(EVERY_INSTRUCTION);
     prints_in_pieces(&image, 1, &report(&image));
-    prints_in_pieces(&IDENTITY[..17], 1, "refused 2 at 11\n");
+    prints_in_pieces(&IDENTITY[..22], 1, "refused 2 at 16\n");
 }
 
 #[test]

@@ -13,6 +13,9 @@ const PROGRAMS: u64 = 12_000;
 /// The most steps that a run is given.
 const MOST: usize = 20_000;
 
+/// The highest level.
+const HIGHEST: usize = 2;
+
 /// A budget: none, a few steps, or many.
 fn any_budget(random: &mut Random) -> Steps {
     match random.below(10) {
@@ -44,7 +47,7 @@ fn compare(image: &[u8], seed: u64, met: &mut Tally<&'static str>) {
             break;
         }
     }
-    if let Some(ending) = Watched::new(&program, state, &format!("seed {seed}")).ending() {
+    if let Some(ending) = Watched::new(&program, state, HIGHEST, &format!("seed {seed}")).ending() {
         met.meet(ending);
     }
 }

@@ -3,14 +3,17 @@
 use differential::difference::difference;
 use differential::engine;
 use differential::snapshot::{state_of, untouched};
-use generator::{accepted, entry, words, Random};
+use generator::{accepted, entry, level, words, Random};
 use library::{Held, Run, CELLS};
 use reference::bounds::{Steps, BUFFER};
-use reference::{Answer, Program, State, Value};
+use reference::{Answer, Integer, Program, State, Value};
 
 /// How many programs are generated, and the fewest of them that begin.
 const PROGRAMS: u64 = 4_000;
 const FEWEST_RUNS: usize = 2_500;
+
+/// The highest level.
+const HIGHEST: usize = 2;
 
 /// Does each place of each call show what the reference holds there, and no other place anything?
 fn assert_seen(proved: &Run, expected: &State, origin: &str) -> usize {
@@ -32,6 +35,22 @@ fn assert_seen(proved: &Run, expected: &State, origin: &str) -> usize {
     seen
 }
 
+/// Asserts that a run comes to the same at each higher level.
+fn assert_same_at_higher_levels<'i>(
+    level: usize,
+    (run, answer, steps): (&Run, Answer, Steps),
+    buffer: &[Integer],
+    begin: impl Fn(usize, &mut [Integer]) -> (Run<'i>, Answer, Steps),
+) {
+    for higher in [level.saturating_add(1), level.max(HIGHEST), usize::MAX] {
+        let mut again = vec![-7; buffer.len()];
+        let same = begin(higher, &mut again);
+        assert_eq!((same.1, same.2), (answer, steps), "at {higher}");
+        assert!(same.0.state() == run.state(), "at {higher}");
+        assert_eq!(again, buffer, "at {higher}");
+    }
+}
+
 /// Runs a program by one call on each side; how many filled places were seen,
 /// none where the run is refused.
 fn run(seed: u64) -> Option<usize> {
@@ -40,12 +59,13 @@ fn run(seed: u64) -> Option<usize> {
     let program = Program::accept(&image).expect("an accepted image");
     let entry = entry(seed, &program)?;
     let words = words(seed, &program, entry);
+    let level = level(seed, &program, entry);
     let mut random = Random::new(seed);
     let budget = random.pick(&[0, 1, 5, 20, 60, 20_000]) as Steps;
     let places = random.pick(&[BUFFER, BUFFER, BUFFER + 3, BUFFER - 1]);
     let (mut expected, mut found) = (vec![-7; places], vec![-7; places]);
-    let (run, answer, steps) = engine::run(&image, entry, &words, budget, &mut found);
-    match State::begin(&program, entry.0, entry.1, &words, &expected) {
+    let (run, answer, steps) = engine::run(&image, level, entry, &words, budget, &mut found);
+    match State::begin(&program, level, entry.0, entry.1, &words, &expected) {
         Err(refusal) => {
             assert_eq!((answer, steps), (Answer::Refused(refusal), 0), "{origin}");
             assert!(
@@ -65,6 +85,10 @@ fn run(seed: u64) -> Option<usize> {
             assert_eq!(difference(&after, &stands_for), None, "{origin}");
             let search = after.search(&program).map(|s| (s.looked(), s.versions));
             assert_eq!(engine::search(&run), search, "{origin}");
+            let begin = |level, buffer: &mut [Integer]| {
+                engine::run(&image, level, entry, &words, budget, buffer)
+            };
+            assert_same_at_higher_levels(level, (&run, right, count), &found, begin);
             Some(assert_seen(&run, &after, &origin))
         }
     }

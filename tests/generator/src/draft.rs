@@ -3,7 +3,7 @@
 use reference::bounds::VERSIONS_EACH;
 use reference::program::{Block, Version};
 use reference::record::{BlockRecord, VersionRecord};
-use reference::{Instruction, Mark, Program, Record, Register, Type};
+use reference::{Instruction, Level, Mark, Program, Record, Register, Type};
 
 /// The versions of an image.
 #[derive(Clone, Debug, Default)]
@@ -25,6 +25,8 @@ pub struct DraftVersion {
     pub returns: Type,
     /// The types of the registers.
     pub types: Vec<Type>,
+    /// The level.
+    pub level: Level,
     /// The blocks by number.
     pub blocks: Vec<DraftBlock>,
 }
@@ -123,20 +125,22 @@ impl DraftVersion {
             parameters: version.head.parameters.into(),
             returns: version.head.returns,
             types: version.head.types.clone(),
+            level: version.level,
             blocks: version.blocks.iter().map(block).collect(),
         }
     }
 
     /// The records of the version.
     fn records(&self) -> Vec<Record> {
-        let mut records = vec![Record::Version(VersionRecord {
+        let head = VersionRecord {
             function: self.function,
             version: self.version,
             parameters: self.parameters as u8,
             returns: self.returns,
             blocks: self.blocks.len() as u8,
             types: self.types.clone(),
-        })];
+        };
+        let mut records = vec![Record::Version(head), Record::Level(self.level)];
         for block in &self.blocks {
             records.push(Record::Block(BlockRecord {
                 mark: block.mark,

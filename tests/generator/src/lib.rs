@@ -11,6 +11,7 @@ mod damage;
 mod draft;
 mod ends;
 mod fact;
+mod faults;
 mod grow;
 mod moves;
 mod mutate;
@@ -24,6 +25,7 @@ mod theme;
 mod update;
 mod world;
 
+pub use faults::{call_up, level_fault, LEVEL_FAULTS, PLACES_OF_CALLS};
 pub use grow::Trap;
 pub use moves::Move;
 pub use random::Random;
@@ -36,7 +38,7 @@ pub use update::{Live, Update};
 use draft::Draft;
 use reference::bounds::BUFFER;
 use reference::questions::QUESTIONS;
-use reference::{Integer, Program, State};
+use reference::{Integer, Level, Program, State};
 
 /// What an image was made for.
 #[derive(Clone, Copy, PartialEq, Eq, PartialOrd, Ord, Debug)]
@@ -83,7 +85,7 @@ pub fn to_move(seed: u64) -> Move {
     moves::any(&mut Random::new(seed))
 }
 
-/// An image that a question of 1 to 10, or 14, should refuse.
+/// An image that a question of 1 to 10, 14 or 18 should refuse.
 pub fn damaged_at(question: u8, seed: u64) -> Vec<u8> {
     let mut random = Random::new(seed);
     loop {
@@ -172,12 +174,24 @@ pub fn words_before(seed: u64, program: &Program, entry: (usize, usize)) -> Vec<
     words.map(before::narrowed).collect()
 }
 
-/// The run of an accepted image that begins at its entry with its words; none
-/// if there is no entry or the words do not match.
+/// The level that a run of an entry that exists states: one that may enter it.
+pub fn level(seed: u64, program: &Program, entry: (usize, usize)) -> usize {
+    run::level(&mut Random::new(!seed), own_level(program, entry))
+}
+
+/// The level of an entry that exists.
+fn own_level(program: &Program, entry: (usize, usize)) -> Level {
+    let version = program.version(entry.0, entry.1);
+    version.expect("the entry exists").level
+}
+
+/// The run of an accepted image that begins at its entry with its words, at the
+/// lowest level that may enter it; none if there is no entry or the words do not match.
 pub fn begun(seed: u64, program: &Program) -> Option<State> {
-    let (function, version) = entry(seed, program)?;
-    let words = words(seed, program, (function, version));
-    State::begin(program, function, version, &words, &[0; BUFFER]).ok()
+    let entry = entry(seed, program)?;
+    let level = own_level(program, entry).0.into();
+    let words = words(seed, program, entry);
+    State::begin(program, level, entry.0, entry.1, &words, &[0; BUFFER]).ok()
 }
 
 /// A new image of this aim for a run whose image is in force and whose live calls

@@ -8,7 +8,7 @@ use crate::theme::{self, Theme};
 use crate::{before, damaged, mutated};
 use reference::bounds::{INSTRUCTIONS, LISTED, MAX_IMAGE, PARAMETERS, VERSIONS};
 use reference::record::HEAD;
-use reference::{moved, Form, Instruction, Integer, Mark, Range, Type};
+use reference::{moved, Form, Instruction, Integer, Level, Mark, Range, Type};
 
 /// An image that is to be moved.
 #[derive(Clone, PartialEq, Eq, Debug)]
@@ -177,7 +177,7 @@ fn plain(random: &mut Random) -> Draft {
 }
 
 /// The bytes of a version without a literal, instructions or further registers.
-const PLAIN: usize = (HEAD + 8) + (HEAD + 3);
+const PLAIN: usize = (HEAD + 8) + (HEAD + 1) + (HEAD + 3);
 
 /// The fewest and the most bytes of a VEC.
 const VEC: usize = HEAD + 2;
@@ -222,6 +222,7 @@ fn add_plain(draft: &mut Draft, vectors: Vec<usize>, more: usize) {
         parameters: 1,
         returns: Type::INTEGER,
         types,
+        level: Level(version % Level::ALL.len() as u8),
         blocks: vec![DraftBlock {
             mark: Mark::QUIET,
             result: 0,

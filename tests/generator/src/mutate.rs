@@ -1,7 +1,7 @@
 //! Images changed byte by byte, and images of chance alone.
 
 use crate::random::Random;
-use reference::{kinds, Integer, Mark, Record, Type};
+use reference::{kinds, Integer, Level, Mark, Record, Type};
 
 /// Bytes that mean something at many places.
 const TELLING: [u8; 26] = [
@@ -44,7 +44,7 @@ pub fn raw(random: &mut Random) -> Vec<u8> {
     (0..length).map(|_| random.byte()).collect()
 }
 
-/// Versions, blocks and instructions of the right lengths, their counts and
+/// Versions, levels, blocks and instructions of the right lengths, their counts and
 /// numbers seldom wrong, with fields of chance.
 pub fn records(random: &mut Random) -> Vec<u8> {
     let mut image = Vec::new();
@@ -52,6 +52,7 @@ pub fn records(random: &mut Random) -> Vec<u8> {
     for _ in 0..1 + random.below(3) {
         let blocks = 1 + random.below(3);
         image.extend(version(random, numbers, blocks as u8));
+        image.extend(level(random));
         for _ in 0..blocks {
             image.extend(block(random));
         }
@@ -78,6 +79,17 @@ fn version(random: &mut Random, (function, version): (u8, u8), blocks: u8) -> Ve
     ];
     body.extend((0..registers).map(|_| register_type(random)));
     record(kinds::VERSION, body)
+}
+
+/// A LEVEL, seldom of no level that there is, seldom none or two.
+fn level(random: &mut Random) -> Vec<u8> {
+    let other = random.byte();
+    let level = random.pick(&Level::ALL).0;
+    let level = record(
+        kinds::LEVEL,
+        vec![random.weighted(&[(30, level), (1, other)])],
+    );
+    level.repeat(random.weighted(&[(40, 1), (1, 0), (1, 2)]))
 }
 
 /// A BLOCK with its instructions, seldom with one more than it says.

@@ -4,14 +4,14 @@ use crate::draft::{Draft, DraftBlock, DraftVersion};
 use crate::random::Random;
 use reference::bounds::{FUNCTIONS, INSTRUCTIONS, MAX_IMAGE, REGISTERS, VERSIONS};
 use reference::record::HEAD;
-use reference::{kinds, Instruction, Integer, Mark, Type};
+use reference::{kinds, Instruction, Integer, Level, Mark, Type};
 
 /// The bytes of a LIT.
 const LIT: usize = HEAD + 1 + size_of::<Integer>();
 
 /// The bytes of a padding version without padding: a VERSION with one
-/// register, a BLOCK, and a LIT.
-const SMALLEST: usize = (HEAD + 7) + (HEAD + 3) + LIT;
+/// register, a LEVEL, a BLOCK, and a LIT.
+const SMALLEST: usize = (HEAD + 7) + (HEAD + 1) + (HEAD + 3) + LIT;
 
 /// The most bytes of a padding version.
 const LARGEST: usize = SMALLEST + (REGISTERS - 1) + (INSTRUCTIONS - 1) * LIT;
@@ -66,6 +66,7 @@ fn padding(function: u8, version: u8, size: usize) -> DraftVersion {
         parameters: 0,
         returns: Type::INTEGER,
         types: vec![Type::INTEGER; 1 + missing],
+        level: Level::PORTAL,
         blocks: vec![DraftBlock {
             mark: Mark::QUIET,
             result: 0,

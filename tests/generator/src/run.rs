@@ -5,7 +5,7 @@ use crate::random::Random;
 use crate::update::Update;
 use reference::bounds::{Steps, BUFFER, ITEMS};
 use reference::program::Version;
-use reference::{Integer, Kind, Program, Type};
+use reference::{Integer, Kind, Level, Program, Type};
 
 /// A version that a run may begin at, mostly one of the last function.
 pub fn entry(random: &mut Random, program: &Program) -> Option<(usize, usize)> {
@@ -27,6 +27,23 @@ fn may_begin(version: &Version) -> bool {
     let parameters = version.parameters().iter();
     let mut kinds = parameters.map(|ty| ty.kind());
     !kinds.any(|kind| kind == Kind::QUIET || kind == Kind::REFLECTIVE)
+}
+
+/// The level that a run of an entry states: one that may enter it, its own most
+/// often, sometimes above 2.
+pub fn level(random: &mut Random, entry: Level) -> usize {
+    let own = usize::from(entry.0);
+    let highest = usize::from(Level::FACTORY.0);
+    let above = highest + 1 + random.below(300);
+    random.weighted(&[
+        (40, own),
+        (20, highest),
+        (10, own.max(1)),
+        (5, highest + 1),
+        (4, above),
+        (4, usize::MAX),
+        (2, usize::MAX << 8),
+    ])
 }
 
 /// Words that match the parameters of a version.

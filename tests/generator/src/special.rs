@@ -6,7 +6,7 @@ use crate::random::Random;
 use crate::world::Callable;
 use reference::bounds::{BLOCKS, LISTED, NAMES, PARAMETERS, REGISTERS};
 use reference::program::Signature;
-use reference::{kinds, Instruction, Integer, Mark, Name, Register, Type};
+use reference::{kinds, Instruction, Integer, Level, Mark, Name, Register, Type};
 
 /// A function that calls itself.
 #[derive(Clone, Copy, PartialEq, Eq, Debug)]
@@ -21,13 +21,18 @@ pub enum Special {
     Ladder,
 }
 
-/// The versions of a special function, and the one that is to be called.
-pub fn special(random: &mut Random, special: Special) -> (Vec<DraftVersion>, Callable) {
+/// The versions of a special function, all of a level, and the one that is to be
+/// called.
+pub fn special(
+    random: &mut Random,
+    special: Special,
+    level: Level,
+) -> (Vec<DraftVersion>, Callable) {
     match special {
-        Special::Endless => looping(random, hoard_nothing),
-        Special::Vectors => looping(random, hoard_vectors),
-        Special::Promises => looping(random, hoard_promises),
-        Special::Ladder => ladder(random),
+        Special::Endless => looping(random, level, hoard_nothing),
+        Special::Vectors => looping(random, level, hoard_vectors),
+        Special::Promises => looping(random, level, hoard_promises),
+        Special::Ladder => ladder(random, level),
     }
 }
 
@@ -36,7 +41,7 @@ type Hoard = fn(&mut Random, &mut DraftVersion);
 
 /// A version 0.0 of one integer that hoards and then calls itself, by CALL, by
 /// DISPATCH, or in a promise block.
-fn looping(random: &mut Random, hoard: Hoard) -> (Vec<DraftVersion>, Callable) {
+fn looping(random: &mut Random, level: Level, hoard: Hoard) -> (Vec<DraftVersion>, Callable) {
     let body = DraftBlock {
         mark: Mark::QUIET,
         result: 0,
@@ -48,6 +53,7 @@ fn looping(random: &mut Random, hoard: Hoard) -> (Vec<DraftVersion>, Callable) {
         parameters: 1,
         returns: Type::INTEGER,
         types: vec![Type::INTEGER],
+        level,
         blocks: vec![body],
     };
     hoard(random, &mut version);
@@ -60,6 +66,7 @@ fn looping(random: &mut Random, hoard: Hoard) -> (Vec<DraftVersion>, Callable) {
             returns: Type::INTEGER,
             mark: Mark::QUIET,
         },
+        level,
         cost: 100,
         gives: Fact::MODERATE,
     };
@@ -155,17 +162,22 @@ fn hoard_promises(random: &mut Random, version: &mut DraftVersion) {
 
 /// Version 0.0 takes an integer first and gives it; version 0.1 takes a vector
 /// first and dispatches on its other arguments and an integer after them.
-fn ladder(random: &mut Random) -> (Vec<DraftVersion>, Callable) {
+fn ladder(random: &mut Random, level: Level) -> (Vec<DraftVersion>, Callable) {
     let count = 2 + random.below(PARAMETERS - 1);
     let parameters = |first: Type| {
         let mut parameters = vec![Type::VALUE; count];
         parameters[0] = first;
         parameters
     };
-    let bottom = ladder_version(0, parameters(Type::INTEGER), 0, vec![]);
+    let version = |number, first, result, instructions| DraftVersion {
+        version: number,
+        level,
+        ..ladder_version(parameters(first), result, instructions)
+    };
+    let bottom = version(0, Type::INTEGER, 0, vec![]);
     let given = count as Register;
     let instructions = rung(given, random.between(-9, 9));
-    let rung = ladder_version(1, parameters(Type::VECTOR), given, instructions);
+    let rung = version(1, Type::VECTOR, given, instructions);
     let callable = Callable {
         function: 0,
         version: 1,
@@ -174,6 +186,7 @@ fn ladder(random: &mut Random) -> (Vec<DraftVersion>, Callable) {
             returns: Type::INTEGER,
             mark: Mark::QUIET,
         },
+        level,
         cost: 6 * count,
         gives: Fact::MODERATE,
     };
@@ -203,9 +216,8 @@ fn rung(given: Register, value: Integer) -> Vec<Instruction> {
     ]
 }
 
-/// A version of the ladder with two more integer registers.
+/// A version of the ladder, the first one, with two more integer registers.
 fn ladder_version(
-    version: u8,
     parameters: Vec<Type>,
     result: Register,
     instructions: Vec<Instruction>,
@@ -215,10 +227,11 @@ fn ladder_version(
     types.extend([Type::INTEGER; 2]);
     DraftVersion {
         function: 0,
-        version,
+        version: 0,
         parameters: count,
         returns: Type::INTEGER,
         types,
+        level: Level::PORTAL,
         blocks: vec![DraftBlock {
             mark: Mark::QUIET,
             result,

@@ -6,9 +6,10 @@ use crate::grow::{grow, Trap, Wish};
 use crate::padding::pad;
 use crate::random::Random;
 use crate::special::{special, Special};
-use crate::world::{entered, family, Callable};
+use crate::world::{entered, family, Callable, Levels};
 use reference::bounds::{BLOCKS, FUNCTIONS, MAX_IMAGE, REGISTERS, VERSIONS, VERSIONS_EACH};
 use reference::program::Signature;
+use reference::Level;
 
 /// What a program is like.
 #[derive(Clone, Copy, PartialEq, Eq, Debug)]
@@ -97,9 +98,10 @@ fn partition(random: &mut Random) -> Vec<usize> {
 
 /// An accepted program of a theme.
 pub fn program(random: &mut Random, theme: Theme) -> Draft {
-    let mut building = Building::default();
+    let mut building = Building::new(Levels::any(random));
     if let Theme::Special(kind) = theme {
-        let (versions, callable) = special(random, kind);
+        let level = building.levels.level(random, false);
+        let (versions, callable) = special(random, kind, level);
         building.must_call = vec![callable.clone()];
         building.world.push(callable);
         building.functions = 1;
@@ -120,8 +122,8 @@ pub fn program(random: &mut Random, theme: Theme) -> Draft {
 }
 
 /// A program that grows by functions, each of which may call those before it.
-#[derive(Default)]
 struct Building {
+    levels: Levels,
     draft: Draft,
     world: Vec<Callable>,
     functions: usize,
@@ -132,6 +134,18 @@ struct Building {
 }
 
 impl Building {
+    /// A program without a function.
+    fn new(levels: Levels) -> Building {
+        Building {
+            levels,
+            draft: Draft::default(),
+            world: Vec::new(),
+            functions: 0,
+            size: 0,
+            must_call: Vec::new(),
+        }
+    }
+
     /// Adds a function; not so if the image would be too large for it.
     fn add_function(
         &mut self,
@@ -144,12 +158,16 @@ impl Building {
         if last || self.functions == 0 || random.percent(40) {
             signatures[0] = entered(signatures[0].clone());
         }
-        let own = self.own(theme, &signatures);
+        // What searches in vain is mostly low, so that versions above it are hidden.
+        let calls = last && theme != Theme::Trap(Trap::NoFit);
+        let levels = signatures.iter().map(|_| self.levels.level(random, calls));
+        let planned: Vec<(Signature, Level)> = signatures.iter().cloned().zip(levels).collect();
+        let own = self.own(theme, &planned);
         let mut world = self.world.clone();
         world.extend(own);
         let mut grown: Vec<(DraftVersion, Callable)> = Vec::new();
-        for (number, signature) in signatures.into_iter().enumerate() {
-            let wish = self.wish(random, theme, signature, number, last);
+        for (number, planned) in planned.into_iter().enumerate() {
+            let wish = self.wish(random, theme, planned, number, last);
             let version = grow(random, &world, &wish);
             grown.push((version.draft, version.callable));
         }
@@ -167,15 +185,16 @@ impl Building {
     }
 
     /// The versions of the function itself, where a theme lets it call them.
-    fn own(&self, theme: Theme, signatures: &[Signature]) -> Vec<Callable> {
+    fn own(&self, theme: Theme, planned: &[(Signature, Level)]) -> Vec<Callable> {
         if theme != Theme::Recursive {
             return vec![];
         }
-        let own = signatures.iter().enumerate();
-        own.map(|(version, signature)| Callable {
+        let own = planned.iter().enumerate();
+        own.map(|(version, (signature, level))| Callable {
             function: self.functions as u8,
             version: version as u8,
             signature: signature.clone(),
+            level: *level,
             cost: 20,
             gives: Fact::of_type(signature.returns),
         })
@@ -194,7 +213,7 @@ impl Building {
         &self,
         random: &mut Random,
         theme: Theme,
-        signature: Signature,
+        (signature, level): (Signature, Level),
         number: usize,
         last: bool,
     ) -> Wish {
@@ -211,6 +230,7 @@ impl Building {
             function: self.functions as u8,
             version: number as u8,
             signature,
+            level,
             length: theme.length(random),
             blocks: if trap.is_some() { BLOCKS } else { blocks },
             registers: REGISTERS - random.below(5),

@@ -4,7 +4,7 @@ use crate::fact::Fact;
 use crate::random::Random;
 use reference::bounds::{LISTED, VERSIONS_EACH};
 use reference::program::Signature;
-use reference::{Kind, Mark, Type};
+use reference::{Kind, Level, Mark, Type};
 
 /// A version that may be called.
 #[derive(Clone, Debug)]
@@ -15,6 +15,8 @@ pub struct Callable {
     pub version: u8,
     /// What a call of it is judged by.
     pub signature: Signature,
+    /// Its level.
+    pub level: Level,
     /// About how many steps a call of it takes.
     pub cost: usize,
     /// What it is expected to give.
@@ -41,6 +43,33 @@ const RETURNS: [(usize, Type); 4] = [
     (20, Type::OWNED),
 ];
 
+/// How the versions of a program get their levels.
+#[derive(Clone, Copy, Debug)]
+pub enum Levels {
+    /// All have this one.
+    One(Level),
+    /// Each has any; those that are called mostly a low one, those that call a high one.
+    Mixed,
+}
+
+impl Levels {
+    /// Mostly mixed.
+    pub fn any(random: &mut Random) -> Levels {
+        let one = Levels::One(random.pick(&Level::ALL));
+        random.weighted(&[(30, one), (70, Levels::Mixed)])
+    }
+
+    /// The level of a version that others call, or that calls them.
+    pub fn level(self, random: &mut Random, calls: bool) -> Level {
+        let [portal, staff, factory] = Level::ALL;
+        match self {
+            Levels::One(level) => level,
+            Levels::Mixed if calls => random.weighted(&[(2, portal), (4, staff), (5, factory)]),
+            Levels::Mixed => random.weighted(&[(6, portal), (4, staff), (3, factory)]),
+        }
+    }
+}
+
 /// Any mark.
 fn mark(random: &mut Random) -> Mark {
     random.weighted(&[(60, Mark::QUIET), (40, Mark::REFLECTIVE)])
@@ -66,7 +95,7 @@ fn sibling(random: &mut Random, of: &Signature) -> Signature {
     let shared: Vec<Type> = Kind::ALL.map(Type::shared).to_vec();
     let mut parameters = of.parameters.clone();
     for parameter in parameters.iter_mut().filter(|p| p.is_shared()) {
-        if random.percent(60) {
+        if random.percent(50) {
             *parameter = random.pick(&shared);
         }
     }

@@ -1,21 +1,23 @@
-//! Questions 11 to 13: how a run begins.
+//! Questions 11, 19, 12 and 13: how a run begins.
 
 use crate::bounds::{Integer, BUFFER, ITEMS};
 use crate::program::{Program, Version};
 use crate::questions::Refusal;
 use crate::state::{Frame, State, Value};
-use crate::types::Kind;
+use crate::types::{Kind, Level};
 
-/// Begins a run of an image: its own questions, then 11, 12 and 13.
+/// Begins a run of an image at a level: the image's questions, then 11, 19, 12
+/// and 13.
 pub fn begin(
     image: &[u8],
+    level: usize,
     function: usize,
     version: usize,
     words: &[Integer],
     buffer: &[Integer],
 ) -> Result<State, Refusal> {
     let program = Program::accept(image)?;
-    State::begin(&program, function, version, words, buffer)
+    State::begin(&program, level, function, version, words, buffer)
 }
 
 /// Question 13: has the result buffer at least 16 places?
@@ -27,16 +29,28 @@ pub fn question13(buffer: &[Integer]) -> Result<(), Refusal> {
     }
 }
 
+/// Question 19: is the entry of the run's level or lower?
+fn question19(entry: &Version, level: usize) -> Result<(), Refusal> {
+    if entry.level <= Level::stated(level) {
+        Ok(())
+    } else {
+        Err(no(19))
+    }
+}
+
 impl State {
-    /// The state of a run of an accepted image before its first step.
+    /// The state of a run of an accepted image before its first step. Nothing of
+    /// the run's level is kept in it.
     pub fn begin(
         program: &Program,
+        level: usize,
         function: usize,
         version: usize,
         words: &[Integer],
         buffer: &[Integer],
     ) -> Result<State, Refusal> {
         let entry = program.version(function, version).ok_or(no(11))?;
+        question19(entry, level)?;
         let (arguments, vectors) = arguments(entry, words).ok_or(no(12))?;
         question13(buffer)?;
         let frame = Frame::new(entry.head.function, entry.head.version, &arguments);

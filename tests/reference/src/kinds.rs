@@ -4,6 +4,8 @@
 pub const VERSION: u16 = 1;
 /// Opens a block.
 pub const BLOCK: u16 = 2;
+/// States the level of a version.
+pub const LEVEL: u16 = 3;
 /// `LIT d, i32` of the form before; the one in force does not know it
 pub const NARROW_LIT: u16 = 16;
 /// `MOVE d a`

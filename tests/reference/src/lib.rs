@@ -15,6 +15,7 @@
 //! | What demand 3 speaks of | [`monitor`], [`watched`] |
 //! | Program | [`report`] |
 //! | Moving stored images | [`moves`] |
+//! | Levels of staff | [`types`], [`questions`], [`begin`], [`search`], [`monitor`] |
 
 pub mod begin;
 pub mod bounds;
@@ -50,4 +51,4 @@ pub use report::{report, report_in, report_of};
 pub use search::Search;
 pub use state::{End, State, Status, Value};
 pub use steps::{Answer, Said};
-pub use types::{Kind, Mark, Ownership, Type};
+pub use types::{Kind, Level, Mark, Ownership, Type};

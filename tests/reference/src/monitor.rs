@@ -1,11 +1,12 @@
 //! "What demand 3 speaks of": what holds of each state of a run and of each step tried.
+//! "Levels of staff": no version above the run's level is ever entered.
 
 use crate::bounds::REGISTERS;
 use crate::instruction::{Instruction, Register};
 use crate::program::Program;
 use crate::state::{State, Value};
 use crate::steps::Said;
-use crate::types::Mark;
+use crate::types::{Level, Mark};
 
 /// What demand 3 rules out. Calls are numbered by their frames.
 #[derive(Clone, Copy, PartialEq, Eq, Debug)]
@@ -24,6 +25,8 @@ pub enum Breach {
     Shared { call: usize, register: Register },
     /// The step was stuck.
     Stuck,
+    /// A live call is of a version above the run's level.
+    Above { call: usize },
     /// A reflective read or write was counted while a quiet call was live.
     Reflective { quiet: usize },
 }
@@ -42,6 +45,18 @@ pub fn check_state(program: &Program, state: &State) -> Result<(), Breach> {
         }
     }
     Ok(())
+}
+
+/// Checks that no live call is of a version above the level of the run.
+pub fn check_levels(program: &Program, state: &State, level: Level) -> Result<(), Breach> {
+    let above = |&call: &usize| {
+        let version = state.version(program, call);
+        version.is_none_or(|version| version.level > level)
+    };
+    match (0..state.frames.len()).find(above) {
+        Some(call) => Err(Breach::Above { call }),
+        None => Ok(()),
+    }
 }
 
 /// Checks a step: the state it was tried in, and what it said.

@@ -2,7 +2,7 @@
 
 use crate::instruction::{Instruction, Register};
 use crate::record::{BlockRecord, Placed, Record, VersionRecord};
-use crate::types::{Mark, Type};
+use crate::types::{Level, Mark, Type};
 
 /// An image whose records are in order.
 #[derive(Clone, PartialEq, Eq, Debug)]
@@ -18,6 +18,8 @@ pub struct Version {
     pub offset: usize,
     /// The fields of the VERSION record.
     pub head: VersionRecord,
+    /// The level that the LEVEL record states.
+    pub level: Level,
     /// The blocks by number; block 0 is the body.
     pub blocks: Vec<Block>,
 }
@@ -54,8 +56,13 @@ impl Program {
                 Record::Version(head) => versions.push(Version {
                     offset,
                     head,
+                    level: Level::PORTAL,
                     blocks: Vec::new(),
                 }),
+                Record::Level(level) => {
+                    let version = versions.last_mut().expect("a level follows a version");
+                    version.level = level;
+                }
                 Record::Block(head) => {
                     let version = versions.last_mut().expect("a block follows a version");
                     version.blocks.push(Block {

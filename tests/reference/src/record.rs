@@ -3,7 +3,7 @@
 use crate::form::Form;
 use crate::instruction::{Instruction, Register};
 use crate::kinds;
-use crate::types::{Mark, Type};
+use crate::types::{Level, Mark, Type};
 
 /// The bytes of a record before its body: u16 whole length, u16 kind.
 pub const HEAD: usize = 4;
@@ -85,6 +85,8 @@ pub enum Record {
     Version(VersionRecord),
     /// Kind 2.
     Block(BlockRecord),
+    /// Kind 3.
+    Level(Level),
     /// Kinds 17 to 36.
     Instruction(Instruction),
 }
@@ -115,6 +117,7 @@ impl Record {
                 result,
                 instructions,
             })),
+            (kinds::LEVEL, &[level]) => Some(Record::Level(Level(level))),
             _ => Instruction::read_in(form, kind, body).map(Record::Instruction),
         }
     }
@@ -124,6 +127,7 @@ impl Record {
         match self {
             Record::Version(_) => kinds::VERSION,
             Record::Block(_) => kinds::BLOCK,
+            Record::Level(_) => kinds::LEVEL,
             Record::Instruction(instruction) => instruction.kind(),
         }
     }
@@ -144,6 +148,7 @@ impl Record {
         let body = match self {
             Record::Version(version) => version.body(),
             Record::Block(block) => vec![block.mark.0, block.result, block.instructions],
+            Record::Level(level) => vec![level.0],
             Record::Instruction(instruction) => instruction.body(),
         };
         record_bytes(self.kind(), &body)

@@ -3,7 +3,7 @@
 use crate::instruction::Instruction;
 use crate::program::{Program, Signature, Version};
 use crate::state::State;
-use crate::types::Kind;
+use crate::types::{Kind, Level};
 
 /// What the search of a DISPATCH comes to.
 #[derive(Clone, Copy, PartialEq, Eq, PartialOrd, Ord, Debug)]
@@ -15,8 +15,8 @@ pub struct Search {
 }
 
 impl Search {
-    /// How many versions are looked at: the number of the first that fits plus
-    /// 1, or all of the function where none fits.
+    /// How many versions are looked at, those passed over for their level too: the
+    /// number of the first that fits plus 1, or all of the function where none fits.
     pub fn looked(self) -> u8 {
         self.first.map_or(self.versions, |number| number + 1)
     }
@@ -26,6 +26,12 @@ impl State {
     /// What the search of the DISPATCH comes to that the state stands at, ended
     /// or not; none where it stands elsewhere, or where an argument has no kind.
     pub fn search(&self, program: &Program) -> Option<Search> {
+        let holder = self.version(program, self.activations.last()?.frame)?;
+        self.search_at(program, holder.level)
+    }
+
+    /// The same, with versions above this level passed over.
+    pub fn search_at(&self, program: &Program, level: Level) -> Option<Search> {
         let top = self.activations.last()?;
         let instruction = self.instruction(program)?;
         let Instruction::Dispatch { function, .. } = *instruction else {
@@ -34,7 +40,7 @@ impl State {
         let registers = &self.frames.get(top.frame)?.registers;
         let kind = |register| self.kind(program, (*registers.get(usize::from(register))?)?);
         let kinds: Option<Vec<Kind>> = instruction.reads().into_iter().map(kind).collect();
-        let found = first_that_fits(program, instruction, &kinds?);
+        let found = first_that_fits(program, level, instruction, &kinds?);
         Some(Search {
             first: found.map(|version| version.head.version),
             versions: program.versions_of(function.into()).count() as u8,
@@ -42,10 +48,11 @@ impl State {
     }
 }
 
-/// The lowest version that a DISPATCH fits with arguments of these kinds; none
-/// for other instructions.
+/// The lowest version that a DISPATCH fits with arguments of these kinds, those above
+/// the level passed over; none for other instructions.
 pub(crate) fn first_that_fits<'p>(
     program: &'p Program,
+    level: Level,
     instruction: &Instruction,
     arguments: &[Kind],
 ) -> Option<&'p Version> {
@@ -54,7 +61,8 @@ pub(crate) fn first_that_fits<'p>(
     };
     let signature = program.signature(instruction)?;
     let mut versions = program.versions_of(function.into());
-    versions.find(|version| fits(&version.signature(), &signature, arguments))
+    versions
+        .find(|version| version.level <= level && fits(&version.signature(), &signature, arguments))
 }
 
 /// Has a version of its own signature equal parameter count and ownerships, equal

@@ -1,4 +1,5 @@
-//! "Values and types": kinds, ownerships, type bytes, marks, and the order "within".
+//! "Values and types": kinds, ownerships, type bytes, marks, the order "within", and
+//! "Levels of staff": levels.
 
 /// The kind of a value or of a type, by its number; above 5 there is none.
 #[derive(Clone, Copy, PartialEq, Eq, PartialOrd, Ord, Hash, Debug)]
@@ -128,6 +129,32 @@ impl Type {
     pub fn allowed_on_return(self) -> bool {
         self.allowed_on_register()
             && [Kind::VALUE, Kind::INTEGER, Kind::VECTOR].contains(&self.kind())
+    }
+}
+
+/// The level of staff that a version is for, or that a run states: 0 the tenants'
+/// portal, 1 site staff, 2 the factory.
+#[derive(Clone, Copy, PartialEq, Eq, PartialOrd, Ord, Hash, Debug)]
+pub struct Level(pub u8);
+
+impl Level {
+    /// The tenants' portal.
+    pub const PORTAL: Level = Level(0);
+    /// Site staff.
+    pub const STAFF: Level = Level(1);
+    /// The factory.
+    pub const FACTORY: Level = Level(2);
+    /// All levels, from the lowest on.
+    pub const ALL: [Level; 3] = [Level::PORTAL, Level::STAFF, Level::FACTORY];
+
+    /// Is this one of the three levels?
+    pub fn known(self) -> bool {
+        self <= Level::FACTORY
+    }
+
+    /// The level that a run states by a number; above 2 it counts as 2.
+    pub fn stated(number: usize) -> Level {
+        Level(number.min(Level::FACTORY.0.into()) as u8)
     }
 }
 

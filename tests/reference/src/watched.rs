@@ -4,16 +4,20 @@ use crate::bounds::{Integer, Steps, ITEMS};
 use crate::change::change;
 use crate::instruction::Instruction;
 use crate::kinds;
-use crate::monitor::{check_state, check_step};
+use crate::monitor::{check_levels, check_state, check_step, Breach};
 use crate::program::Program;
 use crate::questions::Refusal;
 use crate::search::Search;
 use crate::state::{End, State, Status, Value};
 use crate::steps::{Answer, Said};
+use crate::types::Level;
 
-/// A run; demand 3 is asserted at its start, at each step and at each change of
-/// its image, under the image then in force.
+/// A run; demand 3, and that no live call is above the run's level, is asserted at
+/// its start, at each step and at each change of its image, under the image then in
+/// force.
 pub struct Watched {
+    /// The level that the run stated.
+    level: Level,
     /// The program of the image in force.
     program: Program,
     state: State,
@@ -27,12 +31,17 @@ pub struct Watched {
 }
 
 impl Watched {
-    /// A run that has begun.
+    /// A run that has begun at a level.
     #[track_caller]
-    pub fn new(program: &Program, state: State, origin: &str) -> Watched {
-        let checked = check_state(program, &state);
-        assert_eq!(checked, Ok(()), "{origin}, at the start");
+    pub fn new(program: &Program, state: State, level: usize, origin: &str) -> Watched {
+        let level = Level::stated(level);
+        assert_eq!(
+            check(program, &state, level),
+            Ok(()),
+            "{origin}, at the start"
+        );
         Watched {
+            level,
             program: program.clone(),
             state,
             origin: origin.to_string(),
@@ -51,6 +60,11 @@ impl Watched {
     /// where it stands elsewhere.
     pub fn search(&self) -> Option<Search> {
         self.state.search(&self.program)
+    }
+
+    /// The same, if no version were passed over for its level.
+    pub fn search_without_levels(&self) -> Option<Search> {
+        self.state.search_at(&self.program, Level::FACTORY)
     }
 
     /// Has the run ended?
@@ -79,7 +93,7 @@ impl Watched {
         let (after, said) = self.state.clone().step(&self.program);
         self.tried += usize::from(!self.ended());
         let checked = check_step(&self.program, &self.state, said);
-        let checked = checked.and_then(|()| check_state(&self.program, &after));
+        let checked = checked.and_then(|()| check(&self.program, &after, self.level));
         assert_eq!(checked, Ok(()), "{}, step {}", self.origin, self.tried);
         if let Said::Ended(end) = said {
             self.assert_kept(&after, end);
@@ -140,7 +154,7 @@ impl Watched {
     pub fn change(&mut self, old: &[u8], new: &[u8]) -> Result<(), Refusal> {
         change(old, new, &self.state)?;
         self.program = Program::accept(new)?;
-        let checked = check_state(&self.program, &self.state);
+        let checked = check(&self.program, &self.state, self.level);
         assert_eq!(checked, Ok(()), "{}, at a change", self.origin);
         Ok(())
     }
@@ -195,6 +209,12 @@ impl Watched {
             _ => "UNDEF, without a cause",
         }
     }
+}
+
+/// Checks a state of a run at a level.
+fn check(program: &Program, state: &State, level: Level) -> Result<(), Breach> {
+    check_state(program, state)?;
+    check_levels(program, state, level)
 }
 
 /// Why an operation made UNDEF.

@@ -3,7 +3,7 @@
 use crate::arguments::Argument;
 use crate::failure::Failure;
 use crate::help;
-use library::{Entry, Form};
+use library::{Entry, Form, FACTORY, PORTAL, STAFF};
 use std::ffi::{OsStr, OsString};
 
 /// The steps that `fir run` takes at most, unless the command line says otherwise.
@@ -45,6 +45,8 @@ pub enum Command {
 pub struct Call {
     /// The image.
     pub file: OsString,
+    /// The level that the run states.
+    pub level: usize,
     /// The version to enter.
     pub entry: Entry,
     /// Its arguments.
@@ -133,6 +135,7 @@ fn parse_call(mut words: Words, mut budget: u32) -> Result<Call, String> {
     if let Some(text) = words.option("--budget")? {
         budget = parse_budget(&text)?;
     }
+    let level = parse_level(&mut words)?;
     let then = parse_changes(&words.options("--then")?)?;
     let file = words.file()?;
     let entry = words.next().ok_or("no version is named, such as 0.0")?;
@@ -147,11 +150,27 @@ fn parse_call(mut words: Words, mut budget: u32) -> Result<Call, String> {
     }
     Ok(Call {
         file,
+        level,
         entry,
         arguments,
         budget,
         then,
     })
+}
+
+/// The level that a run states, the highest where no option says it.
+fn parse_level(words: &mut Words) -> Result<usize, String> {
+    let Some(level) = words.option("--level")? else {
+        return Ok(FACTORY);
+    };
+    match &*plain(&level)? {
+        "portal" | "0" => Ok(PORTAL),
+        "staff" | "1" => Ok(STAFF),
+        "factory" | "2" => Ok(FACTORY),
+        other => Err(format!(
+            "--level is portal, staff or factory, not `{other}`"
+        )),
+    }
 }
 
 /// The images to go on under, in the order of their steps.

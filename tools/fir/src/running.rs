@@ -52,10 +52,17 @@ pub fn run(call: &Call, manner: Manner, streams: &mut Streams) -> Result<Status,
     let source = Source::read(&call.file, streams)?;
     let changes = Next::read_all(call, streams)?;
     let words = words(&call.arguments);
-    let run = match Run::begin(&source.image, call.entry, &words, &[0; FIR_ITEMS]) {
+    let begun = Run::begin(
+        &source.image,
+        call.level,
+        call.entry,
+        &words,
+        &[0; FIR_ITEMS],
+    );
+    let run = match begun {
         Ok(run) => run,
         Err(no) => {
-            let line = refusal::of_run(&source, no, call.entry, &call.arguments);
+            let line = refusal::of_run(&source, no, call);
             return answered(Status::No, streams.line(&line));
         }
     };

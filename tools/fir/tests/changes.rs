@@ -77,31 +77,31 @@ fn a_trace_has_a_line_for_the_change_and_counts_on() {
 
 #[test]
 fn a_version_that_differs_is_named_with_the_byte_in_both_images() {
-    // 1.0 is live after 1 step. Its VERSION has 12 bytes, its BLOCK 7, and LIT's
-    // integer begins at byte 5 of its record.
+    // 1.0 is live after 1 step. Its VERSION has 12 bytes, its LEVEL 5, its BLOCK 7, and
+    // LIT's integer begins at byte 5 of its record.
     let refused =
-        "after 1 step, new0.fir: refused by 15 at 36 (line 5): 1.0 has a live call and differs: ";
-    let stands = "  at 55 (line 8) in 1.0, block 0: r1 = lit 1\n";
+        "after 1 step, new0.fir: refused by 15 at 41 (line 6): 1.0 has a live call and differs: ";
+    let stands = "  at 65 (line 10) in 1.0, block 0: r1 = lit 1\n";
     for (there, other, words) in [
         (
             "lit 1\n",
             "lit 2\n",
-            "byte 60 (line 8) is 2, and was 1 at 60 (line 8) of the old image",
+            "byte 70 (line 10) is 2, and was 1 at 70 (line 10) of the old image",
         ),
         (
             "r1: int\n",
             "r1: int, r2: int\n",
-            "byte 36 (line 5) is 13, and was 12 at 36 (line 5) of the old image",
+            "byte 41 (line 6) is 13, and was 12 at 41 (line 6) of the old image",
         ),
         (
             "block 0 quiet -> r0\n    r1",
             "block 0 quiet -> r1\n    r1",
-            "byte 53 (line 7) is 1, and was 0 at 53 (line 7) of the old image",
+            "byte 63 (line 9) is 1, and was 0 at 63 (line 9) of the old image",
         ),
         (
             "add r0, r1",
             "add r0, r0",
-            "byte 75 (line 9) is 0, and was 1 at 75 (line 9) of the old image",
+            "byte 85 (line 11) is 0, and was 1 at 85 (line 11) of the old image",
         ),
     ] {
         let new = adding(1).replacen(there, other, 1);
@@ -121,15 +121,15 @@ fn a_version_that_differs_is_named_with_the_byte_in_both_images() {
 
 #[test]
 fn a_version_that_moved_is_named_at_both_places() {
-    let added = "version 0.1(r0: int) -> int\n  block 0 quiet -> r0\nversion 1.0";
+    let added = "version 0.1(r0: int) -> int\n  level portal\n  block 0 quiet -> r0\nversion 1.0";
     let new = adding(2).replace("version 1.0", added);
     let done = changed("moved", "run", &adding(1), &[(&new, 1)], &[]);
     did(
         &done,
         1,
-        "after 1 step, new0.fir: refused by 15 at 54 (line 7): 1.0 has a live call and differs: \
-         byte 78 (line 10) is 2, and was 1 at 60 (line 8) of the old image
-  at 55 (line 8) in 1.0, block 0: r1 = lit 1
+        "after 1 step, new0.fir: refused by 15 at 64 (line 9): 1.0 has a live call and differs: \
+         byte 93 (line 13) is 2, and was 1 at 70 (line 10) of the old image
+  at 65 (line 10) in 1.0, block 0: r1 = lit 1
 ",
     );
     // The same one may move.
@@ -140,8 +140,8 @@ fn a_version_that_moved_is_named_at_both_places() {
 
 #[test]
 fn a_version_that_is_missing_is_named() {
-    let identity = "version 0.0(r0: int) -> int\n  block 0 quiet -> r0\n";
-    let caller = "version 0.1(r0: int) -> int\n  block 0 quiet -> r0\n    r0 = call 0.0(r0)\n";
+    let identity = "version 0.0(r0: int) -> int\n  level portal\n  block 0 quiet -> r0\n";
+    let caller = "version 0.1(r0: int) -> int\n  level portal\n  block 0 quiet -> r0\n    r0 = call 0.0(r0)\n";
     let old = file("lacking", "old.bin", &image(&format!("{identity}{caller}")));
     let new = file("lacking", "new.bin", &image(identity));
     let then = format!("{new}@1");
@@ -150,8 +150,8 @@ fn a_version_that_is_missing_is_named() {
         &done,
         1,
         &format!(
-            "after 1 step, {new}: refused by 15 at 18: 0.1 has a live call and is missing
-  at 11 in 0.0, block 0: end -> r0
+            "after 1 step, {new}: refused by 15 at 23: 0.1 has a live call and is missing
+  at 16 in 0.0, block 0: end -> r0
 "
         ),
     );
@@ -163,7 +163,7 @@ fn a_new_image_is_put_to_its_own_questions_first() {
     let done = changed("own", "run", &adding(1), &[(&new, 1)], &[]);
     assert!(
         done.text()
-            .starts_with("after 1 step, new0.fir: refused by 7 at 18 (line 3): "),
+            .starts_with("after 1 step, new0.fir: refused by 7 at 23 (line 4): "),
         "{}",
         done.text()
     );
@@ -173,7 +173,7 @@ fn a_new_image_is_put_to_its_own_questions_first() {
         &done,
         1,
         "after 1 step, new0.fir: refused by 1 at 0: the image is empty, and has 1 to 32,768 bytes
-  at 55 (line 8) in 1.0, block 0: r1 = lit 1
+  at 65 (line 10) in 1.0, block 0: r1 = lit 1
 ",
     );
 }
@@ -191,7 +191,7 @@ fn an_image_whose_step_is_not_reached_is_named() {
     did(
         &done,
         1,
-        "STEPS after 2 steps\n  at 68 (line 9) in 1.0, block 0: r0 = add r0, r1\n  not reached: new0.fir@10\n",
+        "STEPS after 2 steps\n  at 78 (line 11) in 1.0, block 0: r0 = add r0, r1\n  not reached: new0.fir@10\n",
     );
 }
 
@@ -207,7 +207,7 @@ fn a_budget_that_is_used_up_at_the_step_comes_to_the_change() {
     did(
         &done,
         1,
-        "after 4 steps: goes on under new0.fir\nSTEPS after 4 steps\n  at 27 (line 4) in 0.0, block 0: r0 = call 1.0(r0)\n",
+        "after 4 steps: goes on under new0.fir\nSTEPS after 4 steps\n  at 32 (line 5) in 0.0, block 0: r0 = call 1.0(r0)\n",
     );
 }
 
@@ -216,23 +216,23 @@ fn places_are_those_of_the_image_in_force() {
     let shifted = format!("# One line more.\n{}", adding(9));
     let new = [(&shifted[..], 4), (&adding(8), 5)];
     let done = changed("places", "run", &adding(1), &new[..1], &["--budget", "4"]);
-    let end = "STEPS after 4 steps\n  at 27 (line 5) in 0.0, block 0: r0 = call 1.0(r0)\n";
+    let end = "STEPS after 4 steps\n  at 32 (line 6) in 0.0, block 0: r0 = call 1.0(r0)\n";
     assert!(done.text().ends_with(end), "{}", done.text());
     let done = changed("places", "run", &adding(1), &new, &[]);
     did(
         &done,
         1,
         "after 4 steps: goes on under new0.fir
-after 5 steps, new1.fir: refused by 15 at 36 (line 5): 1.0 has a live call and differs: \
-byte 60 (line 8) is 8, and was 9 at 60 (line 9) of the old image
-  at 55 (line 9) in 1.0, block 0: r1 = lit 9
+after 5 steps, new1.fir: refused by 15 at 41 (line 6): 1.0 has a live call and differs: \
+byte 70 (line 10) is 8, and was 9 at 70 (line 11) of the old image
+  at 65 (line 11) in 1.0, block 0: r1 = lit 9
 ",
     );
 }
 
 #[test]
 fn an_ended_run_may_go_on_under_another_image_too() {
-    let other = "version 0.0(r0: vector) -> vector\n  block 0 quiet -> r0\n";
+    let other = "version 0.0(r0: vector) -> vector\n  level portal\n  block 0 quiet -> r0\n";
     let done = changed("ended", "run", &adding(1), &[(other, 9)], &[]);
     did(
         &done,
@@ -256,7 +256,7 @@ fn an_ended_run_may_go_on_under_another_image_too() {
 #[test]
 fn all_files_are_read_before_the_run() {
     let missing = format!("{}/missing/new@1", env!("CARGO_TARGET_TMPDIR"));
-    let identity = image("version 0.0(r0: int) -> int\nblock 0 quiet -> r0");
+    let identity = image("version 0.0(r0: int) -> int\nlevel portal\nblock 0 quiet -> r0");
     let done = fir(&["trace", "-", "0.0", "5", "--then", &missing], &identity);
     let begin = format!("fir: {}: cannot be read: ", &missing[..missing.len() - 2]);
     assert!(done.errors.starts_with(&begin), "{done:?}");

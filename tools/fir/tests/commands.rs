@@ -7,12 +7,13 @@ use std::fs;
 use support::{file, fir, Done};
 
 /// The identity on integers.
-const IDENTITY: &str = "version 0.0(r0: int) -> int\n  block 0 quiet -> r0\n";
+const IDENTITY: &str = "version 0.0(r0: int) -> int\n  level portal\n  block 0 quiet -> r0\n";
 
 /// Puts the second argument at place 0 of a copy of the first.
 const PUT: &str = "
 version 0.0(r0: vector, r1: int) -> own vector
   registers r2: own vector, r3: int
+  level portal
   block 0 quiet -> r2
     r2 = dup r0
     r3 = lit 0
@@ -107,19 +108,19 @@ fn run_says_where_it_stands_unless_it_is_done() {
     did(
         &fir(&["run", "-", "0.0", "[]", "4"], &put),
         1,
-        "UNDEF after 3 steps\n  at 40 in 0.0, block 0: set r2[r3] = r1: index 0 is outside of v1 []\n",
+        "UNDEF after 3 steps\n  at 45 in 0.0, block 0: set r2[r3] = r1: index 0 is outside of v1 []\n",
         "",
     );
     did(
         &fir(&["run", "-", "0.0", "[1]", "4", "--budget", "1"], &put),
         1,
-        "STEPS after 1 step\n  at 27 in 0.0, block 0: r3 = lit 0\n",
+        "STEPS after 1 step\n  at 32 in 0.0, block 0: r3 = lit 0\n",
         "",
     );
     did(
         &fir(&["run", "--budget", "0", "-", "0.0", "7"], &identity),
         1,
-        "STEPS after 0 steps\n  at 11 in 0.0, block 0: end -> r0\n",
+        "STEPS after 0 steps\n  at 16 in 0.0, block 0: end -> r0\n",
         "",
     );
 }
@@ -130,6 +131,7 @@ fn run_prints_the_three_stops() {
         image(&format!(
             "version 0.0(r0: int) -> int
                registers r1: vector, r2: vector, r3: vector, r4: quiet promise, r5: quiet promise, r6: quiet promise
+               level portal
                block 0 quiet -> r0
                  {hoard}"
         ))
@@ -138,7 +140,7 @@ fn run_prints_the_three_stops() {
     did(
         &deep,
         1,
-        "DEEP after 31 steps\n  at 24 in 0.0, block 0: r0 = call 0.0(r0)\n",
+        "DEEP after 31 steps\n  at 29 in 0.0, block 0: r0 = call 0.0(r0)\n",
         "",
     );
     let vectors = body("r1 = vec []\nr2 = vec []\nr3 = vec []\nr0 = call 0.0(r0)");
@@ -147,7 +149,7 @@ fn run_prints_the_three_stops() {
     did(
         &done,
         1,
-        "VECTORS after 85 steps\n  at 30 in 0.0, block 0: r2 = vec []\n",
+        "VECTORS after 85 steps\n  at 35 in 0.0, block 0: r2 = vec []\n",
         "",
     );
     let promises = body(
@@ -158,7 +160,7 @@ fn run_prints_the_three_stops() {
     did(
         &done,
         1,
-        "PROMISES after 85 steps\n  at 30 in 0.0, block 0: r5 = prom 2\n",
+        "PROMISES after 85 steps\n  at 35 in 0.0, block 0: r5 = prom 2\n",
         "",
     );
 }
@@ -167,12 +169,15 @@ fn run_prints_the_three_stops() {
 fn a_run_that_is_refused_says_why() {
     let image = image(
         "version 0.0(r0: int, r1: vector) -> int
+           level portal
            block 0 quiet -> r0
          version 0.1(r0: quiet promise) -> int
            registers r1: int
+           level portal
            block 0 quiet -> r1
              r1 = lit 1
          version 1.0(r0: own vector) -> own vector
+           level portal
            block 0 quiet -> r0",
     );
     let seventeen = format!("[{}]", ["1"; 17].join(","));
@@ -193,9 +198,9 @@ fn a_run_that_is_refused_says_why() {
             did(&fir(&call, &image), 1, &format!("refused by {line}\n"), "");
         }
     }
-    let refused = fir(&["run", "-", "0.0"], &image[..18]);
+    let refused = fir(&["run", "-", "0.0"], &image[..23]);
     assert!(
-        refused.text().starts_with("refused by 2 at 12: a BLOCK"),
+        refused.text().starts_with("refused by 2 at 17: a BLOCK"),
         "{refused:?}"
     );
     assert_eq!(refused.status, 1);

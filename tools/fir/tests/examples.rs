@@ -11,9 +11,10 @@ use support::fir;
 const EXAMPLES: &str = concat!(env!("CARGO_MANIFEST_DIR"), "/../../examples/");
 
 /// The scripts.
-const SCRIPTS: [&str; 7] = [
+const SCRIPTS: [&str; 8] = [
     "defrost.fir",
     "energy.fir",
+    "levels.fir",
     "pump.fir",
     "pump_later.fir",
     "riser.fir",
@@ -128,6 +129,40 @@ fn energy_adds_up_all_readings_beyond_32_bits() {
 }
 
 #[test]
+fn levels_shows_each_what_its_level_allows() {
+    let path = format!("{EXAMPLES}levels.fir");
+    let shown = ["[5120]", "[5120, 840]", "[5120, 840, 37]"];
+    for (level, name) in ["portal", "staff", "factory"].iter().enumerate() {
+        for (version, items) in shown.iter().enumerate() {
+            let entry = format!("0.{version}");
+            let call = ["run", &path, &entry, "[5120,840,37]", "--level", name];
+            let done = fir(&call, b"");
+            let expected = if version <= level {
+                format!("DONE {items} after ")
+            } else {
+                "refused by 19 at 0: ".to_string()
+            };
+            assert!(done.text().starts_with(&expected), "{}", done.text());
+        }
+    }
+}
+
+#[test]
+fn a_call_up_in_levels_is_refused_as_its_comment_says() {
+    let text = fs::read_to_string(format!("{EXAMPLES}levels.fir")).expect("it is there");
+    let wrong = text.replace(
+        "r2 = call 2.0(r0)\n    r1 = vec [r2]\n",
+        "r1 = call 1.0(r0)\n",
+    );
+    assert_ne!(wrong, text);
+    let image = text::assemble(&wrong).expect("a text that is well formed");
+    let said = fir(&["check", "-"], &image).text();
+    let words = "CALL of 1.0 goes up: 1.2 is of level portal, and 1.0 of factory\n";
+    assert!(said.starts_with("refused by 18 at "), "{said}");
+    assert!(said.ends_with(words), "{said}");
+}
+
+#[test]
 fn pump_follows_each_of_the_three_rooms() {
     for (script, warm) in [("pump.fir", -30), ("pump_later.fir", 0)] {
         gives(script, &["210", "[210,210,210]"], 0);
@@ -220,7 +255,7 @@ fn the_commands_of_the_readme_print_what_it_shows() {
     let commands = shown(include_str!("../../README.md"), "    ");
     let (with_output, without): (Vec<_>, Vec<_>) =
         commands.iter().partition(|shown| !shown.output.is_empty());
-    assert_eq!((with_output.len(), without.len()), (6, 4));
+    assert_eq!((with_output.len(), without.len()), (8, 4));
     for command in with_output {
         assert_printed(command, "README");
     }

@@ -16,16 +16,17 @@ const IMAGES: u64 = 2_000;
 const DAMAGED: u64 = 400;
 
 /// The general words, by the order of the questions, which stand for a diagnosis that was not found.
-const GENERAL: [&str; 11] = [
+const GENERAL: [&str; 12] = [
     "an image has 1 to 32,768 bytes",
     "a record has a full head and a length of at least 4, and ends inside the image",
     "a record's kind is known, and its length is the one that its fields make",
-    "numbers, counts, marks, op and n are in bounds, and records in order",
+    "numbers, counts, marks, levels, op and n are in bounds, and records in order",
     "the first version is 0.0, and each next one follows on it",
     "a type byte is allowed at its place",
     "what is named exists, and every block but 0 is named by exactly one PROM",
     "no SKIP goes past the end of its block, or of a part that it stands in",
     "types fit",
+    "no CALL names a version of a higher level",
     "a block's mark covers its effect",
     "no register is read before it is assigned, used while it is empty, or emptied after it is captured",
 ];

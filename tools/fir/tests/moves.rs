@@ -13,6 +13,7 @@ use support::{file, fir, fir_on, Done};
 const MINUS: &str = "
 version 0.0() -> int
   registers r0: int
+  level portal
   block 0 quiet -> r0
     r0 = lit -3
 ";
@@ -21,31 +22,40 @@ version 0.0() -> int
 const LARGE: &str = "
 version 0.0() -> int
   registers r0: int
+  level portal
   block 0 quiet -> r0
     r0 = lit 2147483647
     r0 = lit 2147483648
 ";
 
 /// The image of `MINUS` in the form of 32 bits.
-const OLD: [u8; 27] = [
-    11, 0, 1, 0, 0, 0, 0, 1, 2, 1, 2, 7, 0, 2, 0, 0, 0, 1, 9, 0, 16, 0, 0, 0xFD, 255, 255, 255,
+const OLD: [u8; 32] = [
+    11, 0, 1, 0, 0, 0, 0, 1, 2, 1, 2, 5, 0, 3, 0, 0, 7, 0, 2, 0, 0, 0, 1, 9, 0, 16, 0, 0, 0xFD,
+    255, 255, 255,
 ];
 
 /// An image of the form of 32 bits whose result register is never assigned.
-const UNASSIGNED: [u8; 29] = [
-    13, 0, 1, 0, 0, 0, 0, 3, 2, 1, 2, 2, 2, 7, 0, 2, 0, 0, 1, 1, 9, 0, 16, 0, 0, 5, 0, 0, 0,
+const UNASSIGNED: [u8; 34] = [
+    13, 0, 1, 0, 0, 0, 0, 3, 2, 1, 2, 2, 2, 5, 0, 3, 0, 0, 7, 0, 2, 0, 0, 1, 1, 9, 0, 16, 0, 0, 5,
+    0, 0, 0,
 ];
 
 /// Why it is refused.
-const FLOW: &str = "refused by 10 at 0: in VERSION 0.0, r1 is read by the end of BLOCK 0 at 13 \
+const FLOW: &str = "refused by 10 at 0: in VERSION 0.0, r1 is read by the end of BLOCK 0 at 18 \
                     before it is assigned";
 
-/// 64 versions of 39 literals each: 33,600 bytes in the form of 64 bits.
+/// 64 versions of 39 literals each: 33,920 bytes in the form of 64 bits.
 fn too_long() -> Vec<u8> {
     let version = |index: u8| {
         let head = [11, 0, 1, 0, index / 4, index % 4, 0, 1, 2, 1, 2];
-        let block = [7, 0, 2, 0, 0, 0, 39];
-        [&head[..], &block, &[9, 0, 16, 0, 0, 1, 0, 0, 0].repeat(39)].concat()
+        let (level, block) = ([5, 0, 3, 0, 0], [7, 0, 2, 0, 0, 0, 39]);
+        [
+            &head[..],
+            &level,
+            &block,
+            &[9, 0, 16, 0, 0, 1, 0, 0, 0].repeat(39),
+        ]
+        .concat()
     };
     (0..64).flat_map(version).collect()
 }
@@ -94,26 +104,26 @@ fn check_asks_the_questions_of_a_form() {
     did(&fir(&["check", "--form", "64", "-"], &new), 0, accepted, "");
     did(&fir(&["check", "-"], &new), 0, accepted, "");
     let line =
-        "refused by 3 at 18: 16 was the kind of LIT with 32 bits; now LIT is kind 36, and `fir move` moves the image\n";
+        "refused by 3 at 23: 16 was the kind of LIT with 32 bits; now LIT is kind 36, and `fir move` moves the image\n";
     did(&fir(&["check", "-"], &old), 1, line, "");
-    let line = "refused by 3 at 18: 36 is the kind of LIT with 64 bits; in the form of 32 bits LIT is kind 16\n";
+    let line = "refused by 3 at 23: 36 is the kind of LIT with 64 bits; in the form of 32 bits LIT is kind 16\n";
     did(&fir(&["check", "-", "--form", "32"], &new), 1, line, "");
 }
 
 #[test]
 fn refusals_in_the_form_of_32_bits_have_words_too() {
     let said = |image: &[u8]| fir(&["check", "-", "--form", "32"], image).text();
-    let long = [&OLD[..18], &[10, 0, 16, 0, 0, 5, 0, 0, 0, 0]].concat();
+    let long = [&OLD[..23], &[10, 0, 16, 0, 0, 5, 0, 0, 0, 0]].concat();
     assert_eq!(
         said(&long),
-        "refused by 3 at 18: LIT has 9 bytes, this one 10\n"
+        "refused by 3 at 23: LIT has 9 bytes, this one 10\n"
     );
     assert_eq!(said(&UNASSIGNED), format!("{FLOW}\n"));
     let mut missing = OLD;
-    missing[17] = 2;
+    missing[22] = 2;
     let line = said(&missing);
     let due = "the image ends where 1 more instruction of block 0 of 0.0 is due";
-    assert_eq!(line, format!("refused by 4 at 27: {due}\n"));
+    assert_eq!(line, format!("refused by 4 at 32: {due}\n"));
 }
 
 #[test]
@@ -131,10 +141,10 @@ fn an_image_goes_there_and_back() {
     let folder = folder("there_and_back");
     let old = put(&folder, "old.bin", &OLD);
     let (new, back) = (format!("{folder}/new.bin"), format!("{folder}/back.bin"));
-    let line = format!("{old}: moved to {new}, 31 bytes\n");
+    let line = format!("{old}: moved to {new}, 36 bytes\n");
     did(&fir(&["move", &old, "-o", &new], b""), 0, &line, "");
     assert_eq!(fs::read(&new).expect("it is written"), image(MINUS));
-    let line = format!("{new}: moved to {back}, 27 bytes\n");
+    let line = format!("{new}: moved to {back}, 32 bytes\n");
     let done = fir(&["move", &new, "--to", "32", "-o", &back], b"");
     did(&done, 0, &line, "");
     assert_eq!(fs::read(&back).expect("it is written"), OLD);
@@ -149,12 +159,12 @@ fn standard_input_and_texts_are_moved_too() {
     did(
         &done,
         0,
-        &format!("standard input: moved to {out}, 31 bytes\n"),
+        &format!("standard input: moved to {out}, 36 bytes\n"),
         "",
     );
     let text = put(&folder, "minus.fir", MINUS.as_bytes());
     let done = fir(&["move", &text, "-o", &out, "--to", "32"], b"");
-    did(&done, 0, &format!("{text}: moved to {out}, 27 bytes\n"), "");
+    did(&done, 0, &format!("{text}: moved to {out}, 32 bytes\n"), "");
     assert_eq!(fs::read(&out).expect("it is written"), OLD);
     let done = fir(&["move", "-", "-o", &folder], &OLD);
     let reason = "standard input has no name in a folder; see `fir move --help`";
@@ -167,10 +177,10 @@ fn refusals_have_words_and_write_nothing() {
     let out = format!("{folder}/out");
     let text = put(&folder, "large.fir", LARGE.as_bytes());
     let done = fir(&["move", &text, "-o", &out, "--to", "32"], b"");
-    let line = "refused by 16 at 31 (line 6): LIT has 2147483648, and 32 bits hold -2147483648 to 2147483647";
+    let line = "refused by 16 at 36 (line 7): LIT has 2147483648, and 32 bits hold -2147483648 to 2147483647";
     did(&done, 1, &format!("{text}: {line}\n"), "");
     let long = put(&folder, "long", &too_long());
-    let line = "refused by 17 at 0: moved it would have 33600 bytes, and 32,768 are the most";
+    let line = "refused by 17 at 0: moved it would have 33920 bytes, and 32,768 are the most";
     did(
         &fir(&["move", &long, "-o", &out], b""),
         1,
@@ -180,10 +190,10 @@ fn refusals_have_words_and_write_nothing() {
     let done = fir(&["move", "-", "-o", &out], &UNASSIGNED);
     assert_eq!(done.text(), format!("standard input: {FLOW}\n"));
     let done = fir(&["move", "-", "-o", &out], &image(MINUS));
-    let line = "refused by 3 at 18: LIT is of kind 36 and has 64 bits already";
+    let line = "refused by 3 at 23: LIT is of kind 36 and has 64 bits already";
     did(&done, 1, &format!("standard input: {line}\n"), "");
     let done = fir(&["move", "-", "-o", &out, "--to", "32"], &OLD);
-    let line = "refused by 3 at 18: LIT is of kind 16 and has 32 bits already";
+    let line = "refused by 3 at 23: LIT is of kind 16 and has 32 bits already";
     did(&done, 1, &format!("standard input: {line}\n"), "");
     assert_eq!(names(&folder), ["large.fir", "long"]);
 }
@@ -199,9 +209,9 @@ fn many_images_get_a_line_each_and_a_count() {
     let done = fir(&["move", &good, &bad, &missing, &other, "-o", &out], b"");
     let lines: Vec<String> = done.text().lines().map(String::from).collect();
     assert_eq!(lines.len(), 4);
-    assert_eq!(lines[0], format!("{good}: moved to {out}/good, 31 bytes"));
+    assert_eq!(lines[0], format!("{good}: moved to {out}/good, 36 bytes"));
     assert!(lines[1] == format!("{bad}: {FLOW}"));
-    assert_eq!(lines[2], format!("{other}: moved to {out}/other, 18 bytes"));
+    assert_eq!(lines[2], format!("{other}: moved to {out}/other, 23 bytes"));
     assert_eq!(lines[3], "2 moved, 1 refused, 1 not read or written");
     assert!(done
         .errors

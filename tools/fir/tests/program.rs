@@ -23,19 +23,23 @@ fn output(arguments: &[&str]) -> Output {
 /// A call tree of very many steps.
 const LONG: &str = "
 version 0.0(r0: int) -> int
+  level portal
   block 0 quiet -> r0
     r0 = call 1.0(r0)
     r0 = call 1.0(r0)
 version 1.0(r0: int) -> int
+  level portal
   block 0 quiet -> r0
     r0 = call 2.0(r0)
     r0 = call 2.0(r0)
 version 2.0(r0: int) -> int
+  level portal
   block 0 quiet -> r0
     r0 = call 3.0(r0)
     r0 = call 3.0(r0)
 version 3.0(r0: int) -> int
   registers r1: int
+  level portal
   block 0 quiet -> r0
     r1 = lit 1
     r0 = add r0, r1
@@ -99,8 +103,8 @@ fn a_reader_that_goes_away_ends_it_quietly() {
     let calls = "r0 = call 1.0(r0)\n".repeat(32);
     let moves = "r0 = move r0\n".repeat(48);
     let tree = format!(
-        "version 0.0(r0: int) -> int\nblock 0 quiet -> r0\n{calls}
-         version 1.0(r0: int) -> int\nblock 0 quiet -> r0\n{moves}"
+        "version 0.0(r0: int) -> int\nlevel portal\nblock 0 quiet -> r0\n{calls}
+         version 1.0(r0: int) -> int\nlevel portal\nblock 0 quiet -> r0\n{moves}"
     );
     let file = file("program", "tree.fir", tree.as_bytes());
     let (status, errors) = abandoned(&["trace", &file, "0.0", "1"], 10);

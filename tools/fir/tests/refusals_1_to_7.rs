@@ -5,7 +5,7 @@ mod support;
 use cases::image;
 use support::refused;
 
-/// An identity: VERSION at 0, BLOCK at 11, 18 bytes.
+/// An identity: VERSION at 0, LEVEL at 11, BLOCK at 16, 23 bytes.
 const IDENTITY: &str = "version 0.0(r0: int) -> int\nblock 0 quiet -> r0\n";
 
 /// The identity's bytes with others from a place on.
@@ -37,56 +37,60 @@ fn question_1_names_the_size() {
 fn question_2_names_what_is_wrong_with_the_record() {
     let identity = image(IDENTITY);
     refused(
-        &identity[..17],
-        "refused by 2 at 11: a BLOCK of 7 bytes ends at 18, behind the image's end at 17",
+        &identity[..22],
+        "refused by 2 at 16: a BLOCK of 7 bytes ends at 23, behind the image's end at 22",
     );
     refused(
-        &identity[..13],
-        "refused by 2 at 11: the image ends 2 bytes into a record, and a head has 4",
+        &identity[..18],
+        "refused by 2 at 16: the image ends 2 bytes into a record, and a head has 4",
     );
     refused(
-        &identity_with(11, &[3]),
-        "refused by 2 at 11: a BLOCK of length 3, and 4 is the least",
+        &identity_with(16, &[3]),
+        "refused by 2 at 16: a BLOCK of length 3, and 4 is the least",
     );
     refused(
-        &identity_with(11, &[9, 0, 99, 0]),
-        "refused by 2 at 11: a record of 9 bytes ends at 20, behind the image's end at 18",
+        &identity_with(16, &[9, 0, 99, 0]),
+        "refused by 2 at 16: a record of 9 bytes ends at 25, behind the image's end at 23",
     );
 }
 
 #[test]
 fn question_3_names_the_kind_or_the_length() {
     refused(
-        &identity_with(13, &[3]),
-        "refused by 3 at 11: 3 is the kind of no record",
+        &identity_with(18, &[4]),
+        "refused by 3 at 16: 4 is the kind of no record",
     );
     refused(
-        &identity_with(13, &[16]),
-        "refused by 3 at 11: 16 was the kind of LIT with 32 bits; now LIT is kind 36, and `fir move` moves the image",
+        &identity_with(18, &[3]),
+        "refused by 3 at 16: LEVEL has 5 bytes, this one 7",
     );
     refused(
-        &identity_with(13, &[36]),
-        "refused by 3 at 11: LIT has 13 bytes, this one 7",
+        &identity_with(18, &[16]),
+        "refused by 3 at 16: 16 was the kind of LIT with 32 bits; now LIT is kind 36, and `fir move` moves the image",
     );
     refused(
-        &identity_with(13, &[24]),
-        "refused by 3 at 11: ARITH has 8 bytes, this one 7",
+        &identity_with(18, &[36]),
+        "refused by 3 at 16: LIT has 13 bytes, this one 7",
     );
     refused(
-        &identity_with(13, &[17]),
-        "refused by 3 at 11: MOVE has 6 bytes, this one 7",
+        &identity_with(18, &[24]),
+        "refused by 3 at 16: ARITH has 8 bytes, this one 7",
     );
     refused(
-        &identity_with(13, &[20, 0, 0, 4]),
-        "refused by 3 at 11: VEC of 4 registers has 10 bytes, this one 7",
+        &identity_with(18, &[17]),
+        "refused by 3 at 16: MOVE has 6 bytes, this one 7",
     );
     refused(
-        &identity_with(13, &[33]),
-        "refused by 3 at 11: CALL has 8 bytes at least, this one 7",
+        &identity_with(18, &[20, 0, 0, 4]),
+        "refused by 3 at 16: VEC of 4 registers has 10 bytes, this one 7",
     );
     refused(
-        &identity_with(13, &[34]),
-        "refused by 3 at 11: DISPATCH has 9 bytes at least, this one 7",
+        &identity_with(18, &[33]),
+        "refused by 3 at 16: CALL has 8 bytes at least, this one 7",
+    );
+    refused(
+        &identity_with(18, &[34]),
+        "refused by 3 at 16: DISPATCH has 9 bytes at least, this one 7",
     );
 }
 
@@ -157,7 +161,7 @@ fn question_4_names_a_count_that_is_too_great() {
         .collect();
     says(
         &many.join("\n"),
-        "refused by 4 at 1152: VERSION 65 of the image, and 64 are the most",
+        "refused by 4 at 1472: VERSION 65 of the image, and 64 are the most",
     );
 }
 
@@ -165,33 +169,33 @@ fn question_4_names_a_count_that_is_too_great() {
 fn question_4_names_what_is_out_of_bounds_in_blocks_and_instructions() {
     says(
         "version 0.0(r0: int) -> int\nblock 0 mark 2 -> r0",
-        "refused by 4 at 11: BLOCK has the mark 2, and marks are 0 quiet and 1 reflective",
+        "refused by 4 at 16: BLOCK has the mark 2, and marks are 0 quiet and 1 reflective",
     );
     says(
         &format!("{IDENTITY}{}", "r0 = lit 0\n".repeat(49)),
-        "refused by 4 at 11: BLOCK has 49 instructions, and 48 are the most",
+        "refused by 4 at 16: BLOCK has 49 instructions, and 48 are the most",
     );
     says(
         &format!("{IDENTITY}r0 = arith 5 r0, r0"),
-        "refused by 4 at 18: ARITH has the op 5, and 4 is the last",
+        "refused by 4 at 23: ARITH has the op 5, and 4 is the last",
     );
     let nine = ["r0"; 9].join(", ");
     says(
         &format!("{IDENTITY}r0 = vec [{nine}]"),
-        "refused by 4 at 18: VEC lists 9 registers, and 8 are the most",
+        "refused by 4 at 23: VEC lists 9 registers, and 8 are the most",
     );
     says(
         &format!("{IDENTITY}r0 = call 0.0({nine})"),
-        "refused by 4 at 18: CALL of 0.0 lists 9 registers, and 8 are the most",
+        "refused by 4 at 23: CALL of 0.0 lists 9 registers, and 8 are the most",
     );
     says(
         &format!("{IDENTITY}r0 = dispatch 0() -> int mark 7"),
-        "refused by 4 at 18: DISPATCH of function 0 has the mark 7, and marks are 0 quiet and 1 reflective",
+        "refused by 4 at 23: DISPATCH of function 0 has the mark 7, and marks are 0 quiet and 1 reflective",
     );
     let nine = ["r0: int"; 9].join(", ");
     says(
         &format!("{IDENTITY}r0 = dispatch 0({nine}) -> int quiet"),
-        "refused by 4 at 18: DISPATCH of function 0 lists 9 registers, and 8 are the most",
+        "refused by 4 at 23: DISPATCH of function 0 lists 9 registers, and 8 are the most",
     );
 }
 
@@ -207,27 +211,27 @@ fn question_4_names_what_is_due() {
     );
     says(
         "version 0.0(r0: int) -> int blocks=2\nblock 0 quiet -> r0\nversion 0.1(r0: int) -> int\nblock 0 quiet -> r0",
-        "refused by 4 at 18: VERSION stands where 1 more block of 0.0 is due",
+        "refused by 4 at 23: VERSION stands where 1 more block of 0.0 is due",
     );
     says(
         "version 0.0(r0: int) -> int\nblock 0 quiet -> r0 count=2\nblock 1 quiet -> r0",
-        "refused by 4 at 18: BLOCK stands where 2 more instructions of block 0 of 0.0 are due",
+        "refused by 4 at 23: BLOCK stands where 2 more instructions of block 0 of 0.0 are due",
     );
     says(
         "version 0.0(r0: int) -> int blocks=1\nblock 0 quiet -> r0\nblock 1 quiet -> r0",
-        "refused by 4 at 18: BLOCK stands where a VERSION is due",
+        "refused by 4 at 23: BLOCK stands where a VERSION is due",
     );
     says(
         "version 0.0(r0: int) -> int blocks=2\nblock 0 quiet -> r0",
-        "refused by 4 at 18: the image ends where 1 more block of 0.0 is due",
+        "refused by 4 at 23: the image ends where 1 more block of 0.0 is due",
     );
     says(
         "version 0.0(r0: int) -> int\nblock 0 quiet -> r0 count=3\nr0 = lit 1",
-        "refused by 4 at 31: the image ends where 2 more instructions of block 0 of 0.0 are due",
+        "refused by 4 at 36: the image ends where 2 more instructions of block 0 of 0.0 are due",
     );
     says(
         "version 0.0(r0: int) -> int blocks=1\nr0 = lit 1",
-        "refused by 4 at 11: LIT stands where 1 more block of 0.0 is due",
+        "refused by 4 at 16: LIT stands where 1 more block of 0.0 is due",
     );
 }
 
@@ -239,7 +243,7 @@ fn question_5_names_the_version_that_is_due() {
     );
     says(
         &format!("{IDENTITY}version 0.2(r0: int) -> int\nblock 0 quiet -> r0"),
-        "refused by 5 at 18: VERSION 0.2 follows 0.0, and 0.1 or 1.0 is due",
+        "refused by 5 at 23: VERSION 0.2 follows 0.0, and 0.1 or 1.0 is due",
     );
 }
 
@@ -263,11 +267,11 @@ fn question_6_names_the_type_byte() {
     }
     says(
         &format!("{IDENTITY}r0 = dispatch 0(r0: int, r0: 0x41) -> int quiet"),
-        "refused by 6 at 18: the type of argument 2, r0, of DISPATCH of function 0 is 0x41, and there is no ownership 4",
+        "refused by 6 at 23: the type of argument 2, r0, of DISPATCH of function 0 is 0x41, and there is no ownership 4",
     );
     says(
         &format!("{IDENTITY}r0 = dispatch 0(r0: int) -> borrow vector quiet"),
-        "refused by 6 at 18: the return type of DISPATCH of function 0 is borrowed, and only parameters are",
+        "refused by 6 at 23: the return type of DISPATCH of function 0 is borrowed, and only parameters are",
     );
 }
 
@@ -302,7 +306,7 @@ fn question_7_names_what_does_not_exist() {
     for (instruction, words) in cases {
         says(
             &format!("{IDENTITY}{instruction}"),
-            &format!("refused by 7 at 18: {words}"),
+            &format!("refused by 7 at 23: {words}"),
         );
     }
 }
@@ -311,14 +315,14 @@ fn question_7_names_what_does_not_exist() {
 fn question_7_names_what_is_wrong_with_a_block() {
     says(
         "version 0.0(r0: int) -> int\nregisters r1: int, r2: int\nblock 0 quiet -> r3",
-        "refused by 7 at 13: BLOCK 0 gives r3, and 0.0 declares r0 to r2",
+        "refused by 7 at 18: BLOCK 0 gives r3, and 0.0 declares r0 to r2",
     );
     says(
         &format!("{IDENTITY}block 1 quiet -> r0"),
-        "refused by 7 at 18: BLOCK 1 is named by no PROM, and needs one",
+        "refused by 7 at 23: BLOCK 1 is named by no PROM, and needs one",
     );
     says(
         &format!("{IDENTITY}r0 = prom 1\nr0 = prom 1\nblock 1 quiet -> r0"),
-        "refused by 7 at 30: BLOCK 1 is named by 2 PROMs, at 18 and 24, and needs one",
+        "refused by 7 at 35: BLOCK 1 is named by 2 PROMs, at 23 and 29, and needs one",
     );
 }

@@ -5,8 +5,8 @@ mod support;
 use cases::image;
 use support::refused;
 
-/// A version with a register of each type: VERSION at 0, BLOCK at 19, the first
-/// instruction at 26. Version 1.0 behind it has a parameter of each ownership.
+/// A version with a register of each type: VERSION at 0, BLOCK at 24, the first
+/// instruction at 31. Version 1.0 behind it has a parameter of each ownership.
 fn with(instructions: &str) -> Vec<u8> {
     image(&format!(
         "version 0.0(r0: int, r1: vector, r2: own vector, r3: borrow vector, r4: value, r5: any, r6: quiet promise, r7: reflective promise) -> int
@@ -20,10 +20,10 @@ fn with(instructions: &str) -> Vec<u8> {
     ))
 }
 
-/// Asserts the words for an instruction that question 8 refuses at 26.
+/// Asserts the words for an instruction that question 8 refuses at 31.
 #[track_caller]
 fn misfit(instruction: &str, words: &str) {
-    refused(&with(instruction), &format!("refused by 8 at 26: {words}"));
+    refused(&with(instruction), &format!("refused by 8 at 31: {words}"));
 }
 
 #[test]
@@ -300,7 +300,7 @@ fn promise_blocks_set_and_empty_nothing() {
             &with(&format!(
                 "r7 = prom 1\nblock 1 reflective -> r0\n{instruction}"
             )),
-            &format!("refused by 8 at 39: {words}"),
+            &format!("refused by 8 at 44: {words}"),
         );
     };
     in_block(
@@ -325,11 +325,11 @@ fn promise_blocks_set_and_empty_nothing() {
 fn a_promise_block_gives_an_integer() {
     refused(
         &with("r7 = prom 1\nblock 1 reflective -> r1"),
-        "refused by 8 at 32: BLOCK 1 gives r1, a shared vector, and a promise gives an integer",
+        "refused by 8 at 37: BLOCK 1 gives r1, a shared vector, and a promise gives an integer",
     );
     refused(
         &with("r7 = prom 1\nblock 1 reflective -> r5"),
-        "refused by 8 at 32: BLOCK 1 gives r5, of kind any, and a promise gives an integer",
+        "refused by 8 at 37: BLOCK 1 gives r5, of kind any, and a promise gives an integer",
     );
 }
 
@@ -340,7 +340,7 @@ fn block_0_gives_what_its_version_returns() {
             &image(&format!(
                 "version 0.0(r0: {parameter}) -> {returns}\nblock 0 quiet -> r0"
             )),
-            &format!("refused by 8 at 11: BLOCK 0 gives r0, {words}"),
+            &format!("refused by 8 at 16: BLOCK 0 gives r0, {words}"),
         );
     };
     gives(

@@ -132,21 +132,31 @@ fn compared(seed: u64, searched: &mut usize) -> Option<&'static str> {
     let given = arguments(&words)?;
     let budget = Random::new(seed).pick(&[0u32, 3, 40, 3000, 3000, 3000]);
     let (name, limit) = (format!("{}.{}", entry.0, entry.1), budget.to_string());
+    let level = Random::new(!seed).pick(&[0usize, 1, 2, 2, 2, 2]);
+    let stated = level.to_string();
     let call = |command: &[&str]| {
-        let mut call = [command, &["-", &name, "--budget", &limit]].concat();
+        let mut call = [
+            command,
+            &["-", &name, "--budget", &limit, "--level", &stated],
+        ]
+        .concat();
         call.extend(given.iter().map(String::as_str));
         fir(&call, &image)
     };
     let (run, trace) = (call(&["run"]), call(&["trace"]));
     let mut buffer = [0; 16];
-    let state = match State::begin(&program, entry.0, entry.1, &words, &buffer) {
+    let state = match State::begin(&program, level, entry.0, entry.1, &words, &buffer) {
         Ok(state) => state,
         Err(refusal) => {
             let begin = format!("refused by {} at 0: ", refusal.number);
             assert!(run.text().starts_with(&begin), "seed {seed}");
             assert_eq!(run.text(), trace.text(), "seed {seed}");
             assert_eq!((run.status, trace.status), (1, 1), "seed {seed}");
-            return Some("refused");
+            return Some(if refusal.number == 19 {
+                "refused by 19"
+            } else {
+                "refused"
+            });
         }
     };
     let mut counted = Counted::default();
@@ -205,6 +215,7 @@ fn runs_and_traces_end_as_the_reference_says() {
         "VECTORS",
         "PROMISES",
         "refused",
+        "refused by 19",
     ];
     for name in all {
         assert!(met.contains_key(name), "never met: {name}");
@@ -224,6 +235,9 @@ struct Halfway {
     buffer: [Integer; 16],
     counted: Counted,
 }
+
+/// The level of a run that states none.
+const HIGHEST: usize = 2;
 
 /// The steps that a run which changes is given.
 const BUDGET: u32 = 3000;
@@ -269,7 +283,7 @@ fn compared_changing(seed: u64) -> Option<&'static str> {
     let given = arguments(&words)?;
     let mut random = Random::new(seed);
     let (step, mut buffer) = (random.below(30) as u32, [0; 16]);
-    let state = State::begin(&program, entry.0, entry.1, &words, &buffer).ok()?;
+    let state = State::begin(&program, HIGHEST, entry.0, entry.1, &words, &buffer).ok()?;
     let mut counted = Counted::default();
     counted.steps(&program, state.clone(), step);
     let (state, answer, steps) = state.budget(&program, step, &mut buffer);

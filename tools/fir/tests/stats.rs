@@ -9,20 +9,25 @@ use support::{file, fir, Done};
 /// fits version 1 of three, and with nothing, which fits version 2.
 const TEXT: &str = "
 version 0.0(r0: int) -> int
+  level portal
   block 0 quiet -> r0
     r0 = call 2.0(r0)
 version 1.0(r0: vector) -> int
   registers r1: int
+  level portal
   block 0 quiet -> r1
     r1 = len r0
 version 1.1(r0: int) -> int
+  level portal
   block 0 quiet -> r0
 version 1.2() -> int
   registers r0: int
+  level portal
   block 0 quiet -> r0
     r0 = lit 3
 version 2.0(r0: int) -> int
   registers r1: int
+  level portal
   block 0 quiet -> r0
     r1 = dispatch 1(r0: int) -> int quiet
     r0 = dispatch 1() -> int quiet
@@ -60,7 +65,7 @@ fn the_sums_follow_the_result() {
 
 #[test]
 fn a_budget_counts_the_steps_that_were_taken() {
-    let stands = "  at 120 in 2.0, block 0: r1 = dispatch 1(r0: int) -> int quiet\n";
+    let stands = "  at 145 in 2.0, block 0: r1 = dispatch 1(r0: int) -> int quiet\n";
     did(
         &run(&["--stats", "--budget", "1"]),
         1,
@@ -83,32 +88,36 @@ fn a_budget_counts_the_steps_that_were_taken() {
 #[test]
 fn a_dispatch_without_a_fit_is_a_step_and_one_that_is_deep_is_none() {
     let misfit = "version 0.0(r0: int) -> int
+                    level portal
                     block 0 quiet -> r0
                       r0 = dispatch 1() -> int quiet
                   version 1.0(r0: int) -> int
+                    level portal
                     block 0 quiet -> r0
                   version 1.1(r0: vector) -> int
                     registers r1: int
+                    level portal
                     block 0 quiet -> r1
                       r1 = len r0";
     did(
         &fir(&["run", "-", "0.0", "4", "--stats"], &image(misfit)),
         1,
         "UNDEF after 1 step
-  at 18 in 0.0, block 0: r0 = dispatch 1() -> int quiet: no version of function 1 fits
+  at 23 in 0.0, block 0: r0 = dispatch 1() -> int quiet: no version of function 1 fits
   steps: 1
   calls: 0
   DISPATCH steps: 1, looked at 2 of 2 versions
 ",
     );
     let deep = "version 0.0(r0: int) -> int
+                  level portal
                   block 0 quiet -> r0
                     r0 = dispatch 0(r0: int) -> int quiet";
     did(
         &fir(&["run", "-", "0.0", "4", "--stats"], &image(deep)),
         1,
         "DEEP after 31 steps
-  at 18 in 0.0, block 0: r0 = dispatch 0(r0: int) -> int quiet
+  at 23 in 0.0, block 0: r0 = dispatch 0(r0: int) -> int quiet
   steps: 31
   calls: 31
   DISPATCH steps: 31, looked at 31 of 31 versions
@@ -124,6 +133,7 @@ fn a_run_that_goes_on_under_another_image_counts_on() {
     let new = TEXT.replace(
         "version 1.0(r0: vector) -> int
   registers r1: int
+  level portal
   block 0 quiet -> r1
     r1 = len r0
 version 1.1(",

@@ -161,7 +161,7 @@ fn dispatch_without_a_fit_has_looked_at_all() {
             "2 2 1.0 block 0 end -> r0 ends call 1 with 4",
             "3 1 0.0 block 0 r0 = dispatch 1(r0: int, r0: int) -> int quiet looked at 3 of 3, UNDEF: no version of function 1 fits",
             "UNDEF after 3 steps",
-            "at 29 in 0.0, block 0: r0 = dispatch 1(r0: int, r0: int) -> int quiet: no version of function 1 fits",
+            "at 34 in 0.0, block 0: r0 = dispatch 1(r0: int, r0: int) -> int quiet: no version of function 1 fits",
         ],
     );
 }
@@ -212,12 +212,12 @@ fn a_stop_and_a_used_up_budget_end_the_trace() {
         &[
             "1 1 0.0 block 0 r0 = call 0.0(r0) opens call 1 of 0.0 with r0 = 1",
             "STEPS after 1 step",
-            "at 18 in 0.0, block 0: r0 = call 0.0(r0)",
+            "at 23 in 0.0, block 0: r0 = call 0.0(r0)",
         ],
     );
     let at_start = [
         "STEPS after 0 steps",
-        "at 18 in 0.0, block 0: r0 = call 0.0(r0)",
+        "at 23 in 0.0, block 0: r0 = call 0.0(r0)",
     ];
     traces(text, &["1", "--budget", "0"], &at_start);
 }
@@ -290,6 +290,6 @@ fn a_force_of_a_promise_that_is_being_forced_is_named() {
              r0 = force r1";
     let done = fir(&["run", "-", "0.0", "1"], &image(text));
     let expected =
-        "UNDEF after 4 steps\n  at 51 in 0.0, block 2: r0 = force r1: p1 is being forced\n";
+        "UNDEF after 4 steps\n  at 56 in 0.0, block 2: r0 = force r1: p1 is being forced\n";
     assert_eq!(done.text(), expected);
 }

@@ -10,7 +10,7 @@ use crate::raw::{FirAnswer, FirEntry, FirSaid, FirSearched, FirValue, FirVerdict
 /// A no: the question, and the offset of the first record that fails.
 #[derive(Clone, Copy, PartialEq, Eq, Debug)]
 pub struct Refusal {
-    /// The question, 1 to 17.
+    /// The question, 1 to 19.
     pub question: u8,
     /// The offset of the record; the image's length where records or, by 15, a
     /// version are missing.

@@ -25,7 +25,7 @@ pub const FIR_REFUSED_SIZE: u8 = 1;
 pub const FIR_REFUSED_RECORDS: u8 = 2;
 /// Each kind is known, its length the one its fields make.
 pub const FIR_REFUSED_KINDS: u8 = 3;
-/// Numbers, counts, marks, op and n are in bounds, records in order.
+/// Numbers, counts, marks, levels, op and n are in bounds, records in order.
 pub const FIR_REFUSED_BOUNDS: u8 = 4;
 /// The first version is 0.0, each next one follows on it.
 pub const FIR_REFUSED_NUMBERING: u8 = 5;
@@ -37,12 +37,16 @@ pub const FIR_REFUSED_EXISTENCE: u8 = 7;
 pub const FIR_REFUSED_SKIPS: u8 = 14;
 /// Types fit.
 pub const FIR_REFUSED_TYPES: u8 = 8;
+/// No CALL names a version of a higher level.
+pub const FIR_REFUSED_CALLS: u8 = 18;
 /// Each block's mark covers its effect.
 pub const FIR_REFUSED_EFFECTS: u8 = 9;
 /// Flow holds.
 pub const FIR_REFUSED_FLOW: u8 = 10;
 /// The entry exists.
 pub const FIR_REFUSED_ENTRY: u8 = 11;
+/// The entry is of the run's level or lower.
+pub const FIR_REFUSED_LEVEL: u8 = 19;
 /// The argument words are used up, each argument matching its parameter.
 pub const FIR_REFUSED_ARGUMENTS: u8 = 12;
 /// The result buffer has at least 16 places.
@@ -53,6 +57,13 @@ pub const FIR_REFUSED_CHANGE: u8 = 15;
 pub const FIR_REFUSED_LITERAL: u8 = 16;
 /// The moved image has at most 32,768 bytes and fits the buffer.
 pub const FIR_REFUSED_ROOM: u8 = 17;
+
+/// The level of the tenants' portal.
+pub const FIR_PORTAL: usize = 0;
+/// The level of site staff.
+pub const FIR_STAFF: usize = 1;
+/// The level of the factory, which all higher numbers count as.
+pub const FIR_FACTORY: usize = 2;
 
 /// The form in force, whose literals have 64 bits.
 pub const FIR_FORM_64: u8 = 0;

@@ -22,5 +22,5 @@ pub use moving::{narrow, report_in, verdict_in, widen, Form};
 pub use parts::{Activation, Opener, Promise};
 #[cfg(feature = "stand_in")]
 pub use raw::{FirAnswer, FirEntry, FirSaid, FirSearched, FirValue, FirVerdict};
-pub use run::{Entry, Run};
+pub use run::{Entry, Run, FACTORY, PORTAL, STAFF};
 pub use state::{State, ACTIVATION, CELLS, OWNER, PROMISE};

@@ -105,6 +105,7 @@ extern "C" {
     pub fn fir_begin(
         image: *const u8,
         image_length: usize,
+        level: usize,
         function: usize,
         version: usize,
         words: *const i64,
@@ -125,6 +126,7 @@ extern "C" {
     pub fn fir_run(
         image: *const u8,
         image_length: usize,
+        level: usize,
         function: usize,
         version: usize,
         words: *const i64,

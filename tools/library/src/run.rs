@@ -3,9 +3,17 @@
 #![allow(unsafe_code)] // The library is called across a C boundary.
 
 use crate::answers::{Held, Ran, Refusal, Said, Search};
+use crate::constants::{FIR_FACTORY, FIR_PORTAL, FIR_STAFF};
 use crate::raw;
 use crate::state::{assert_layout, State};
 use std::borrow::Cow;
+
+/// The level of the tenants' portal.
+pub const PORTAL: usize = FIR_PORTAL;
+/// The level of site staff.
+pub const STAFF: usize = FIR_STAFF;
+/// The level of the factory, the highest; each number above it counts as it.
+pub const FACTORY: usize = FIR_FACTORY;
 
 /// The version that a run enters.
 #[derive(Clone, Copy, PartialEq, Eq, Debug)]
@@ -25,9 +33,12 @@ pub struct Run<'i> {
 }
 
 impl<'i> Run<'i> {
-    /// Begins a run. The buffer is asked for its length only.
+    /// Begins a run at a level. The buffer is asked for its length only. Nothing of
+    /// the level is kept: no version above it is ever entered, and at each higher
+    /// level the run is the same.
     pub fn begin(
         image: impl Into<Cow<'i, [u8]>>,
+        level: usize,
         entry: Entry,
         words: &[i64],
         buffer: &[i64],
@@ -36,7 +47,7 @@ impl<'i> Run<'i> {
             image: Cow::Borrowed(&[]),
             state: State::blank(),
         };
-        run.restart(image, entry, words, buffer)?;
+        run.restart(image, level, entry, words, buffer)?;
         Ok(run)
     }
 
@@ -54,6 +65,7 @@ impl<'i> Run<'i> {
     pub fn restart(
         &mut self,
         image: impl Into<Cow<'i, [u8]>>,
+        level: usize,
         entry: Entry,
         words: &[i64],
         buffer: &[i64],
@@ -67,6 +79,7 @@ impl<'i> Run<'i> {
             raw::fir_begin(
                 image.as_ptr(),
                 image.len(),
+                level,
                 entry.function,
                 entry.version,
                 words.as_ptr(),
@@ -86,6 +99,7 @@ impl<'i> Run<'i> {
     pub fn rerun(
         &mut self,
         image: impl Into<Cow<'i, [u8]>>,
+        level: usize,
         entry: Entry,
         words: &[i64],
         budget: u32,
@@ -99,6 +113,7 @@ impl<'i> Run<'i> {
             raw::fir_run(
                 image.as_ptr(),
                 image.len(),
+                level,
                 entry.function,
                 entry.version,
                 words.as_ptr(),

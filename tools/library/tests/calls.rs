@@ -2,8 +2,8 @@
 
 use library::{
     narrow, report, report_in, verdict, verdict_in, widen, Activation, Answer, End, Entry, Form,
-    Held, Opener, Promise, Ran, Refusal, Run, Said, Search, State, Verdict, CELLS, FIR_ITEMS,
-    FIR_REGISTERS,
+    Held, Opener, Promise, Ran, Refusal, Run, Said, Search, State, Verdict, CELLS, FACTORY,
+    FIR_ITEMS, FIR_REGISTERS, PORTAL, STAFF,
 };
 
 /// The version that the runs enter.
@@ -16,6 +16,7 @@ const ENTRY: Entry = Entry {
 const TEXT: &str = "
     version 0.0(r0: int) -> own vector
       registers r1: own vector, r2: quiet promise, r3: int
+      level portal
       block 0 quiet -> r1
         r1 = vec [r0, r0]
         store x2 = r0
@@ -33,7 +34,7 @@ fn image() -> Vec<u8> {
 
 /// A run of the image that has begun with the integer 1.
 fn begun(image: &[u8]) -> Run<'_> {
-    let begun = Run::begin(image, ENTRY, &[-1, 1], &[0; FIR_ITEMS]);
+    let begun = Run::begin(image, PORTAL, ENTRY, &[-1, 1], &[0; FIR_ITEMS]);
     begun.unwrap_or_else(|no| panic!("{no:?}"))
 }
 
@@ -64,38 +65,39 @@ fn a_report_needs_room_for_all_of_it() {
     assert_eq!(short, vec![7; expected.len() - 1]);
 }
 
-/// Gives the literal -3, in the form of 32 bits.
-const OLD: [u8; 27] = [
-    11, 0, 1, 0, 0, 0, 0, 1, 2, 1, 2, 7, 0, 2, 0, 0, 0, 1, 9, 0, 16, 0, 0, 0xFD, 255, 255, 255,
+/// Gives the literal -3 to site staff, in the form of 32 bits.
+const OLD: [u8; 32] = [
+    11, 0, 1, 0, 0, 0, 0, 1, 2, 1, 2, 5, 0, 3, 0, 1, 7, 0, 2, 0, 0, 0, 1, 9, 0, 16, 0, 0, 0xFD,
+    255, 255, 255,
 ];
 
 /// The same in the form of 64 bits.
-const NEW: [u8; 31] = [
-    11, 0, 1, 0, 0, 0, 0, 1, 2, 1, 2, 7, 0, 2, 0, 0, 0, 1, 13, 0, 36, 0, 0, 0xFD, 255, 255, 255,
-    255, 255, 255, 255,
+const NEW: [u8; 36] = [
+    11, 0, 1, 0, 0, 0, 0, 1, 2, 1, 2, 5, 0, 3, 0, 1, 7, 0, 2, 0, 0, 0, 1, 13, 0, 36, 0, 0, 0xFD,
+    255, 255, 255, 255, 255, 255, 255,
 ];
 
 #[test]
 fn an_image_is_moved_there_and_back_and_places_past_it_stay() {
     let mut out = [7; 40];
-    assert_eq!(widen(&OLD, &mut out), Ok(31));
-    assert_eq!((&out[..31], &out[31..]), (&NEW[..], &[7; 9][..]));
-    let mut back = [7; 27];
-    assert_eq!(narrow(&NEW, &mut back), Ok(27));
+    assert_eq!(widen(&OLD, &mut out), Ok(36));
+    assert_eq!((&out[..36], &out[36..]), (&NEW[..], &[7; 4][..]));
+    let mut back = [7; 32];
+    assert_eq!(narrow(&NEW, &mut back), Ok(32));
     assert_eq!(back, OLD);
 }
 
 #[test]
 fn a_refused_move_writes_nothing() {
     let mut out = [7; 40];
-    assert_eq!(widen(&NEW, &mut out), Err(no(3, 18)));
-    assert_eq!(narrow(&OLD, &mut out), Err(no(3, 18)));
-    assert_eq!(widen(&OLD, &mut out[..30]), Err(no(17, 0)));
-    assert_eq!(narrow(&NEW, &mut out[..26]), Err(no(17, 0)));
+    assert_eq!(widen(&NEW, &mut out), Err(no(3, 23)));
+    assert_eq!(narrow(&OLD, &mut out), Err(no(3, 23)));
+    assert_eq!(widen(&OLD, &mut out[..35]), Err(no(17, 0)));
+    assert_eq!(narrow(&NEW, &mut out[..31]), Err(no(17, 0)));
     let mut large = NEW;
-    large[27] = 0;
-    assert_eq!(narrow(&large, &mut out), Err(no(16, 18)));
-    assert_eq!(narrow(&large, &mut out[..0]), Err(no(16, 18)));
+    large[32] = 0;
+    assert_eq!(narrow(&large, &mut out), Err(no(16, 23)));
+    assert_eq!(narrow(&large, &mut out[..0]), Err(no(16, 23)));
     assert_eq!(out, [7; 40]);
 }
 
@@ -104,7 +106,7 @@ fn each_form_has_its_verdict_and_its_report() {
     let accepted = Verdict::Accepted { versions: 1 };
     for (form, image, other) in [(Form::Narrow, &OLD[..], &NEW[..]), (Form::Wide, &NEW, &OLD)] {
         assert_eq!(verdict_in(image, form), accepted);
-        assert_eq!(verdict_in(other, form), Verdict::Refused(no(3, 18)));
+        assert_eq!(verdict_in(other, form), Verdict::Refused(no(3, 23)));
         let expected = b"0.0 0 1 0 0\naccepted 1\n";
         let mut text = [7; 40];
         assert_eq!(report_in(image, form, &mut text), Some(expected.len()));
@@ -127,19 +129,25 @@ fn a_refused_run_leaves_the_one_in_its_place() {
         version: 1,
     };
     assert_eq!(
-        run.restart(&other, missing, &[-1, 1], &buffer),
+        run.restart(&other, PORTAL, missing, &[-1, 1], &buffer),
         Err(no(11, 0))
     );
-    assert_eq!(run.restart(&other, ENTRY, &[0], &buffer), Err(no(12, 0)));
+    assert_eq!(
+        run.restart(&other, PORTAL, ENTRY, &[0], &buffer),
+        Err(no(12, 0))
+    );
     let short = &buffer[1..];
-    assert_eq!(run.restart(&other, ENTRY, &[-1, 1], short), Err(no(13, 0)));
-    let ran = run.rerun(&other, ENTRY, &[-1], 5, &mut [0; FIR_ITEMS]);
+    assert_eq!(
+        run.restart(&other, PORTAL, ENTRY, &[-1, 1], short),
+        Err(no(13, 0))
+    );
+    let ran = run.rerun(&other, PORTAL, ENTRY, &[-1], 5, &mut [0; FIR_ITEMS]);
     let answer = Answer::Refused(no(12, 0));
     assert_eq!(ran, Ran { answer, steps: 0 });
     assert!(ran.is_refused());
     assert!(*run.state() == before, "the state is as it was");
     assert_eq!(run.image(), image);
-    let refused = Run::begin(&other, missing, &[-1, 1], &buffer);
+    let refused = Run::begin(&other, PORTAL, missing, &[-1, 1], &buffer);
     assert_eq!(refused.err(), Some(no(11, 0)));
 }
 
@@ -148,20 +156,20 @@ fn a_run_that_begins_anew_goes_by_its_own_image() {
     let (image, other) = (image(), other());
     let mut run = begun(&image);
     assert_eq!(
-        run.restart(&other, ENTRY, &[-1, 1], &[0; FIR_ITEMS]),
+        run.restart(&other, PORTAL, ENTRY, &[-1, 1], &[0; FIR_ITEMS]),
         Ok(())
     );
     assert_eq!(run.image(), other);
     assert_eq!(run.step(), Said::GoesOn);
     assert_eq!(run.look(0, 0), Some(Held::Integer(7)));
-    let ran = run.rerun(&image, ENTRY, &[-1, 1], 3, &mut [0; FIR_ITEMS]);
+    let ran = run.rerun(&image, PORTAL, ENTRY, &[-1, 1], 3, &mut [0; FIR_ITEMS]);
     assert!(!ran.is_refused());
     assert_eq!(run.image(), image);
 }
 
 /// The image of a body that gives 7.
 fn other() -> Vec<u8> {
-    let text = "version 0.0(r0: int) -> int\nblock 0 quiet -> r0\nr0 = lit 7";
+    let text = "version 0.0(r0: int) -> int\nlevel portal\nblock 0 quiet -> r0\nr0 = lit 7";
     text::assemble(text).expect("a text that is well formed")
 }
 
@@ -178,9 +186,9 @@ fn steps_and_budgets_come_to_the_same_end() {
     let ran = stepped.budget(0, &mut buffer);
     assert_eq!(ran, Ran { answer, steps: 0 });
     assert_eq!(buffer[..3], [1, 2, 9]);
-    let ran = stepped.rerun(&image, ENTRY, &[-1, 1], 8, &mut buffer);
+    let ran = stepped.rerun(&image, PORTAL, ENTRY, &[-1, 1], 8, &mut buffer);
     assert_eq!(ran, Ran { answer, steps: 8 });
-    let ran = stepped.rerun(&image, ENTRY, &[-1, 1], 7, &mut buffer);
+    let ran = stepped.rerun(&image, PORTAL, ENTRY, &[-1, 1], 7, &mut buffer);
     let answer = Answer::Steps;
     assert_eq!(ran, Ran { answer, steps: 7 });
 }
@@ -195,15 +203,17 @@ fn a_state_of_no_run_is_stuck() {
     assert!(*run.state() == State::blank(), "it is as it was");
 }
 
-/// 0.0, at 0 to 36, calls 1.0 twice, which adds a number to its argument.
+/// 0.0, at 0 to 41, calls 1.0 twice, which adds a number to its argument.
 fn adding(number: i64) -> Vec<u8> {
     let text = format!(
         "version 0.0(r0: int) -> int
+           level portal
            block 0 quiet -> r0
              r0 = call 1.0(r0)
              r0 = call 1.0(r0)
          version 1.0(r0: int) -> int
            registers r1: int
+           level portal
            block 0 quiet -> r0
              r1 = lit {number}
              r0 = add r0, r1"
@@ -236,9 +246,9 @@ fn a_change_that_is_refused_leaves_the_old_image_in_force() {
     let mut run = begun(&old);
     run.step();
     let before = run.state().clone();
-    assert_eq!(run.change(&new), Err(no(15, 36)));
+    assert_eq!(run.change(&new), Err(no(15, 41)));
     assert_eq!(run.change(other()), Err(no(15, 0)));
-    assert_eq!(run.change(&new[..36]), Err(no(7, 18)));
+    assert_eq!(run.change(&new[..41]), Err(no(7, 23)));
     assert_eq!(run.change(&[]), Err(no(1, 0)));
     assert!(*run.state() == before, "the state is as it was");
     assert_eq!(run.image(), old);
@@ -250,19 +260,19 @@ fn a_change_that_is_refused_leaves_the_old_image_in_force() {
 #[test]
 fn a_live_version_that_is_missing_is_at_the_new_images_length() {
     // Function 1 enters function 0, which alone the new image has.
-    let text = "version 0.0(r0: int) -> int\nblock 0 quiet -> r0\n";
-    let caller = "version 1.0(r0: int) -> int\nblock 0 quiet -> r0\nr0 = call 0.0(r0)";
+    let text = "version 0.0(r0: int) -> int\nlevel portal\nblock 0 quiet -> r0\n";
+    let caller = text.replace("0.0", "1.0") + "r0 = call 0.0(r0)";
     let image = |text: &str| text::assemble(text).expect("a text that is well formed");
     let (old, new) = (image(&format!("{text}{caller}")), image(text));
     let entry = Entry {
         function: 1,
         version: 0,
     };
-    let run = Run::begin(&old, entry, &[-1, 5], &[0; FIR_ITEMS]);
+    let run = Run::begin(&old, PORTAL, entry, &[-1, 5], &[0; FIR_ITEMS]);
     let mut run = run.unwrap_or_else(|no| panic!("{no:?}"));
-    assert_eq!(run.change(&new), Err(no(15, 18)));
+    assert_eq!(run.change(&new), Err(no(15, 23)));
     run.step();
-    assert_eq!(run.change(&new), Err(no(15, 18)));
+    assert_eq!(run.change(&new), Err(no(15, 23)));
     run.step();
     run.step();
     assert_eq!(run.change(&new), Ok(()));
@@ -320,20 +330,25 @@ fn places_of_a_live_call_can_be_seen() {
 fn searching() -> Vec<u8> {
     let text = "version 0.0(r0: value) -> int
                   registers r1: int
+                  level portal
                   block 0 quiet -> r1
                     r1 = lit 4
                     r1 = dispatch 1(r0: value) -> int quiet
                 version 0.1(r0: int) -> int
+                  level portal
                   block 0 quiet -> r0
                     r0 = dispatch 1(r0: int, r0: int) -> int quiet
                 version 1.0(r0: int) -> int
+                  level portal
                   block 0 quiet -> r0
                 version 1.1() -> int
                   registers r0: int
+                  level portal
                   block 0 quiet -> r0
                     r0 = lit 1
                 version 1.2(r0: vector) -> int
                   registers r1: int
+                  level portal
                   block 0 quiet -> r1
                     r1 = len r0";
     text::assemble(text).expect("a text that is well formed")
@@ -343,7 +358,7 @@ fn searching() -> Vec<u8> {
 fn a_run_at_a_dispatch_says_what_its_search_comes_to() {
     let image = searching();
     for (words, looked) in [(&[-1, 1][..], 1), (&[1, 8], 3)] {
-        let run = Run::begin(&image, ENTRY, words, &[0; FIR_ITEMS]);
+        let run = Run::begin(&image, PORTAL, ENTRY, words, &[0; FIR_ITEMS]);
         let mut run = run.unwrap_or_else(|no| panic!("{no:?}"));
         assert_eq!(run.search(), None);
         run.step();
@@ -367,7 +382,7 @@ fn a_search_that_none_fits_looks_at_all_before_and_after_undef() {
         function: 0,
         version: 1,
     };
-    let run = Run::begin(&image, entry, &[-1, 1], &[0; FIR_ITEMS]);
+    let run = Run::begin(&image, PORTAL, entry, &[-1, 1], &[0; FIR_ITEMS]);
     let mut run = run.unwrap_or_else(|no| panic!("{no:?}"));
     let (looked, versions) = (3, 3);
     assert_eq!(run.search(), Some(Search { looked, versions }));
@@ -379,6 +394,110 @@ fn a_search_that_none_fits_looks_at_all_before_and_after_undef() {
 fn a_state_of_no_run_stands_at_no_dispatch() {
     let run = Run::load_with_its_own_image(State::blank(), searching());
     assert_eq!(run.search(), None);
+}
+
+/// Versions 0.0 to 0.2 of the portal, site staff and the factory, which dispatch on
+/// function 1; its versions are for the factory, site staff and the portal, and give 10
+/// to 12.
+fn leveled() -> Vec<u8> {
+    let mut text = String::new();
+    for (number, level) in ["portal", "staff", "factory"].iter().enumerate() {
+        let dispatch = "r0 = dispatch 1(r0: int) -> int quiet";
+        text += &format!("version 0.{number}(r0: int) -> int\nlevel {level}\n");
+        text += &format!("block 0 quiet -> r0\n{dispatch}\n");
+    }
+    for (number, level) in ["factory", "staff", "portal"].iter().enumerate() {
+        text += &format!("version 1.{number}(r0: int) -> int\nlevel {level}\n");
+        text += &format!("block 0 quiet -> r0\nr0 = lit 1{number}\n");
+    }
+    text::assemble(&text).expect("a text that is well formed")
+}
+
+/// Version 0.`version` of an image.
+fn entry(version: usize) -> Entry {
+    let function = 0;
+    Entry { function, version }
+}
+
+#[test]
+fn a_run_begins_at_versions_of_its_level_or_lower() {
+    let (image, buffer) = (leveled(), [0; FIR_ITEMS]);
+    let begin = |level, version| Run::begin(&image, level, entry(version), &[-1, 1], &buffer).err();
+    for (level, enterable) in [
+        (PORTAL, 1),
+        (STAFF, 2),
+        (FACTORY, 3),
+        (3, 3),
+        (usize::MAX, 3),
+    ] {
+        for version in 0..3 {
+            let refused = (version >= enterable).then_some(no(19, 0));
+            assert_eq!(begin(level, version), refused, "{version} at {level}");
+        }
+    }
+    // 11 comes before 19, 19 before 12 and 13.
+    let begin = |version, words: &[i64]| {
+        let run = Run::begin(&image, PORTAL, entry(version), words, &[]);
+        run.err()
+    };
+    assert_eq!(begin(3, &[]), Some(no(11, 0)));
+    assert_eq!(begin(2, &[]), Some(no(19, 0)));
+    assert_eq!(begin(0, &[]), Some(no(12, 0)));
+    assert_eq!(begin(0, &[-1, 1]), Some(no(13, 0)));
+    let mut run = begun(&image);
+    let before = run.state().clone();
+    let ran = run.rerun(&image, STAFF, entry(2), &[-1, 1], 9, &mut [0; FIR_ITEMS]);
+    assert_eq!(ran.answer, Answer::Refused(no(19, 0)));
+    assert!(*run.state() == before, "the state is as it was");
+}
+
+#[test]
+fn a_run_is_the_same_at_each_level_that_may_enter() {
+    let image = leveled();
+    for (version, looked) in [(0, 3), (1, 2), (2, 1)] {
+        for level in [version, FACTORY, FACTORY + 1, usize::MAX] {
+            let run = Run::begin(&image, level, entry(version), &[-1, 1], &[0; FIR_ITEMS]);
+            let mut run = run.unwrap_or_else(|no| panic!("{no:?}"));
+            let versions = 3;
+            assert_eq!(run.search(), Some(Search { looked, versions }));
+            let ran = run.budget(9, &mut [0; FIR_ITEMS]);
+            let answer = Answer::Ended(End::Integer(9 + looked as i64));
+            assert_eq!(ran, Ran { answer, steps: 4 });
+        }
+    }
+}
+
+#[test]
+fn a_call_of_a_higher_level_is_18_at_the_call() {
+    let version = |numbers, level| {
+        format!("version {numbers}(r0: int) -> int\nlevel {level}\nblock 0 quiet -> r0\n")
+    };
+    let calling = |own, called| {
+        let text = version("0.0", own) + "r0 = call 0.1(r0)\n" + &version("0.1", called);
+        verdict(&text::assemble(&text).expect("a text that is well formed"))
+    };
+    let accepted = Verdict::Accepted { versions: 2 };
+    assert_eq!(calling("staff", "portal"), accepted);
+    assert_eq!(calling("staff", "staff"), accepted);
+    let refused = Verdict::Refused(no(18, 11 + 5 + 7));
+    assert_eq!(calling("staff", "factory"), refused);
+    assert_eq!(calling("portal", "staff"), refused);
+}
+
+#[test]
+fn a_version_with_a_live_call_keeps_its_level() {
+    // 0.0 dispatches on 1.2; the level of 1.2 is the last LEVEL's byte.
+    let old = leveled();
+    let mut new = old.clone();
+    let version = old.len() - (11 + 5 + 7 + 13);
+    new[version + 15] = 1;
+    let mut run = begun(&old);
+    run.step();
+    assert_eq!(run.change(&new), Err(no(15, version)));
+    let mut run = begun(&old);
+    assert_eq!(run.change(&new), Ok(()));
+    assert_eq!(run.search().map(|search| search.looked), Some(3));
+    assert_eq!(run.step(), Said::Ended(End::Undef));
 }
 
 #[test]

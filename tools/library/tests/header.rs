@@ -36,6 +36,9 @@ fn bounds_and_questions() -> Vec<(&'static str, usize)> {
         FIR_ACTIVATIONS,
         FIR_ITEMS,
         FIR_PLACES,
+        FIR_PORTAL,
+        FIR_STAFF,
+        FIR_FACTORY,
     ];
     let questions = named![
         FIR_ACCEPTED,
@@ -48,9 +51,11 @@ fn bounds_and_questions() -> Vec<(&'static str, usize)> {
         FIR_REFUSED_EXISTENCE,
         FIR_REFUSED_SKIPS,
         FIR_REFUSED_TYPES,
+        FIR_REFUSED_CALLS,
         FIR_REFUSED_EFFECTS,
         FIR_REFUSED_FLOW,
         FIR_REFUSED_ENTRY,
+        FIR_REFUSED_LEVEL,
         FIR_REFUSED_ARGUMENTS,
         FIR_REFUSED_BUFFER,
         FIR_REFUSED_CHANGE,

@@ -55,6 +55,7 @@ impl Assembly {
                 (Item::Record(Record::Version(head)), blocks)
             }
             Line::Registers(typed) => return self.add_registers(typed),
+            Line::Level(level) => (Item::Record(Record::Level(level)), None),
             Line::Block(written, head, count) => {
                 if written != self.blocks {
                     return Err(format!("this is block {}", self.blocks));

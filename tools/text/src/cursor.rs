@@ -1,7 +1,7 @@
 //! A walk over the words, numbers and signs of one line.
 
-use crate::vocabulary::{KINDS, MARKS, OWNERSHIPS};
-use reference::{Integer, Kind, Mark, Name, Ownership, Register, Type};
+use crate::vocabulary::{KINDS, LEVELS, MARKS, OWNERSHIPS};
+use reference::{Integer, Kind, Level, Mark, Name, Ownership, Register, Type};
 use std::str::FromStr;
 
 /// What is wrong with a line.
@@ -177,6 +177,15 @@ impl<'a> Cursor<'a> {
         let register = self.register()?;
         self.sign(":")?;
         Ok((register, self.ty()?))
+    }
+
+    /// Asks for a level.
+    pub fn level(&mut self) -> Result<Level, Reason> {
+        let level = LEVELS.iter().position(|word| self.take_word(word));
+        match level {
+            Some(level) => Ok(Level(level as u8)),
+            None => self.lettered("", "portal, staff or factory").map(Level),
+        }
     }
 
     /// Asks for a mark.

@@ -2,7 +2,7 @@
 
 use crate::instruction::{self, typed};
 use crate::item::{implied_counts, items, Item};
-use crate::vocabulary::{mark_text, type_text};
+use crate::vocabulary::{level_text, mark_text, type_text};
 use reference::record::{BlockRecord, VersionRecord};
 use reference::Record;
 
@@ -35,6 +35,7 @@ fn print(image: &[u8], finish: impl Fn(String, usize) -> String) -> String {
                 blocks = 0;
                 version_lines(head, implied, offset == 0)
             }
+            Item::Record(Record::Level(level)) => vec![format!("  level {}", level_text(*level))],
             Item::Record(Record::Block(head)) => {
                 blocks += 1;
                 vec![block_line(head, blocks - 1, implied)]

@@ -104,7 +104,7 @@ fn parse_with_destination(line: &mut Cursor, d: Register) -> Result<Instruction,
 
 /// SET, STORE, POKE and SKIP.
 fn parse_without_destination(line: &mut Cursor) -> Result<Instruction, Reason> {
-    let unknown = line.expected("version, registers, block, bytes or an instruction");
+    let unknown = line.expected("version, registers, level, block, bytes or an instruction");
     match line.word() {
         "set" => {
             let ((a, i), e) = parse_assignment(line, parse_item)?;

@@ -57,7 +57,7 @@ pub fn implied_counts(items: &[Item]) -> Vec<usize> {
                 instructions = 0;
             }
             Item::Record(Record::Instruction(_)) => instructions += 1,
-            Item::Bytes(_) => {}
+            Item::Record(Record::Level(_)) | Item::Bytes(_) => {}
         }
     }
     counts

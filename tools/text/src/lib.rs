@@ -3,12 +3,13 @@
 //! # Reading it
 //!
 //! A text is read line by line; `#` opens a comment, and spaces are free. A
-//! `version`, `block` or instruction line is one record of the image:
+//! `version`, `level`, `block` or instruction line is one record of the image:
 //!
 //! ```text
 //! # Doubles each of two items: 0.0 owns the vector, 1.0 borrows it.
 //! version 0.0(r0: own vector) -> own vector
 //!   registers r1: int, r2: int
+//!   level portal
 //!   block 0 quiet -> r0
 //!     r1 = lit 0
 //!     r2 = call 1.0(r0, r1)
@@ -18,13 +19,15 @@
 //!     set r0[r1] = r2
 //!
 //! version 1.0(r0: borrow vector, r1: int) -> int
+//!   level portal
 //!   block 0 quiet -> r1
 //!     r1 = get r0[r1]
 //!     r1 = add r1, r1
 //! ```
 //!
 //! The first registers are the parameters; a `registers` line right after its
-//! `version` line declares the others. Blocks are numbered from 0 on in each
+//! `version` line declares the others. The `level` line behind them says for whom
+//! the version is: portal, staff or factory. Blocks are numbered from 0 on in each
 //! version. The register after a block's `->` is its result register.
 //!
 //! The twenty instructions, by kind number:
@@ -55,10 +58,11 @@
 //! # Grammar
 //!
 //! ```text
-//! line        = [ version | registers | block | instruction | bytes ] [ "#" … ]
+//! line        = [ version | registers | level | block | instruction | bytes ] [ "#" … ]
 //! version     = "version" number "." number "(" [ typed { "," typed } ] ")" "->" type
 //!               [ "parameters" "=" number ] [ "blocks" "=" number ]
 //! registers   = "registers" typed { "," typed }
+//! level       = "level" ( "portal" | "staff" | "factory" | number )
 //! block       = "block" number mark "->" register [ "count" "=" number ]
 //! instruction = as above; ARITH also as register "=" "arith" number register "," register
 //! bytes       = "bytes" { two hexadecimal digits }
@@ -76,7 +80,7 @@
 //! Counts are those of what follows: a version's `blocks` are the `block` lines
 //! up to the next `version` line, a block's `count` the instruction lines up to
 //! the next `block` or `version` line. A count that differs is written out, as
-//! are type bytes, marks and operations without a name, and more `parameters`
+//! are type bytes, levels, marks and operations without a name, and more `parameters`
 //! than registers. Bytes that make no record stand on `bytes` lines, which no
 //! count takes into account. So every image has a text, and
 //! `assemble(&disassemble(image))` gives its bytes back.
@@ -94,4 +98,4 @@ pub use assemble::{assemble, assemble_lined, Lined};
 pub use disassemble::{disassemble, listing};
 pub use error::Error;
 pub use instruction::print as instruction_text;
-pub use vocabulary::operation_text;
+pub use vocabulary::{level_text, operation_text};

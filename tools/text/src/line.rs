@@ -3,7 +3,7 @@
 use crate::cursor::{Cursor, Reason};
 use crate::instruction;
 use reference::record::{BlockRecord, VersionRecord};
-use reference::{Instruction, Register, Type};
+use reference::{Instruction, Level, Register, Type};
 
 /// A line, its counts left open unless written out.
 pub enum Line {
@@ -11,6 +11,8 @@ pub enum Line {
     Version(VersionRecord, Option<u8>),
     /// Further registers of the version.
     Registers(Vec<(Register, Type)>),
+    /// A LEVEL.
+    Level(Level),
     /// A BLOCK with the number written in it, and its `count`.
     Block(usize, BlockRecord, Option<u8>),
     /// An instruction.
@@ -30,6 +32,8 @@ impl Line {
             parse_version(&mut line)?
         } else if line.take_word("registers") {
             Line::Registers(parse_registers(&mut line)?)
+        } else if line.take_word("level") {
+            Line::Level(line.level()?)
         } else if line.take_word("block") {
             parse_block(&mut line)?
         } else if line.take_word("bytes") {

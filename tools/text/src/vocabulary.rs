@@ -1,7 +1,7 @@
-//! The words for kinds, ownerships, marks and operations.
+//! The words for kinds, ownerships, levels, marks and operations.
 
 use reference::kinds;
-use reference::{Mark, Type};
+use reference::{Level, Mark, Type};
 
 /// The words of the kinds, by number.
 pub const KINDS: [&[&str]; 6] = [
@@ -16,6 +16,9 @@ pub const KINDS: [&[&str]; 6] = [
 /// The words of the ownerships, by number; shared has none.
 pub const OWNERSHIPS: [&[&str]; 3] = [&[], &["own"], &["borrow"]];
 
+/// The words of the levels, by number.
+pub const LEVELS: [&str; Level::ALL.len()] = ["portal", "staff", "factory"];
+
 /// The words of the marks, by number.
 pub const MARKS: [&str; 2] = ["quiet", "reflective"];
 
@@ -29,6 +32,14 @@ pub fn type_text(ty: Type) -> String {
     match (ownership, kind) {
         (Some(ownership), Some(kind)) => [*ownership, *kind].concat().join(" "),
         _ => format!("0x{:02X}", ty.0),
+    }
+}
+
+/// A level's word, or its number where it has none.
+pub fn level_text(level: Level) -> String {
+    match LEVELS.get(usize::from(level.0)) {
+        Some(word) => (*word).to_string(),
+        None => level.0.to_string(),
     }
 }
 

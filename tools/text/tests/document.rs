@@ -1,6 +1,6 @@
 //! The examples of `docs/TEXT-FORM.md` assemble, and the scripts are accepted.
 
-use cases::image;
+use cases::exact;
 use reference::{kinds, verdict, Verdict};
 use std::collections::BTreeSet;
 
@@ -8,7 +8,7 @@ use std::collections::BTreeSet;
 const DOCUMENT: &str = include_str!("../../../docs/TEXT-FORM.md");
 
 /// A version whose block an instruction can stand in.
-const BODY: &str = "version 0.0(r0: int) -> int\nblock 0 quiet -> r0\n";
+const BODY: &str = "version 0.0(r0: int) -> int\nlevel portal\nblock 0 quiet -> r0\n";
 
 /// The code that is fenced under a name.
 fn fenced(name: &str) -> Vec<String> {
@@ -32,7 +32,7 @@ fn scripts_are_accepted() {
     let scripts = fenced("fir");
     assert_eq!(scripts.len(), 4, "scripts of the document");
     for script in scripts {
-        let verdict = verdict(&image(&script));
+        let verdict = verdict(&exact(&script));
         assert!(
             matches!(verdict, Verdict::Accepted(_)),
             "{verdict:?}\n{script}"
@@ -44,9 +44,9 @@ fn scripts_are_accepted() {
 fn each_instruction_has_an_example_under_its_name() {
     let mut met = BTreeSet::new();
     for example in first_column("Instructions") {
-        let image = image(&format!("{BODY}{example}"));
+        let image = exact(&format!("{BODY}{example}"));
         let records = reference::questions::records(&image).expect("whole records");
-        let kind = records[2].item.kind();
+        let kind = records[3].item.kind();
         let row = DOCUMENT.lines().find(|line| line.contains(&example));
         let named = row.is_some_and(|row| row.contains(&format!("| {kind} ")));
         assert!(named, "{example} is of kind {kind}");
@@ -59,7 +59,7 @@ fn each_instruction_has_an_example_under_its_name() {
 fn each_type_has_its_word() {
     let types = first_column("Types");
     let bytes = types.iter().map(|ty| {
-        let image = image(&format!("version 0.0(r0: {ty}) -> int"));
+        let image = exact(&format!("version 0.0(r0: {ty}) -> int"));
         image[10]
     });
     let bytes: Vec<u8> = bytes.collect();
@@ -67,10 +67,20 @@ fn each_type_has_its_word() {
 }
 
 #[test]
+fn each_level_has_its_word() {
+    let levels = first_column("Levels");
+    let bytes = levels
+        .iter()
+        .map(|level| exact(&format!("level {level}"))[4]);
+    let bytes: Vec<u8> = bytes.collect();
+    assert_eq!(bytes, [0, 1, 2]);
+}
+
+#[test]
 fn the_odd_text_assembles_and_comes_back() {
     let odd = fenced("odd");
     assert_eq!(odd.len(), 1, "odd texts of the document");
-    let image = image(&odd[0]);
+    let image = exact(&odd[0]);
     assert!(matches!(verdict(&image), Verdict::Refused(_)));
     assert_eq!(text::assemble(&text::disassemble(&image)), Ok(image));
 }

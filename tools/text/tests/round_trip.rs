@@ -66,6 +66,38 @@ fn each_operation_of_arith() {
 }
 
 #[test]
+fn each_level_has_a_word_or_a_number() {
+    for (byte, word) in ["portal", "staff", "factory"].iter().enumerate() {
+        line(&format!("level {word}"), &[5, 0, 3, 0, byte as u8]);
+        let by_number = assemble(&format!("level {byte}"));
+        assert_eq!(by_number, assemble(&format!("level {word}")));
+    }
+    for byte in 3..=255 {
+        line(&format!("level {byte}"), &[5, 0, 3, 0, byte]);
+    }
+}
+
+#[test]
+fn levels_that_are_no_records_are_bytes() {
+    line("bytes 04 00 03 00", &[4, 0, 3, 0]);
+    line("bytes 06 00 03 00 01 00", &[6, 0, 3, 0, 1, 0]);
+}
+
+#[test]
+fn levels_may_be_missing_doubled_or_anywhere() {
+    for text in [
+        "version 0.0(r0: int) -> int\n  block 0 quiet -> r0\n",
+        "version 0.0(r0: int) -> int\n  level staff\n  level portal\n  block 0 quiet -> r0\n",
+        "  level staff\n\nversion 0.0(r0: int) -> int\n  block 0 quiet -> r0\n  level portal\n",
+    ] {
+        let image = assemble(text).expect("a text that is well formed");
+        assert_eq!(disassemble(&image), text);
+        // The counts are those of blocks and instructions.
+        assert_eq!(image.last().copied(), Some(0));
+    }
+}
+
+#[test]
 fn each_type_has_words_or_a_byte() {
     let text = |byte: u8| disassemble(&[11, 0, 34, 0, 0, 3, 1, 1, 1, byte, 2]);
     for (byte, words) in [
@@ -108,6 +140,7 @@ fn literals_reach_both_ends_of_the_range() {
 const NICE: &str = "\
 version 0.0(r0: own vector) -> own vector
   registers r1: int, r2: quiet promise
+  level staff
   block 0 quiet -> r0
     r1 = lit 0
     r2 = prom 1
@@ -116,6 +149,7 @@ version 0.0(r0: own vector) -> own vector
     r1 = get r0[r1]
 
 version 1.0(r0: int) -> int
+  level portal
   block 0 reflective -> r0
 ";
 
@@ -123,12 +157,14 @@ version 1.0(r0: int) -> int
 fn nice_program_reads_as_it_is_written() {
     let image = assemble(NICE).expect("a program");
     assert_eq!(disassemble(&image), NICE);
-    let identity = &image[image.len() - 18..];
+    let identity = &image[image.len() - 23..];
     assert_eq!(identity[..11], [11, 0, 1, 0, 1, 0, 1, 1, 2, 1, 2]);
-    assert_eq!(identity[11..], [7, 0, 2, 0, 1, 0, 0]);
+    assert_eq!(identity[11..16], [5, 0, 3, 0, 0]);
+    assert_eq!(identity[16..], [7, 0, 2, 0, 1, 0, 0]);
     // 3 registers, 2 blocks; the body has 3 instructions, the promise block 1.
     assert_eq!(image[..13], [13, 0, 1, 0, 0, 0, 1, 3, 0x13, 2, 0x13, 2, 4]);
-    assert_eq!(image[13..20], [7, 0, 2, 0, 0, 0, 3]);
+    assert_eq!(image[13..18], [5, 0, 3, 0, 1]);
+    assert_eq!(image[18..25], [7, 0, 2, 0, 0, 0, 3]);
 }
 
 /// The blocks of text in the crate's documentation.
@@ -149,7 +185,7 @@ fn documented_program_is_accepted_and_does_what_it_says() {
     let image = assemble(&documented()[0]).expect("a program");
     let program = reference::Program::accept(&image).expect("an accepted image");
     let mut buffer = [0; 16];
-    let state = reference::State::begin(&program, 0, 0, &[2, 5, -8], &buffer);
+    let state = reference::State::begin(&program, 0, 0, 0, &[2, 5, -8], &buffer);
     let state = state.expect("a run begins");
     let (_, answer, _) = state.budget(&program, 100, &mut buffer);
     assert_eq!(answer, reference::Answer::Ended(reference::End::Vector(2)));
@@ -183,7 +219,7 @@ fn registers_may_stand_on_several_lines() {
 fn listing_assembles_to_the_same_image() {
     let image = assemble(NICE).expect("a program");
     let listing = listing(&image);
-    assert!(listing.contains("r1 = lit 0                                     # at 20"));
+    assert!(listing.contains("r1 = lit 0                                     # at 25"));
     assert_eq!(assemble(&listing), Ok(image));
 }
 
@@ -299,7 +335,7 @@ fn wrong_lines_are_named_with_their_reason() {
     wrong("skip 3 if r0", "line 1: expected `unless`, found `if`");
     wrong(
         "jump r0",
-        "line 1: expected version, registers, block, bytes or an instruction, found `jump`",
+        "line 1: expected version, registers, level, block, bytes or an instruction, found `jump`",
     );
     wrong(
         "bytes 0 1",
@@ -321,6 +357,22 @@ fn wrong_structure_is_named_with_its_reason() {
     wrong(
         "version 0.0() -> int\nblock 0 quiet -> r0\nregisters r0: int",
         "line 3: registers stand right after their version",
+    );
+    wrong(
+        "version 0.0() -> int\nlevel staff\nregisters r0: int",
+        "line 3: registers stand right after their version",
+    );
+    wrong(
+        "version 0.0() -> int\nlevel tenant",
+        "line 2: expected portal, staff or factory, found `tenant`",
+    );
+    wrong(
+        "level 256",
+        "line 1: expected portal, staff or factory, found `256`",
+    );
+    wrong(
+        "level",
+        "line 1: expected portal, staff or factory, found the end of the line",
     );
     wrong(
         "block 0 loud -> r0",

@@ -101,25 +101,26 @@ fn largest() -> Vec<u8> {
     image(&(0..64).map(version).collect::<String>())
 }
 
-/// 64 versions of 38 literals each, which together are the most bytes of an image.
+/// 64 versions of 37 literals each and an operation, which together are the most bytes
+/// of an image.
 fn literals() -> Vec<u8> {
     let version = |index: usize| {
-        let literals = "r0 = lit -7\n".repeat(38);
+        let literals = "r0 = lit -7\n".repeat(37);
         let (function, version) = (index / 4, index % 4);
-        format!("version {function}.{version}() -> int\nregisters r0: int\nblock 0 quiet -> r0\n{literals}")
+        let head = format!("version {function}.{version}() -> int\nregisters r0: int\n");
+        format!("{head}block 0 quiet -> r0\n{literals}r0 = less r0, r0\n")
     };
     image(&(0..64).map(version).collect::<String>())
 }
 
-/// The text of a version with 16 registers and 8 blocks, each promise block
-/// within the one before it, that calls 10 of the 64 versions.
+/// The text of a version with 12 registers and 8 blocks, each promise block
+/// within the one before it, that calls 9 of the 64 versions.
 fn version(index: usize) -> String {
     let mut text = format!(
         "version {}.{}(r0: int) -> int
            registers r1: int, r2: quiet promise, r3: quiet promise, r4: quiet promise
            registers r5: quiet promise, r6: quiet promise, r7: quiet promise
-           registers r8: quiet promise, r9: int, r10: int, r11: int
-           registers r12: int, r13: int, r14: int, r15: int\n",
+           registers r8: quiet promise, r9: int, r10: int, r11: int\n",
         index / 4,
         index % 4
     );
@@ -131,7 +132,10 @@ fn version(index: usize) -> String {
             text += &format!("r{promise} = prom {next}\nr1 = force r{promise}\n");
         }
         text += "r9 = add r0, r0\nr10 = sub r9, r0\nr11 = mul r9, r10\nr1 = less r10, r11\n";
-        for call in 0..if block < 2 { 2 } else { 1 } {
+        if block == 0 {
+            text += "r1 = add r1, r1\n";
+        }
+        for call in 0..if block == 1 { 2 } else { 1 } {
             let callee = (index * 5 + block * 11 + call * 31) % 64;
             text += &format!("r1 = call {}.{}(r1)\n", callee / 4, callee % 4);
         }

@@ -44,9 +44,17 @@ impl<'i> Prepared<'i> {
             panic!("{}: {refusal:?}", workload.name);
         });
         let (words, buffer) = (&Workload::WORDS, &[0; BUFFER]);
-        let begun = State::begin(&program, workload.function, 0, words, buffer);
+        let begun = State::begin(
+            &program,
+            Workload::LEVEL,
+            workload.function,
+            0,
+            words,
+            buffer,
+        );
         let entry = (workload.function, 0);
-        let (proved, answer) = engine::begin(&workload.image, entry, words, buffer);
+        let (proved, answer) =
+            engine::begin(&workload.image, Workload::LEVEL, entry, words, buffer);
         assert_eq!(answer, Ok(()), "{}", workload.name);
         Prepared {
             code: Code::new(&program),

@@ -225,7 +225,7 @@ impl Code {
         let first = self.sites.len() as u16;
         if let Instruction::Dispatch { function, .. } = *instruction {
             let candidates = program.versions_of(function.into());
-            for candidate in candidates.filter(|c| may_fit(program, instruction, c)) {
+            for candidate in candidates.filter(|c| may_fit(program, version, instruction, c)) {
                 let site = self.site(program, version, instruction, candidate);
                 self.sites.push(site);
             }
@@ -292,13 +292,20 @@ fn block_places(program: &Program) -> Vec<Vec<u32>> {
         .collect()
 }
 
-/// Has the version equal parameter count and ownerships, equal return
-/// ownership, a return within, and a mark no greater?
-fn may_fit(program: &Program, dispatch: &Instruction, version: &Version) -> bool {
+/// Is the candidate of a DISPATCH not above the level of the version that holds it, and
+/// has it equal parameter count and ownerships, equal return ownership, a return within,
+/// and a mark no greater?
+fn may_fit(
+    program: &Program,
+    holder: &Version,
+    dispatch: &Instruction,
+    candidate: &Version,
+) -> bool {
     let signature = program.signature(dispatch).expect("a DISPATCH has one");
-    let own = version.signature();
+    let own = candidate.signature();
     let ownerships = |types: &[Type]| types.iter().map(|ty| ty.ownership()).collect::<Vec<_>>();
-    ownerships(&own.parameters) == ownerships(&signature.parameters)
+    candidate.level <= holder.level
+        && ownerships(&own.parameters) == ownerships(&signature.parameters)
         && own.returns.ownership() == signature.returns.ownership()
         && own.returns.kind().within(signature.returns.kind())
         && own.mark <= signature.mark

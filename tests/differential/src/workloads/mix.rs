@@ -28,6 +28,7 @@ pub fn mix() -> Vec<u8> {
     let last = mix.functions;
     let text = format!(
         "version {last}.0(r0: int) -> int
+           level factory
            block 0 reflective -> r0
            {calls}"
     );
@@ -103,6 +104,7 @@ fn entering(program: &Program, function: usize) -> Option<Vec<u8>> {
     Some(image(&format!(
         "version {function}.0(r0: int) -> int
            registers {}
+           level factory
            block 0 reflective -> r0
              r1 = lit 2
              {body}
@@ -138,7 +140,15 @@ fn result_type(version: &Version) -> &'static str {
 fn steps_to_done(image: &[u8], function: usize) -> Option<u32> {
     let program = Program::accept(image).expect("an accepted image");
     let mut buffer = [0; BUFFER];
-    let begun = State::begin(&program, function, 0, &Workload::WORDS, &buffer).ok()?;
+    let begun = State::begin(
+        &program,
+        Workload::LEVEL,
+        function,
+        0,
+        &Workload::WORDS,
+        &buffer,
+    )
+    .ok()?;
     let (after, _, steps) = begun.budget(&program, 5000, &mut buffer);
     match after.status {
         Status::Ended(End::Integer(_)) => Some(steps),

@@ -2,7 +2,9 @@
 //! and by their order in a run.
 
 use generator::Tally;
+use reference::change::parts;
 use reference::questions::QUESTIONS;
+use reference::record::HEAD;
 use reference::Refusal;
 
 /// What a change may come to, beside a refusal by a question to the new image.
@@ -11,6 +13,8 @@ const LIVE: &str = "taken, other bytes while a call is live";
 const NO_CALL: &str = "taken, other bytes while no call is live";
 const DIFFERS: &str = "refused by 15, differs";
 const MISSING: &str = "refused by 15, missing";
+/// Among those that differ: in the level of a version alone.
+const LEVEL: &str = "refused by 15, by a level alone";
 
 /// The fewest changes that come to one of these, at any time.
 const FEWEST: [(&[&str], usize); 4] = [
@@ -36,6 +40,9 @@ const FEWEST_AFTER: [(&str, &[(&str, usize)]); 6] = [
 const TWICE: &str = "two changes taken";
 const BETWEEN: &str = "a change refused between two taken";
 
+/// The fewest changes that 15 refuses for the level of a version alone.
+const FEWEST_LEVELS: usize = 500;
+
 /// The fewest runs that come to it, and that do so before their end.
 const FEWEST_RUNS: [(&str, usize, usize); 2] = [(TWICE, 10_000, 5_000), (BETWEEN, 5_000, 2_500)];
 
@@ -48,6 +55,28 @@ pub fn outcome(answer: Result<(), Refusal>, old: &[u8], new: &[u8], live: bool) 
         Err(Refusal { number: 15, offset }) if offset == new.len() => MISSING.to_string(),
         Err(Refusal { number: 15, .. }) => DIFFERS.to_string(),
         Err(Refusal { number, .. }) => format!("refused by {number}"),
+    }
+}
+
+/// Is a change refused by 15 for a version whose level alone differs?
+fn by_level(refusal: Refusal, old: &[u8], new: &[u8]) -> bool {
+    let (before, after) = (parts(old), parts(new));
+    let there = after.iter().find(|part| part.offset == refusal.offset);
+    let had = there.and_then(|part| before.iter().find(|had| had.numbers == part.numbers));
+    let Some((had, has)) = had.zip(there) else {
+        return false;
+    };
+    let level = usize::from(had.bytes[0]) + HEAD;
+    let others = |bytes: &[u8]| [&bytes[..level], &bytes[level + 1..]].concat();
+    had.bytes.len() == has.bytes.len() && others(had.bytes) == others(has.bytes)
+}
+
+/// Meets a change that 15 refuses for the level of a version alone.
+pub fn meet_level(answer: Result<(), Refusal>, old: &[u8], new: &[u8], met: &mut Tally<String>) {
+    if let Err(refusal @ Refusal { number: 15, .. }) = answer {
+        if by_level(refusal, old, new) {
+            met.meet(LEVEL.to_string());
+        }
     }
 }
 
@@ -122,6 +151,7 @@ pub fn assert_changes(met: &Tally<String>) {
             assert_count(met, name(Some(end), outcome), least);
         }
     }
+    assert_count(met, LEVEL.to_string(), FEWEST_LEVELS);
     for number in QUESTIONS {
         assert_count(met, name(None, &format!("refused by {number}")), 1);
     }

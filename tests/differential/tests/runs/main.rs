@@ -8,14 +8,16 @@ mod events;
 mod pair;
 mod searches;
 
-use begin::{begin, begin_wrongly};
+use begin::{
+    assert_same_at_higher_levels, begin, begin_wrongly, begun_at, level_of, refused_at, Start,
+};
 use changes::assert_changes;
-use generator::{accepted, damaged, entry, words, Random, Tally};
+use generator::{accepted, damaged, entry, level, words, Random, Tally};
 use pair::Pair;
 use reference::bounds::{BUFFER, ITEMS};
 use reference::questions::QUESTIONS;
 use reference::watched::{Watched, ENDINGS};
-use reference::{Integer, Program};
+use reference::{Integer, Level, Program, Refusal};
 use searches::assert_searches;
 use std::thread;
 
@@ -33,6 +35,9 @@ const FEWEST_EACH_WAY: usize = 15_000;
 /// The fewest head words that are refused, and would not be by their low 32 bits.
 const FEWEST_HEADS: usize = 500;
 
+/// The fewest runs for each level of an entry and each stated one.
+const FEWEST_EACH_LEVEL: usize = 500;
+
 /// How many damaged images no run may begin of.
 const DAMAGED: u64 = 6_000;
 
@@ -49,20 +54,25 @@ fn run(seed: u64, met: &mut Tally<String>) -> usize {
         met.meet("no entry".to_string());
         return 0;
     };
-    let words = words(seed, checked, entry);
-    begin_wrongly(seed, &image, &program, entry, &words, met);
-    let (state, proved) = match begin(&image, &program, entry, &words, BUFFER, &origin) {
+    let start = Start {
+        image: &image,
+        level: level(seed, checked, entry),
+        entry,
+        words: words(seed, checked, entry),
+        places: BUFFER,
+    };
+    begin_wrongly(seed, &start, &program, met);
+    let (state, proved) = match begin(&start, &program, &origin) {
         Ok(begun) => begun,
         Err(refusal) => {
-            met.meet(format!("begin refused by {}", refusal.number));
-            if words.first().is_some_and(|&head| is_head_in_32_bits(head)) {
-                met.meet("a head word by its low 32 bits alone".to_string());
-            }
+            meet_refusal(refusal, &start.words, met);
             return 0;
         }
     };
     met.meet("begun".to_string());
-    let reference = Watched::new(checked, state, &origin);
+    met.meet(begun_at(level_of(&program, entry), start.level));
+    assert_same_at_higher_levels(&start, &proved, &origin);
+    let reference = Watched::new(checked, state, start.level, &origin);
     let mut pair = Pair::new(&image, reference, proved);
     pair.assert_same_state(&origin);
     pair.compare_search(&origin, met);
@@ -72,6 +82,14 @@ fn run(seed: u64, met: &mut Tally<String>) -> usize {
     meet_skips(pair.reference(), met);
     pair.changes().meet(met);
     pair.reference().tried()
+}
+
+/// Meets the refusal of a run that begins with these words.
+fn meet_refusal(refusal: Refusal, words: &[Integer], met: &mut Tally<String>) {
+    met.meet(format!("begin refused by {}", refusal.number));
+    if words.first().is_some_and(|&head| is_head_in_32_bits(head)) {
+        met.meet("a head word by its low 32 bits alone".to_string());
+    }
 }
 
 /// Is a word that is no head word one by its low 32 bits?
@@ -152,7 +170,11 @@ fn runs_agree_under_every_list_of_events() {
     let heads = met.count("a head word by its low 32 bits alone");
     assert!(heads >= FEWEST_HEADS, "{heads} head words beyond 32 bits");
     assert_met(&met, ENDINGS.map(String::from));
-    assert_met(&met, [11, 12, 13].map(|n| format!("begin refused by {n}")));
+    assert_met(
+        &met,
+        [11, 19, 12, 13].map(|n| format!("begin refused by {n}")),
+    );
+    assert_levels(&met);
     let ends = ["Integer", "Vector", "Undef", "Deep", "Vectors", "Promises"];
     for end in ends {
         for when in ["before", "after the end"] {
@@ -185,16 +207,37 @@ fn runs_agree_under_every_list_of_events() {
     assert_searches(&met);
 }
 
+/// Asserts that runs began at each level of an entry and each stated level at or above
+/// it, and were refused by 19 at each below it.
+fn assert_levels(met: &Tally<String>) {
+    let above = usize::from(Level::FACTORY.0) + 1;
+    for own in Level::ALL {
+        for stated in 0..=above {
+            let name = if stated < usize::from(own.0) {
+                refused_at(own, stated)
+            } else {
+                begun_at(own, stated)
+            };
+            let count = met.count(&name);
+            assert!(count >= FEWEST_EACH_LEVEL, "{name}: {count}");
+        }
+    }
+}
+
 /// Begins a run of a damaged image; which question refuses it.
 fn begin_damaged(seed: u64, met: &mut Tally<String>) -> usize {
     let image = damaged(seed).bytes;
     let program = Program::accept(&image);
     let mut random = Random::new(seed);
-    let entry = random.pick(&[(0, 0), (0, 1), (40, 0)]);
-    let words = vec![-1; random.below(4)];
-    let places = random.pick(&[0, BUFFER - 1, BUFFER, BUFFER]);
+    let start = Start {
+        image: &image,
+        level: random.pick(&[0, 1, 2, 3]),
+        entry: random.pick(&[(0, 0), (0, 1), (40, 0)]),
+        words: vec![-1; random.below(4)],
+        places: random.pick(&[0, BUFFER - 1, BUFFER, BUFFER]),
+    };
     let origin = format!("damaged seed {seed}");
-    match begin(&image, &program, entry, &words, places, &origin) {
+    match begin(&start, &program, &origin) {
         Ok(_) => met.meet("begun".to_string()),
         Err(refusal) => met.meet(format!("begin refused by {}", refusal.number)),
     }

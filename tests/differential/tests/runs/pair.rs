@@ -153,7 +153,7 @@ impl<'p> Pair<'p> {
             }
             Event::Change { aim, seed } => {
                 let end = self.end();
-                let outcome = self.change(aim, seed, origin);
+                let outcome = self.change(aim, seed, origin, met);
                 met.meet(changes::name(end.as_deref(), &outcome));
             }
         }
@@ -204,7 +204,7 @@ impl<'p> Pair<'p> {
 
     /// A change on both sides, taken or refused; what it comes to.
     #[track_caller]
-    fn change(&mut self, aim: Update, seed: u64, origin: &str) -> String {
+    fn change(&mut self, aim: Update, seed: u64, origin: &str, met: &mut Tally<String>) -> String {
         let live = self.reference.state().live_versions();
         let new = update(aim, seed, &self.image, &live);
         let before = self.proved.state().clone();
@@ -213,6 +213,7 @@ impl<'p> Pair<'p> {
         self.assert_same(expected, found, origin);
         let kept = before == *self.proved.state();
         assert!(kept, "{origin}: a change leaves the state's bytes");
+        changes::meet_level(expected, &self.image, &new, met);
         let outcome = changes::outcome(expected, &self.image, &new, !live.is_empty());
         self.changes.add(expected.is_ok(), self.reference.ended());
         if expected.is_ok() {

@@ -11,6 +11,13 @@ use reference::Search;
 /// A state that stands at no DISPATCH.
 const ELSEWHERE: &str = "search: elsewhere";
 
+/// Searches that pass over a version which fits but for its level, and find another
+/// one, or none.
+const ANOTHER: &str = "search: another version fits but for its level";
+const HIDDEN: &str = "search: none fits, and one would but for its level";
+const FEWEST_ANOTHER: usize = 500;
+const FEWEST_HIDDEN: usize = 100;
+
 /// The fewest states before an end whose search is compared: elsewhere, for each
 /// number of versions and each place of the one that is called, and where none fits.
 const FEWEST_ELSEWHERE: usize = 3_000_000;
@@ -43,6 +50,10 @@ pub fn compare(
         reference.tried(),
         text::listing(proved.image())
     );
+    if reference.search_without_levels() != search {
+        let fits = search.is_some_and(|search| search.first.is_some());
+        met.meet(if fits { ANOTHER } else { HIDDEN }.to_string());
+    }
     met.meet(match search {
         None => ELSEWHERE.to_string(),
         Some(search) => name(end, search),
@@ -64,6 +75,8 @@ fn name(end: Option<&str>, search: Search) -> String {
 #[track_caller]
 pub fn assert_searches(met: &Tally<String>) {
     assert_count(met, ELSEWHERE.to_string(), FEWEST_ELSEWHERE);
+    assert_count(met, ANOTHER.to_string(), FEWEST_ANOTHER);
+    assert_count(met, HIDDEN.to_string(), FEWEST_HIDDEN);
     for versions in 1..=VERSIONS_EACH as u8 {
         let search = |first| Search { first, versions };
         for number in 0..versions {

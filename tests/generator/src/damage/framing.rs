@@ -18,10 +18,11 @@ pub const HEADS: [Breaker; 6] = [
 ];
 
 /// Ways to fail question 3.
-pub const KINDS: [Breaker; 8] = [
+pub const KINDS: [Breaker; 9] = [
     unknown_kind,
     literal_before,
     literal_of_another_length,
+    level_of_another_length,
     high_byte_of_the_kind,
     longer_body,
     shorter_body,
@@ -82,13 +83,13 @@ fn unknown_kind(random: &mut Random, draft: &Draft) -> Option<Vec<u8>> {
     let mut records = split(draft);
     let index = random.below(records.len());
     let any = 37 + random.below(219) as u8;
-    records[index][2] = random.pick(&[0, 3, 4, 15, 16, 37, 255, any]);
+    records[index][2] = random.pick(&[0, 4, 5, 15, 16, 37, 255, any]);
     Some(records.concat())
 }
 
 /// A literal of kind 16, with a number of 32 bits or of 64.
 fn literal_before(random: &mut Random, draft: &Draft) -> Option<Vec<u8>> {
-    other_literal(random, draft, |random, body| {
+    other_record(random, draft, kinds::LIT, |random, body| {
         if random.percent(70) {
             body.truncate(1 + size_of::<i32>());
         }
@@ -98,7 +99,7 @@ fn literal_before(random: &mut Random, draft: &Draft) -> Option<Vec<u8>> {
 
 /// A literal of kind 36 whose number has 4 bytes, 7, 9, or any.
 fn literal_of_another_length(random: &mut Random, draft: &Draft) -> Option<Vec<u8>> {
-    other_literal(random, draft, |random, body| {
+    other_record(random, draft, kinds::LIT, |random, body| {
         let any = random.below(16);
         let bytes = random.pick(&[4, 4, 7, 9, any]);
         body.resize(1 + bytes, 0);
@@ -106,14 +107,24 @@ fn literal_of_another_length(random: &mut Random, draft: &Draft) -> Option<Vec<u
     })
 }
 
-/// The image with one of its literals by another kind and body.
-fn other_literal(
+/// A LEVEL without its byte, or with more than one.
+fn level_of_another_length(random: &mut Random, draft: &Draft) -> Option<Vec<u8>> {
+    other_record(random, draft, kinds::LEVEL, |random, body| {
+        let bytes = random.pick(&[0, 0, 2, 3, 9]);
+        body.resize(bytes, 0);
+        kinds::LEVEL
+    })
+}
+
+/// The image with one of its records of a kind by another kind and body.
+fn other_record(
     random: &mut Random,
     draft: &Draft,
+    kind: u16,
     other: impl FnOnce(&mut Random, &mut Vec<u8>) -> u16,
 ) -> Option<Vec<u8>> {
     let records = draft.records();
-    let index = record(random, &records, |r| r.kind() == kinds::LIT)?;
+    let index = record(random, &records, |r| r.kind() == kind)?;
     let mut bytes = split(draft);
     let mut body = bytes[index][HEAD..].to_vec();
     let kind = other(random, &mut body);

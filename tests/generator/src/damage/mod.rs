@@ -6,6 +6,7 @@ mod existence;
 mod fit;
 mod flow;
 mod framing;
+mod levels;
 mod order;
 mod places;
 mod size;
@@ -18,7 +19,7 @@ use crate::random::Random;
 /// One way to break an image; none if the image offers no place for it.
 type Breaker = fn(&mut Random, &Draft) -> Option<Vec<u8>>;
 
-/// The ways to break an image so that a question of 1 to 10, or 14, refuses it.
+/// The ways to break an image so that a question of 1 to 10, 14 or 18 refuses it.
 fn breakers(question: u8) -> &'static [Breaker] {
     match question {
         1 => &size::BREAKERS,
@@ -30,12 +31,13 @@ fn breakers(question: u8) -> &'static [Breaker] {
         7 => &existence::BREAKERS,
         14 => &skips::BREAKERS,
         8 => &fit::BREAKERS,
+        18 => &levels::CALLS,
         9 => &effect::BREAKERS,
         _ => &flow::BREAKERS,
     }
 }
 
-/// The bytes of a draft broken so that a question of 1 to 10, or 14, should refuse it.
+/// The bytes of a draft broken so that a question of 1 to 10, 14 or 18 should refuse it.
 pub fn damage(random: &mut Random, question: u8, draft: &Draft) -> Option<Vec<u8>> {
     let breakers = random.shuffled(breakers(question).to_vec());
     breakers.iter().find_map(|breaker| breaker(random, draft))

@@ -1,6 +1,7 @@
 //! Ways to fail question 4.
 
 use super::edit::{change, of_kind, record};
+use super::levels;
 use super::Breaker;
 use crate::draft::{bytes, Draft, DraftBlock, DraftVersion};
 use crate::random::Random;
@@ -8,10 +9,10 @@ use reference::bounds::{
     BLOCKS, FUNCTIONS, INSTRUCTIONS, LISTED, PARAMETERS, REGISTERS, VERSIONS, VERSIONS_EACH,
 };
 use reference::record::{BlockRecord, VersionRecord};
-use reference::{kinds, Instruction, Mark, Record, Type};
+use reference::{kinds, Instruction, Level, Mark, Record, Type};
 
 /// Ways to fail question 4.
-pub const BREAKERS: [Breaker; 14] = [
+pub const BREAKERS: [Breaker; 19] = [
     version_numbers,
     parameter_count,
     register_count,
@@ -26,10 +27,15 @@ pub const BREAKERS: [Breaker; 14] = [
     record_lost,
     record_doubled,
     end_lost,
+    levels::unknown,
+    levels::lost,
+    levels::lost_at_the_end,
+    levels::doubled,
+    levels::misplaced,
 ];
 
 /// A number at a bound or anywhere above it.
-fn beyond(random: &mut Random, bound: usize) -> u8 {
+pub fn beyond(random: &mut Random, bound: usize) -> u8 {
     let anywhere = bound + random.below(256 - bound);
     random.pick(&[bound, bound, 255, anywhere]) as u8
 }
@@ -119,6 +125,7 @@ fn smallest(function: u8, version: u8) -> DraftVersion {
         parameters: 1,
         returns: Type::INTEGER,
         types: vec![Type::INTEGER],
+        level: Level::PORTAL,
         blocks: vec![DraftBlock {
             mark: Mark::QUIET,
             result: 0,

@@ -13,17 +13,42 @@ impl Body<'_> {
         self.call_version(&callable)
     }
 
-    /// A version that the block may call within the steps that are left.
+    /// A version that the block may call.
     fn callable(&mut self) -> Option<Callable> {
+        let callables = self.callables();
+        self.random.choose(&callables)
+    }
+
+    /// A version that the block may call; often one that stands behind a version above
+    /// the level, so that a search passes over that one.
+    fn dispatched(&mut self) -> Option<Callable> {
+        let mut callables = self.callables();
+        let hidden = |c: &Callable| {
+            let before =
+                |other: &Callable| other.function == c.function && other.version < c.version;
+            self.world
+                .iter()
+                .any(|other| before(other) && other.level > self.wish.level)
+        };
+        let behind = callables.iter().filter(|c| hidden(c)).cloned();
+        let behind: Vec<Callable> = behind.collect();
+        if !behind.is_empty() && self.random.percent(60) {
+            callables = behind;
+        }
+        self.random.choose(&callables)
+    }
+
+    /// The versions that the block may call, by level, mark and the steps that are left.
+    fn callables(&self) -> Vec<Callable> {
         let mark = self.blocks[self.here.block].mark;
         let left = self.wish.cost.saturating_sub(self.cost);
         let may_call = |callable: &&Callable| {
             callable.cost <= left
+                && callable.level <= self.wish.level
                 && callable.signature.mark <= mark
                 && !(self.in_promise() && empties(&callable.signature))
         };
-        let callable: Vec<&Callable> = self.world.iter().filter(may_call).collect();
-        self.random.choose(&callable).cloned()
+        self.world.iter().filter(may_call).cloned().collect()
     }
 
     /// Adds a CALL of a version, if the block may have one.
@@ -88,7 +113,7 @@ impl Body<'_> {
 
     /// A DISPATCH that a version is expected to fit.
     pub(super) fn dispatch(&mut self) -> Option<()> {
-        let callable = self.callable()?;
+        let callable = self.dispatched()?;
         let arguments = self.fitting_arguments(&callable.signature.parameters)?;
         let signature = self.widened(&callable.signature, &arguments);
         let emptied = given_to_owned(&signature.parameters, &arguments);

@@ -88,6 +88,7 @@ impl Body<'_> {
             function: wish.function,
             version: wish.version,
             signature: wish.signature.clone(),
+            level: wish.level,
             cost: self.cost,
             gives: result,
         };
@@ -97,6 +98,7 @@ impl Body<'_> {
             parameters: wish.signature.parameters.len(),
             returns: wish.signature.returns,
             types: self.types,
+            level: wish.level,
             blocks: reordered(self.blocks, &order),
         };
         Grown { draft, callable }

@@ -6,22 +6,24 @@ use crate::world::Callable;
 use reference::bounds::LISTED;
 use reference::program::Signature;
 use reference::search::fits;
-use reference::{Instruction, Kind, Mark, Type};
+use reference::{Instruction, Kind, Mark, Register, Type};
 use std::collections::BTreeSet;
 
 /// The kinds that values have.
 const KINDS: [Kind; 4] = [Kind::INTEGER, Kind::VECTOR, Kind::QUIET, Kind::REFLECTIVE];
 
 impl Body<'_> {
-    /// A DISPATCH that no version of its function is expected to fit: an argument is
-    /// of a kind that none takes, or there are so many as none has.
+    /// A DISPATCH that no version of its function is expected to fit: those that would
+    /// are above the level, an argument is of a kind that none takes, or there are so
+    /// many as none has.
     pub(super) fn misfit(&mut self) -> Option<()> {
         let versions = self.versions_to_miss()?;
-        let by_kind = self.random.percent(70);
-        match by_kind.then(|| self.miss_by_kind(&versions)).flatten() {
-            Some(()) => Some(()),
-            None => self.miss_by_count(&versions),
-        }
+        let missed = match self.random.below(10) {
+            0..=3 => self.miss_by_level(&versions),
+            4..=7 => self.miss_by_kind(&versions),
+            _ => None,
+        };
+        missed.or_else(|| self.miss_by_count(&versions))
     }
 
     /// The versions of a function; each number of versions is as likely as the others.
@@ -49,12 +51,35 @@ impl Body<'_> {
         let kinds: Vec<Kind> = kinds.collect::<Option<_>>()?;
         let (place, kind) = self.random.choose(&misses(versions, &near, &kinds))?;
         arguments[place] = self.shared(kind)?;
-        let signature = self.widened(&near, &arguments);
+        self.dispatch_in_vain(versions[0].function, &near, arguments)
+    }
+
+    /// A DISPATCH that a version would fit, but for its level.
+    fn miss_by_level(&mut self, versions: &[Callable]) -> Option<()> {
+        let (own, mark) = (self.wish.level, self.blocks[self.here.block].mark);
+        let hidden = |c: &&Callable| {
+            let owned = c.signature.parameters.iter().any(|ty| ty.is_owned());
+            c.level > own && c.signature.mark <= mark && !owned
+        };
+        let hidden: Vec<&Callable> = versions.iter().filter(hidden).collect();
+        let near = self.random.choose(&hidden)?.signature.clone();
+        let arguments = self.fitting_arguments(&near.parameters)?;
+        self.dispatch_in_vain(versions[0].function, &near, arguments)
+    }
+
+    /// A DISPATCH of a function by a signature like this one.
+    fn dispatch_in_vain(
+        &mut self,
+        function: u8,
+        near: &Signature,
+        arguments: Vec<Register>,
+    ) -> Option<()> {
+        let signature = self.widened(near, &arguments);
         let d = self.result(&signature, &[])?;
         self.room()?;
         let dispatch = Instruction::Dispatch {
             d,
-            function: versions[0].function,
+            function,
             mark: signature.mark,
             returns: signature.returns,
             arguments: signature.parameters.into_iter().zip(arguments).collect(),

@@ -21,7 +21,7 @@ use crate::world::Callable;
 use reference::bounds::{INSTRUCTIONS, NAMES, REGISTERS};
 use reference::kinds;
 use reference::program::Signature;
-use reference::{Instruction, Register, Type};
+use reference::{Instruction, Level, Register, Type};
 
 /// How a version is to grow.
 #[derive(Clone, Debug)]
@@ -32,6 +32,8 @@ pub struct Wish {
     pub version: u8,
     /// Its signature.
     pub signature: Signature,
+    /// Its level.
+    pub level: Level,
     /// About how many instructions each block has.
     pub length: usize,
     /// The most blocks it has.
@@ -42,7 +44,7 @@ pub struct Wish {
     pub cost: usize,
     /// What it is to make UNDEF by.
     pub trap: Option<Trap>,
-    /// The versions that its body is to call, where its mark covers theirs.
+    /// The versions that its body is to call, where its mark and its level cover theirs.
     pub must_call: Vec<Callable>,
 }
 
@@ -181,7 +183,8 @@ impl<'a> Body<'a> {
     /// The calls and the trap that are wished for.
     fn do_what_it_must(&mut self) {
         for callable in &self.wish.must_call {
-            if callable.signature.mark <= self.wish.signature.mark {
+            let covered = callable.level <= self.wish.level;
+            if covered && callable.signature.mark <= self.wish.signature.mark {
                 self.call_version(callable);
             }
         }

@@ -4,13 +4,13 @@ use crate::damage::edit::{add_register, insert, register_fields, with_byte};
 use crate::draft::DraftVersion;
 use crate::random::Random;
 use reference::kinds::OPERATIONS;
-use reference::{Instruction, Integer, Kind, Mark, Register, Type};
+use reference::{Instruction, Integer, Kind, Level, Mark, Register, Type};
 
 /// One way to change a version; none if it offers no place for it.
 type Edit = fn(&mut Random, &mut DraftVersion) -> Option<()>;
 
 /// The ways, by how often they are wanted.
-const EDITS: [(usize, Edit); 9] = [
+const EDITS: [(usize, Edit); 10] = [
     (5, other_literal),
     (5, other_operation),
     (4, literal_more),
@@ -20,6 +20,7 @@ const EDITS: [(usize, Edit); 9] = [
     (2, register_more),
     (2, other_type),
     (2, other_block),
+    (4, other_level),
 ];
 
 /// Changes a version in one place.
@@ -139,5 +140,12 @@ fn other_block(random: &mut Random, version: &mut DraftVersion) -> Option<()> {
     } else {
         block.result = random.below(registers) as Register;
     }
+    Some(())
+}
+
+fn other_level(random: &mut Random, version: &mut DraftVersion) -> Option<()> {
+    let mut others = Level::ALL.to_vec();
+    others.retain(|&level| level != version.level);
+    version.level = random.pick(&others);
     Some(())
 }

@@ -1,6 +1,7 @@
 //! Runs of 32 bits: whatever in the form and the range before ends otherwise than
 //! in UNDEF has the same result and steps once each literal is of kind 36.
 
+use crate::HIGHEST;
 use generator::{accepted_before, entry, words_before, Random, Tally};
 use reference::bounds::{Steps, BUFFER};
 use reference::watched::{Watched, ENDINGS};
@@ -39,7 +40,7 @@ fn step_both(old: &Program, new: &Program, mut state: State) -> (State, Said, Sa
 
 /// How the run ends from here in the range in force.
 fn ending(program: &Program, state: State) -> &'static str {
-    let mut run = Watched::new(program, state, "a run of 32 bits");
+    let mut run = Watched::new(program, state, HIGHEST, "a run of 32 bits");
     while run.tried() < STEPS && !run.ended() {
         run.step();
     }
@@ -77,7 +78,8 @@ fn runs_of_32_bits_are_the_same_but_for_undef() {
             continue;
         };
         let words = words_before(seed, &old, (function, version));
-        let begin = |program| State::begin(program, function, version, &words, &[0; BUFFER]);
+        let begin =
+            |program| State::begin(program, HIGHEST, function, version, &words, &[0; BUFFER]);
         assert_eq!(begin(&old), begin(&new));
         let Ok(state) = begin(&old) else {
             continue;

@@ -85,6 +85,7 @@ fn boundaries(image: &[u8]) -> Vec<&'static str> {
                 note(version.blocks == 0, "no block");
                 note(version.blocks == 9, "9 blocks");
             }
+            Record::Level(level) => note(level.0 == 3, "level 3"),
             Record::Block(block) => {
                 note(block.mark.0 == 2, "mark 2");
                 note(block.instructions == 49, "49 instructions");
@@ -122,6 +123,7 @@ fn damaged_images_stand_at_each_boundary() {
         "17 registers",
         "no block",
         "9 blocks",
+        "level 3",
         "mark 2",
         "49 instructions",
         "operation 5",

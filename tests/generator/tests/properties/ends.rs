@@ -2,6 +2,7 @@
 //! products of each sign that just fit and that just do not; and argument words
 //! beyond 32 bits.
 
+use crate::HIGHEST;
 use generator::{accepted, accepted_of, begun, entry, words, Tally, Theme, Trap};
 use reference::bounds::BUFFER;
 use reference::{kinds, Instruction, Integer, Program, Range, Register, Said, State, Value};
@@ -164,7 +165,7 @@ fn words_beyond_32_bits_are_met_as_heads_and_as_integers() {
             continue;
         };
         let words = words(seed, &program, entry);
-        let begun = State::begin(&program, entry.0, entry.1, &words, &[0; BUFFER]);
+        let begun = State::begin(&program, HIGHEST, entry.0, entry.1, &words, &[0; BUFFER]);
         if words
             .first()
             .is_some_and(|&head| is_head_by_its_low_bits(head))

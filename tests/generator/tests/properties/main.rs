@@ -7,6 +7,7 @@ mod damaged;
 mod division;
 mod ends;
 mod events;
+mod levels;
 mod moves;
 mod refill;
 mod round_trip;
@@ -14,3 +15,16 @@ mod runs;
 mod searches;
 mod skips;
 mod updates;
+
+use reference::watched::Watched;
+use reference::{Program, State};
+
+/// The highest level that a run can state.
+const HIGHEST: usize = 2;
+
+/// A begun run under the monitor, at the lowest level that may enter it.
+#[track_caller]
+fn watched(program: &Program, state: State, origin: &str) -> Watched {
+    let entry = state.version(program, 0).expect("a call lives");
+    Watched::new(program, state, entry.level.0.into(), origin)
+}

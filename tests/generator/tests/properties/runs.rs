@@ -1,5 +1,6 @@
 //! Runs of accepted images: demand 3 at each step, and every end reached.
 
+use crate::watched;
 use generator::{accepted, accepted_of, begun, Special, Tally, Theme};
 use reference::state::Opener;
 use reference::watched::{Watched, ENDINGS};
@@ -11,7 +12,7 @@ const STEPS: usize = 4000;
 /// Steps a run to its end under the monitor of demand 3.
 #[track_caller]
 fn run_watched(program: &Program, state: State, seed: u64) -> Watched {
-    let mut run = Watched::new(program, state, &format!("seed {seed}"));
+    let mut run = watched(program, state, &format!("seed {seed}"));
     while run.tried() < STEPS && !run.ended() {
         run.step();
     }

@@ -1,8 +1,8 @@
 //! SKIPs of accepted images: how they stand, and what runs do with them.
 
+use crate::watched;
 use generator::{accepted, begun, Tally};
 use reference::program::Block;
-use reference::watched::Watched;
 use reference::{Instruction, Program};
 
 /// The most steps that a run is given.
@@ -81,7 +81,7 @@ fn runs_skip_and_do_not() {
         let Some(state) = begun(seed, &program) else {
             continue;
         };
-        let mut run = Watched::new(&program, state, &format!("seed {seed}"));
+        let mut run = watched(&program, state, &format!("seed {seed}"));
         while run.tried() < STEPS && !run.ended() {
             run.step();
         }

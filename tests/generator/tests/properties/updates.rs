@@ -1,9 +1,9 @@
 //! New images for runs that go on: what they differ in, and demand 3 along changes.
 
+use crate::watched;
 use generator::{accepted, begun, update, Random, Tally, Update};
 use reference::bounds::BUFFER;
 use reference::change::parts;
-use reference::watched::Watched;
 use reference::{verdict, Program, Refusal, State, Status, Verdict};
 
 /// How many programs are run, and the changes that each gets.
@@ -117,7 +117,7 @@ fn run_changing(seed: u64, met: &mut Tally<&'static str>) {
         return;
     };
     let (alone, _, steps) = state.clone().budget(&program, MOST, &mut [0; BUFFER]);
-    let mut run = Watched::new(&program, state, &format!("seed {seed}"));
+    let mut run = watched(&program, state, &format!("seed {seed}"));
     let mut random = Random::new(seed);
     for _ in 0..CHANGES {
         run.budget(random.below(25) as u32, &mut [0; BUFFER]);

@@ -4,6 +4,7 @@ mod effect;
 mod existence;
 mod fit;
 mod framing;
+mod levels;
 mod order;
 mod places;
 mod skips;
@@ -25,7 +26,7 @@ pub struct Refusal {
 }
 
 /// The numbers of the questions put to an image, in the order in which they are put.
-pub const QUESTIONS: [u8; 11] = [1, 2, 3, 4, 5, 6, 7, 14, 8, 9, 10];
+pub const QUESTIONS: [u8; 12] = [1, 2, 3, 4, 5, 6, 7, 14, 8, 18, 9, 10];
 
 /// What the questions say of an image.
 #[derive(Clone, Copy, PartialEq, Eq, Debug)]
@@ -88,6 +89,7 @@ impl Program {
         let program = exists(form, image)?;
         put(14, skips::question14(&program))?;
         put(8, fit::question8(&program))?;
+        put(18, levels::question18(&program))?;
         put(9, effect::question9(&program))?;
         put(10, flow::question10(&program))?;
         Ok(program)

@@ -8,13 +8,14 @@ use crate::kinds::OPERATIONS;
 use crate::program::Program;
 use crate::record::{BlockRecord, Placed, Record, VersionRecord};
 
-/// Question 4: are numbers, counts, marks, op and n in bounds, and records in order?
+/// Question 4: are numbers, counts, marks, levels, op and n in bounds, and records in
+/// order, a LEVEL right after each VERSION?
 pub fn question4(records: &[Placed<Record>], image_length: usize) -> Result<(), usize> {
     let mut due = Due::default();
     for record in records {
         due.meet(&record.item).ok_or(record.offset)?;
     }
-    if due.blocks == 0 && due.instructions == 0 {
+    if due.version() {
         Ok(())
     } else {
         Err(image_length)
@@ -26,6 +27,8 @@ pub fn question4(records: &[Placed<Record>], image_length: usize) -> Result<(), 
 struct Due {
     /// The versions so far.
     versions: usize,
+    /// Is the level of the version still due?
+    level: bool,
     /// The blocks still due in the version.
     blocks: usize,
     /// The instructions still due in the block.
@@ -33,20 +36,31 @@ struct Due {
 }
 
 impl Due {
+    /// Is a version due, or the end of the image?
+    fn version(&self) -> bool {
+        !self.level && self.blocks == 0 && self.instructions == 0
+    }
+
     /// Goes on by one record; none if it is not due or not in bounds.
     fn meet(&mut self, record: &Record) -> Option<()> {
         let passes = match record {
             Record::Version(version) => {
                 self.versions += 1;
-                let due = self.blocks == 0 && self.instructions == 0;
+                let due = self.version();
+                self.level = true;
                 self.blocks = version.blocks.into();
                 due && self.versions <= VERSIONS && version_in_bounds(version)
             }
             Record::Block(block) => {
-                let due = self.blocks > 0 && self.instructions == 0;
+                let due = !self.level && self.blocks > 0 && self.instructions == 0;
                 self.blocks = self.blocks.saturating_sub(1);
                 self.instructions = block.instructions.into();
                 due && block_in_bounds(block)
+            }
+            Record::Level(level) => {
+                let due = self.level;
+                self.level = false;
+                due && level.known()
             }
             Record::Instruction(instruction) => {
                 let due = self.instructions > 0;

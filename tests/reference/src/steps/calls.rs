@@ -25,7 +25,8 @@ impl State {
         self.enter(program, called.ok_or(Halt::Stuck)?, instruction, arguments)
     }
 
-    /// DISPATCH: enters the lowest version that fits; UNDEF if none does.
+    /// DISPATCH: enters the lowest version that fits and is not above the level of
+    /// the version whose block holds it; UNDEF if there is none.
     pub(super) fn dispatch(
         &mut self,
         program: &Program,
@@ -34,7 +35,12 @@ impl State {
     ) -> Step {
         let kinds = arguments.iter().map(|&value| self.kind(program, value));
         let kinds: Vec<Kind> = kinds.collect::<Option<_>>().ok_or(Halt::Stuck)?;
-        let fitting = first_that_fits(program, instruction, &kinds);
+        let fitting = first_that_fits(
+            program,
+            self.own_version(program).level,
+            instruction,
+            &kinds,
+        );
         self.enter(program, fitting.ok_or(UNDEF)?, instruction, arguments)
     }
 

@@ -1,7 +1,7 @@
 //! "Image": the bytes of each record.
 
 use reference::record::{BlockRecord, VersionRecord};
-use reference::{Instruction as I, Mark, Record, Type};
+use reference::{Instruction as I, Level, Mark, Record, Type};
 
 /// Asserts that the bytes are those of the record, both ways.
 #[track_caller]
@@ -40,6 +40,12 @@ fn kind_2_block() {
         instructions: 48,
     };
     layout(&[7, 0, 2, 0, 1, 9, 48], Record::Block(record));
+}
+
+#[test]
+fn kind_3_level() {
+    layout(&[5, 0, 3, 0, 2], Record::Level(Level::FACTORY));
+    layout(&[5, 0, 3, 0, 7], Record::Level(Level(7)));
 }
 
 #[test]
@@ -171,5 +177,5 @@ fn kind_36_lit() {
 fn records_follow_one_another_from_offset_0() {
     let records = reference::questions::records(&cases::IDENTITY);
     let offsets: Vec<usize> = records.unwrap().iter().map(|r| r.offset).collect();
-    assert_eq!(offsets, [0, 11]);
+    assert_eq!(offsets, [0, 11, 16]);
 }

@@ -3,6 +3,8 @@
 mod support;
 
 mod image_bytes;
+mod levels;
+mod levels_runs;
 mod mistakes;
 mod moves;
 mod proved_cases;

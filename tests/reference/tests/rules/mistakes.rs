@@ -6,7 +6,7 @@ use cases::{calling_with, emptying_after, returning};
 #[test]
 fn one_owned_register_given_as_owned_and_borrowed_in_one_call_is_8() {
     accepts(&calling_with("r0, r1"));
-    refuses(&calling_with("r0, r0"), 8, 13 + 7);
+    refuses(&calling_with("r0, r0"), 8, 13 + 5 + 7);
 }
 
 #[test]
@@ -16,7 +16,7 @@ fn one_owned_register_given_as_borrowed_after_it_is_owned_in_one_call_is_8() {
            block 0 quiet -> r1
              r1 = dispatch 0(r0: own vector, r0: borrow vector) -> int quiet",
         8,
-        12 + 7,
+        12 + 5 + 7,
     );
 }
 

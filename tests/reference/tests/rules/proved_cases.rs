@@ -1,13 +1,13 @@
 //! "Proved cases": P1 to P11.
 
-use crate::support::{refuses, refuses_image, UNTOUCHED};
+use crate::support::{refuses, refuses_image, PORTAL, UNTOUCHED};
 use cases::{image, resulting, CALLS_ITSELF, DIVISION, DUP_AND_SET, IDENTITY, SET_ON_SHARED};
 use reference::{begin, Answer, End, Integer, Program, State};
 
 /// A budget given at the start of 0.0: its answer, its steps and the buffer after it.
 fn run(image: &[u8], words: &[Integer], budget: u32) -> (Answer, u32, [Integer; 16]) {
     let program = Program::accept(image).expect("an accepted image");
-    let state = State::begin(&program, 0, 0, words, &UNTOUCHED).expect("a run begins");
+    let state = State::begin(&program, PORTAL, 0, 0, words, &UNTOUCHED).expect("a run begins");
     let mut buffer = UNTOUCHED;
     let (_, answer, steps) = state.budget(&program, budget, &mut buffer);
     (answer, steps, buffer)
@@ -32,8 +32,8 @@ fn p3_identity_of_7_with_budget_0_is_steps_after_0_steps() {
 }
 
 #[test]
-fn p4_identity_without_its_last_byte_is_2_at_11() {
-    refuses_image(&IDENTITY[..17], 2, 11);
+fn p4_identity_without_its_last_byte_is_2_at_16() {
+    refuses_image(&IDENTITY[..22], 2, 16);
 }
 
 #[test]
@@ -72,7 +72,7 @@ fn p8_dup_set_and_owned_return_on_an_empty_vector_is_undef() {
 
 #[test]
 fn p9_set_on_the_shared_vector_is_8_at_the_set() {
-    refuses(SET_ON_SHARED, 8, 14 + 7 + 6 + 13 + 13);
+    refuses(SET_ON_SHARED, 8, 14 + 5 + 7 + 6 + 13 + 13);
 }
 
 #[test]
@@ -89,8 +89,8 @@ fn p11_a_body_that_calls_itself_with_budget_32_is_deep_after_31_steps() {
 
 #[test]
 fn identity_begins_from_its_bytes_alone() {
-    let state = begin(&IDENTITY, 0, 0, &[-1, 7], &UNTOUCHED).expect("a run begins");
+    let state = begin(&IDENTITY, PORTAL, 0, 0, &[-1, 7], &UNTOUCHED).expect("a run begins");
     let program = Program::accept(&IDENTITY).expect("an accepted image");
-    let from_program = State::begin(&program, 0, 0, &[-1, 7], &UNTOUCHED);
+    let from_program = State::begin(&program, PORTAL, 0, 0, &[-1, 7], &UNTOUCHED);
     assert_eq!(from_program, Ok(state));
 }

@@ -3,7 +3,7 @@
 use crate::support::{accepts, refuses};
 use cases::image;
 
-/// A body over two integers; its first instruction stands at 19, and each SKIP
+/// A body over two integers; its first instruction stands at 24, and each SKIP
 /// and MOVE has 6 bytes.
 fn body(instructions: &[&str]) -> String {
     let lines = instructions.join("\n");
@@ -21,7 +21,7 @@ fn ends_inside(instructions: &[&str]) {
 /// Asserts that the SKIP of this number among the instructions goes too far.
 #[track_caller]
 fn goes_past(instructions: &[&str], number: usize) {
-    refuses(&body(instructions), 14, 19 + 6 * number);
+    refuses(&body(instructions), 14, 24 + 6 * number);
 }
 
 #[test]
@@ -116,7 +116,7 @@ fn question14_block_ends_before_the_next_one() {
                     skip 1 unless r0
                   block 1 quiet -> r1
                     r1 = move r0";
-    refuses(text, 14, 13 + 7 + 6);
+    refuses(text, 14, 13 + 5 + 7 + 6);
 }
 
 #[test]
@@ -133,7 +133,7 @@ fn question14_skip_in_a_promise_block() {
         )
     };
     accepts(&text(1));
-    refuses(&text(2), 14, 13 + 7 + 6 + 7);
+    refuses(&text(2), 14, 13 + 5 + 7 + 6 + 7);
 }
 
 #[test]
@@ -142,7 +142,7 @@ fn question14_first_skip_that_fails_in_image_order() {
     let good = body(&["skip 1 unless r0", MOVE]);
     let bad = body(&["skip 1 unless r0"]).replace("0.0", "0.1");
     let worse = bad.replace("0.1", "0.2");
-    let offset = image(&good).len() + 19;
+    let offset = image(&good).len() + 24;
     refuses(&format!("{good}\n{bad}\n{worse}"), 14, offset);
 }
 
@@ -150,11 +150,11 @@ fn question14_first_skip_that_fails_in_image_order() {
 fn question14_is_put_after_7_and_before_8() {
     // The second instruction of each names a register that does not exist, or
     // moves an integer into a vector.
-    refuses(&body(&["skip 9 unless r0", "r2 = move r0"]), 7, 19 + 6);
+    refuses(&body(&["skip 9 unless r0", "r2 = move r0"]), 7, 24 + 6);
     let text = "version 0.0(r0: int, r1: vector) -> int
                   block 0 quiet -> r0
                     r1 = move r0
                     skip 9 unless r1";
-    refuses(text, 14, 19 + 6);
-    refuses(&text.replace("skip 9", "skip 0"), 8, 19);
+    refuses(text, 14, 24 + 6);
+    refuses(&text.replace("skip 9", "skip 0"), 8, 24);
 }

@@ -1,23 +1,23 @@
 //! Question 15: a state may go on under a new image when every version with a
 //! live call has the same bytes and number in both.
 
-use crate::support::{Run, UNTOUCHED};
+use crate::support::{Run, PORTAL, UNTOUCHED};
 use cases::{image, DUP_AND_SET, IDENTITY};
 use reference::state::{Frame, Opener};
 use reference::{change, Program, Refusal, State, Value};
 
-/// 0.0, at 0 to 36: it calls 1.0 and then 2.0.
+/// 0.0, at 0 to 41: it calls 1.0 and then 2.0.
 const MAIN: &str = "version 0.0(r0: int) -> int
                       block 0 quiet -> r0
                         r0 = call 1.0(r0)
                         r0 = call 2.0(r0)\n";
-/// 1.0, at 36 to 70: twice its argument; r2 is not used.
+/// 1.0, at 41 to 80: twice its argument; r2 is not used.
 const TWICE: &str = "version 1.0(r0: int) -> int
                        registers r1: int, r2: vector
                        block 0 quiet -> r0
                          r1 = move r0
                          r0 = add r0, r1\n";
-/// 2.0, at 70 to 110: three times its argument.
+/// 2.0, at 80 to 125: three times its argument.
 const THRICE: &str = "version 2.0(r0: int) -> int
                         registers r1: int
                         block 0 quiet -> r0
@@ -65,12 +65,12 @@ fn question15_only_versions_with_a_live_call_are_compared() {
         assert_eq!(change(&old(), &second, &after(steps)), Ok(()), "{steps}");
     }
     for steps in [1, 2, 3] {
-        assert_eq!(change(&old(), &first, &after(steps)), no(36), "{steps}");
+        assert_eq!(change(&old(), &first, &after(steps)), no(41), "{steps}");
         assert_eq!(change(&old(), &second, &after(steps)), Ok(()), "{steps}");
     }
     for steps in [5, 6, 7] {
         assert_eq!(change(&old(), &first, &after(steps)), Ok(()), "{steps}");
-        assert_eq!(change(&old(), &second, &after(steps)), no(70), "{steps}");
+        assert_eq!(change(&old(), &second, &after(steps)), no(80), "{steps}");
     }
 }
 
@@ -86,7 +86,7 @@ fn question15_versions_without_a_live_call_may_come_and_go() {
 
 #[test]
 fn question15_finds_a_version_by_its_number_wherever_it_stands() {
-    // 0.1 takes 18 bytes.
+    // 0.1 takes 23 bytes.
     let added = "version 0.1(r0: vector) -> vector\nblock 0 quiet -> r0\n";
     let moved = image(&[MAIN, added, TWICE, THRICE].concat());
     for steps in 0..=8 {
@@ -95,14 +95,14 @@ fn question15_finds_a_version_by_its_number_wherever_it_stands() {
     }
     let other = TWICE.replace("add", "sub");
     let other = image(&[MAIN, added, &other, THRICE].concat());
-    assert_eq!(change(&old(), &other, &after(2)), no(36 + 18));
+    assert_eq!(change(&old(), &other, &after(2)), no(41 + 23));
 }
 
 #[test]
 fn question15_sees_one_byte_of_an_instruction() {
     let other = with("add", "sub");
-    assert_eq!(differing(&other), [36 + 13 + 7 + 6 + 5]);
-    assert_eq!(change(&old(), &other, &after(1)), no(36));
+    assert_eq!(differing(&other), [41 + 13 + 5 + 7 + 6 + 5]);
+    assert_eq!(change(&old(), &other, &after(1)), no(41));
 }
 
 #[test]
@@ -110,25 +110,45 @@ fn question15_sees_one_byte_of_a_block() {
     let other = with("block 0 quiet -> r0\n                         r1 = move", {
         "block 0 quiet -> r1\n r1 = move"
     });
-    assert_eq!(differing(&other), [36 + 13 + 5]);
-    assert_eq!(change(&old(), &other, &after(1)), no(36));
+    assert_eq!(differing(&other), [41 + 13 + 5 + 5]);
+    assert_eq!(change(&old(), &other, &after(1)), no(41));
 }
 
 #[test]
 fn question15_sees_one_byte_of_a_version_record() {
     let other = with("r2: vector", "r2: value");
-    assert_eq!(differing(&other), [36 + 12]);
-    assert_eq!(change(&old(), &other, &after(1)), no(36));
+    assert_eq!(differing(&other), [41 + 12]);
+    assert_eq!(change(&old(), &other, &after(1)), no(41));
+}
+
+#[test]
+fn question15_sees_the_level() {
+    let leveled = |level: &str| {
+        let caller = "version 0.0(r0: int) -> int\nlevel factory\n";
+        let called = format!("version 1.0(r0: int) -> int\nlevel {level}\n");
+        let calls = "block 0 quiet -> r0\nr0 = call 1.0(r0)\n";
+        image(&format!("{caller}{calls}{called}block 0 quiet -> r0"))
+    };
+    let old = leveled("staff");
+    let program = Program::accept(&old).expect("an accepted image");
+    let begun = State::begin(&program, 2, 0, 0, &[-1, 5], &UNTOUCHED).expect("a run begins");
+    let (inside, _) = begun.clone().step(&program);
+    for level in ["portal", "factory"] {
+        let new = leveled(level);
+        // 0.0 takes 11 + 5 + 7 + 9 bytes.
+        assert_eq!(change(&old, &new, &inside), no(32), "{level}");
+        assert_eq!(change(&old, &new, &begun), Ok(()), "{level}");
+    }
 }
 
 #[test]
 fn question15_sees_the_last_byte_of_a_version() {
     let other = with("add r0, r1", "add r0, r0");
-    assert_eq!(differing(&other), [69]);
-    assert_eq!(change(&old(), &other, &after(1)), no(36));
+    assert_eq!(differing(&other), [79]);
+    assert_eq!(change(&old(), &other, &after(1)), no(41));
     let other = with("mul r0, r1", "mul r0, r0");
-    assert_eq!(differing(&other), [109]);
-    assert_eq!(change(&old(), &other, &after(5)), no(70));
+    assert_eq!(differing(&other), [124]);
+    assert_eq!(change(&old(), &other, &after(5)), no(80));
 }
 
 /// The places of the bytes in which an image of the same length differs from the old one.
@@ -141,16 +161,16 @@ fn differing(other: &[u8]) -> Vec<usize> {
 #[test]
 fn question15_sees_an_instruction_more_at_the_end() {
     let other = with("add r0, r1\n", "add r0, r1\n r1 = move r1\n");
-    assert_eq!(change(&old(), &other, &after(1)), no(36));
-    assert_eq!(change(&other, &old(), &after(1)), no(36));
+    assert_eq!(change(&old(), &other, &after(1)), no(41));
+    assert_eq!(change(&other, &old(), &after(1)), no(41));
 }
 
 #[test]
 fn question15_names_the_first_of_two_that_differ() {
     let text = [MAIN, &TWICE.replace("add", "sub"), THRICE].concat();
     let both = image(&text.replace("lit 3", "lit 4"));
-    assert_eq!(change(&old(), &both, &after(1)), no(36));
-    assert_eq!(change(&old(), &both, &after(5)), no(70));
+    assert_eq!(change(&old(), &both, &after(1)), no(41));
+    assert_eq!(change(&old(), &both, &after(5)), no(80));
     let marked = text.replacen("quiet", "reflective", 1);
     assert_eq!(change(&old(), &image(&marked), &after(1)), no(0));
     assert_eq!(change(&old(), &image(&marked), &after(0)), no(0));
@@ -161,29 +181,29 @@ fn called_from_above() -> (Vec<u8>, State) {
     let caller = "version 1.0(r0: int) -> int\nblock 0 quiet -> r0\nr0 = call 0.0(r0)";
     let old = [&IDENTITY[..], &image(caller)].concat();
     let program = Program::accept(&old).expect("an accepted image");
-    let state = State::begin(&program, 1, 0, &[-1, 5], &UNTOUCHED).expect("a run begins");
+    let state = State::begin(&program, PORTAL, 1, 0, &[-1, 5], &UNTOUCHED).expect("a run begins");
     (old, state.step(&program).0)
 }
 
 #[test]
 fn question15_a_version_that_is_missing_is_at_the_new_images_length() {
     let (old, state) = called_from_above();
-    assert_eq!(change(&old, &IDENTITY, &state), no(18));
+    assert_eq!(change(&old, &IDENTITY, &state), no(23));
     let more = "version 0.0(r0: int) -> int\nblock 0 quiet -> r0
                 version 0.1(r0: int) -> int\nblock 0 quiet -> r0";
-    assert_eq!(change(&old, &image(more), &state), no(36));
+    assert_eq!(change(&old, &image(more), &state), no(46));
 }
 
 #[test]
 fn question15_what_differs_comes_before_what_is_missing() {
     let (old, state) = called_from_above();
     let mut other = IDENTITY;
-    other[15] = 1;
+    other[20] = 1;
     assert_eq!(change(&old, &other, &state), no(0));
     // The body of 1.0 stands under another number.
     let renamed = "version 0.0(r0: int) -> int\nblock 0 quiet -> r0
                    version 0.1(r0: int) -> int\nblock 0 quiet -> r0\nr0 = call 0.0(r0)";
-    assert_eq!(change(&old, &image(renamed), &state), no(45));
+    assert_eq!(change(&old, &image(renamed), &state), no(55));
 }
 
 #[test]
@@ -204,18 +224,18 @@ fn question15_a_version_of_a_frame_below_a_force_is_live() {
     assert_eq!(run.state.activations[2].opener, Opener::Force(0));
     let change_to = |other: &str| change(&image(text), &image(other), &run.state);
     assert_eq!(change_to(text), Ok(()));
-    // 0.0 takes 12 + 7 + 6 + 9 + 7 + 13 bytes.
+    // 0.0 takes 12 + 5 + 7 + 6 + 9 + 7 + 13 bytes.
     assert_eq!(change_to(&text.replace("lit 7", "lit 8")), no(0));
     let other = text.replace("registers r1: int", "registers r1: int, r2: int");
-    assert_eq!(change_to(&other), no(54));
+    assert_eq!(change_to(&other), no(59));
 }
 
 #[test]
 fn question15_a_live_version_in_neither_image_is_at_the_new_images_length() {
     let mut state = after(0);
     state.frames.push(Frame::new(7, 3, &[Value::Integer(1)]));
-    assert_eq!(change(&old(), &old(), &state), no(110));
-    assert_eq!(change(&old(), &with("add", "sub"), &state), no(110));
+    assert_eq!(change(&old(), &old(), &state), no(125));
+    assert_eq!(change(&old(), &with("add", "sub"), &state), no(125));
 }
 
 #[test]
@@ -224,8 +244,8 @@ fn question15_a_live_version_of_the_new_image_alone_differs() {
     let more = image(&[MAIN, TWICE, THRICE, added].concat());
     let mut state = after(0);
     state.frames.push(Frame::new(3, 0, &[Value::Integer(1)]));
-    assert_eq!(change(&old(), &more, &state), no(110));
-    assert_eq!(more.len(), 110 + 18);
+    assert_eq!(change(&old(), &more, &state), no(125));
+    assert_eq!(more.len(), 125 + 23);
 }
 
 /// A quiet body with a PEEK.
@@ -235,29 +255,38 @@ const PEEKING: &str = "registers r1: quiet promise, r2: value, r3: int
                          r2 = peek r1.x0
                        block 1 quiet -> r3";
 
+/// A body of the portal that calls a version for the factory.
+const CALLING_UP: &str = "level portal
+                          block 0 quiet -> r0
+                            r0 = call 0.1(r0)
+                          version 0.1(r0: vector) -> vector
+                            level factory
+                            block 0 quiet -> r0";
+
 #[test]
 fn question15_comes_after_the_questions_to_the_new_image() {
     let text = |rest: &str| image(&format!("version 0.0(r0: vector) -> vector\n{rest}"));
     let identity = text("block 0 quiet -> r0");
-    let refused: [(u8, usize, Vec<u8>); 11] = [
+    let refused: [(u8, usize, Vec<u8>); 12] = [
         (1, 0, vec![]),
-        (2, 11, identity[..17].to_vec()),
-        (3, 18, [&identity[..], &[4, 0, 99, 0]].concat()),
-        (4, 11, text("block 0 mark 2 -> r0")),
-        (5, 18, identity.repeat(2)),
+        (2, 16, identity[..22].to_vec()),
+        (3, 23, [&identity[..], &[4, 0, 99, 0]].concat()),
+        (4, 16, text("block 0 mark 2 -> r0")),
+        (5, 23, identity.repeat(2)),
         (
             6,
             0,
             image("version 0.0(r0: vector) -> borrow vector\nblock 0 quiet -> r0"),
         ),
-        (7, 18, text("block 0 quiet -> r0\nr1 = move r0")),
+        (7, 23, text("block 0 quiet -> r0\nr1 = move r0")),
         (
             14,
-            19,
+            24,
             text("registers r1: int\nblock 0 quiet -> r0\nskip 1 unless r1"),
         ),
-        (8, 18, text("block 0 quiet -> r0\nr0 = len r0")),
-        (9, 14, text(PEEKING)),
+        (8, 23, text("block 0 quiet -> r0\nr0 = len r0")),
+        (18, 23, text(CALLING_UP)),
+        (9, 19, text(PEEKING)),
         (10, 0, text("registers r1: vector\nblock 0 quiet -> r1")),
     ];
     for (number, offset, new) in refused {
@@ -273,8 +302,8 @@ fn question15_comes_after_the_questions_to_the_new_image() {
 #[test]
 fn question15_does_not_ask_the_old_image_again() {
     // The old image is cut behind 1.0, so that 0.0 calls what is not there.
-    let cut = &old()[..70];
+    let cut = &old()[..80];
     assert!(Program::accept(cut).is_err());
     assert_eq!(change(cut, &old(), &after(1)), Ok(()));
-    assert_eq!(change(cut, &old(), &after(5)), no(70));
+    assert_eq!(change(cut, &old(), &after(5)), no(80));
 }

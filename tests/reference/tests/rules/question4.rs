@@ -2,7 +2,7 @@
 
 use crate::support::{accepts, refuses};
 
-/// An identity version, 18 bytes long.
+/// An identity version, 23 bytes long.
 const IDENTITY: &str = "version 0.0(r0: int) -> int
                           block 0 quiet -> r0";
 
@@ -17,7 +17,7 @@ fn version_with(numbers: &str, registers: usize, keys: &str) -> String {
     format!("version {numbers}() -> int {keys}\n{registers}\nblock 0 quiet -> r0\n r0 = lit 0")
 }
 
-/// An identity with this instruction, which begins at 18.
+/// An identity with this instruction, which begins at 23.
 fn with_instruction(instruction: &str) -> String {
     format!("{IDENTITY}\n{instruction}")
 }
@@ -86,41 +86,41 @@ fn question4_64_versions_are_in_bounds_and_the_65th_fails_at_its_own_place() {
     let of_64: String = versions.collect();
     accepts(&of_64);
     let of_65 = of_64 + &IDENTITY.replace("0.0", "31.2");
-    refuses(&of_65, 4, 64 * 18);
+    refuses(&of_65, 4, 64 * 23);
 }
 
 #[test]
 fn question4_48_instructions_are_in_bounds_and_49_are_not() {
     accepts(&with_instruction(&"r0 = lit 0\n".repeat(48)));
-    refuses(&with_instruction(&"r0 = lit 0\n".repeat(49)), 4, 11);
+    refuses(&with_instruction(&"r0 = lit 0\n".repeat(49)), 4, 16);
 }
 
 #[test]
 fn question4_mark_2_of_a_block_is_out_of_bounds() {
-    refuses(&IDENTITY.replace("quiet", "mark 2"), 4, 11);
+    refuses(&IDENTITY.replace("quiet", "mark 2"), 4, 16);
 }
 
 #[test]
 fn question4_mark_2_of_a_dispatch_is_out_of_bounds() {
     let dispatch = "r0 = dispatch 0(r0: int) -> int mark 2";
-    refuses(&with_instruction(dispatch), 4, 18);
+    refuses(&with_instruction(dispatch), 4, 23);
 }
 
 #[test]
 fn question4_op_5_is_out_of_bounds() {
     accepts(&with_instruction("r0 = less r0, r0"));
-    refuses(&with_instruction("r0 = arith 5 r0, r0"), 4, 18);
-    refuses(&with_instruction("r0 = arith 255 r0, r0"), 4, 18);
+    refuses(&with_instruction("r0 = arith 5 r0, r0"), 4, 23);
+    refuses(&with_instruction("r0 = arith 255 r0, r0"), 4, 23);
 }
 
 #[test]
 fn question4_n_9_is_out_of_bounds_though_the_length_fits() {
     let nine = ["r0"; 9].join(", ");
-    refuses(&with_instruction(&format!("r0 = vec [{nine}]")), 4, 18);
-    refuses(&with_instruction(&format!("r0 = call 0.0({nine})")), 4, 18);
+    refuses(&with_instruction(&format!("r0 = vec [{nine}]")), 4, 23);
+    refuses(&with_instruction(&format!("r0 = call 0.0({nine})")), 4, 23);
     let nine = ["r0: int"; 9].join(", ");
     let dispatch = format!("r0 = dispatch 0({nine}) -> int quiet");
-    refuses(&with_instruction(&dispatch), 4, 18);
+    refuses(&with_instruction(&dispatch), 4, 23);
 }
 
 #[test]
@@ -151,7 +151,7 @@ fn question4_image_that_begins_with_no_version() {
 #[test]
 fn question4_instruction_where_a_block_is_due() {
     let text = "version 0.0(r0: int) -> int\n r0 = lit 0\n block 0 quiet -> r0";
-    refuses(text, 4, 11);
+    refuses(text, 4, 16);
 }
 
 #[test]
@@ -161,7 +161,7 @@ fn question4_version_where_a_block_is_due() {
            block 0 quiet -> r0
          {IDENTITY}"
     );
-    refuses(&text, 4, 18);
+    refuses(&text, 4, 23);
 }
 
 #[test]
@@ -171,7 +171,7 @@ fn question4_version_where_an_instruction_is_due() {
            block 0 quiet -> r0 count=1
          {IDENTITY}"
     );
-    refuses(&text, 4, 18);
+    refuses(&text, 4, 23);
 }
 
 #[test]
@@ -181,7 +181,7 @@ fn question4_block_where_an_instruction_is_due() {
            block 0 quiet -> r0 count=1
            block 1 quiet -> r0",
         4,
-        18,
+        23,
     );
 }
 
@@ -192,7 +192,7 @@ fn question4_block_where_a_version_is_due() {
            block 0 quiet -> r0
            block 1 quiet -> r0",
         4,
-        18,
+        23,
     );
 }
 
@@ -203,36 +203,36 @@ fn question4_instruction_where_a_version_is_due() {
            block 0 quiet -> r0 count=0
              r0 = lit 0",
         4,
-        18,
+        23,
     );
 }
 
 #[test]
 fn question4_missing_block_is_at_the_image_length() {
-    refuses("version 0.0(r0: int) -> int blocks=1", 4, 11);
+    refuses("version 0.0(r0: int) -> int blocks=1", 4, 16);
     let text = "version 0.0(r0: int) -> int blocks=2\n block 0 quiet -> r0";
-    refuses(text, 4, 18);
+    refuses(text, 4, 23);
 }
 
 #[test]
 fn question4_missing_instruction_is_at_the_image_length() {
     let text = "version 0.0(r0: int) -> int\n block 0 quiet -> r0 count=2\n r0 = lit 0";
-    refuses(text, 4, 31);
+    refuses(text, 4, 36);
 }
 
 #[test]
 fn question4_first_failing_record_counts_whatever_part_it_fails() {
     let op_before_order = with_instruction("r0 = arith 9 r0, r0\nversion 0.9() -> int");
-    refuses(&op_before_order, 4, 18);
+    refuses(&op_before_order, 4, 23);
     let order_before_op = "version 0.0(r0: int) -> int
            block 0 quiet -> r0 count=0
              r0 = lit 0
              r0 = arith 9 r0, r0";
-    refuses(order_before_op, 4, 18);
+    refuses(order_before_op, 4, 23);
 }
 
 #[test]
 fn question4_is_put_to_the_whole_image_before_questions_5_6_and_7() {
     let text = "version 1.0(r0: 0x66) -> any\n block 0 quiet -> r9\n r7 = arith 5 r0, r0";
-    refuses(text, 4, 18);
+    refuses(text, 4, 23);
 }

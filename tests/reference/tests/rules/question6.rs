@@ -18,7 +18,7 @@ fn passing_bytes(offset: usize, text: impl Fn(&str) -> String) -> Vec<u8> {
     (0..=255).filter(passes).collect()
 }
 
-/// A version with a DISPATCH at offset 18.
+/// A version with a DISPATCH at offset 23.
 fn dispatching(signature: &str) -> String {
     format!(
         "version 0.0(r0: int) -> int
@@ -50,14 +50,14 @@ fn question6_types_of_registers_that_are_no_parameters() {
 #[test]
 fn question6_return_type_of_a_dispatch() {
     let text = |ty: &str| dispatching(&format!("(r0: int) -> {ty}"));
-    assert_eq!(passing_bytes(18, text), [1, 2, 3, 0x13]);
+    assert_eq!(passing_bytes(23, text), [1, 2, 3, 0x13]);
 }
 
 #[test]
 fn question6_argument_types_of_a_dispatch() {
     let text = |ty: &str| dispatching(&format!("(r0: int, r0: {ty}) -> int"));
     let allowed = [0, 1, 2, 3, 4, 5, 0x13, 0x23];
-    assert_eq!(passing_bytes(18, text), allowed);
+    assert_eq!(passing_bytes(23, text), allowed);
 }
 
 #[test]
@@ -67,6 +67,6 @@ fn question6_is_put_to_the_whole_image_before_question_7() {
            block 0 quiet -> r9
              r0 = dispatch 9(r0: 0x06) -> int quiet",
         6,
-        18,
+        23,
     );
 }

@@ -17,7 +17,7 @@ fn results_of(returns: &str) -> Vec<u8> {
         match verdict(&image(&text)) {
             Verdict::Accepted(_) => true,
             Verdict::Refused(refusal) => {
-                let offset = 18;
+                let offset = 23;
                 assert_eq!(refusal, Refusal { number, offset });
                 false
             }
@@ -27,7 +27,7 @@ fn results_of(returns: &str) -> Vec<u8> {
 }
 
 /// A body that makes a promise of a block with this instruction, which stands
-/// at 18 + 7 + 6 + 7 = 38.
+/// at 23 + 7 + 6 + 7 = 43.
 fn in_promise_block(instruction: &str) -> String {
     with_every_type(&format!(
         "r0 = prom 1
@@ -55,19 +55,19 @@ fn question8_result_of_a_promise_block_is_an_integer() {
         if result == 2 {
             accepts(&with_every_type(&block));
         } else {
-            refuses(&with_every_type(&block), 8, 18 + 7 + 6);
+            refuses(&with_every_type(&block), 8, 23 + 7 + 6);
         }
     }
 }
 
 #[test]
 fn question8_promise_block_has_no_use() {
-    refuses(&in_promise_block("r3 = use r6"), 8, 38);
+    refuses(&in_promise_block("r3 = use r6"), 8, 43);
 }
 
 #[test]
 fn question8_promise_block_has_no_set() {
-    refuses(&in_promise_block("set r6[r2] = r2"), 8, 38);
+    refuses(&in_promise_block("set r6[r2] = r2"), 8, 43);
 }
 
 #[test]
@@ -77,13 +77,13 @@ fn question8_promise_block_has_no_emptying_call() {
                     block 0 quiet -> r1
                       r1 = len r0";
     let text = in_promise_block("r2 = call 1.0(r6)");
-    refuses(&format!("{text}\n{called}"), 8, 38);
+    refuses(&format!("{text}\n{called}"), 8, 43);
 }
 
 #[test]
 fn question8_promise_block_has_no_emptying_dispatch() {
     let text = "r2 = dispatch 0(r6: own vector) -> int quiet";
-    refuses(&in_promise_block(text), 8, 38);
+    refuses(&in_promise_block(text), 8, 43);
 }
 
 #[test]
@@ -109,9 +109,9 @@ fn question8_promise_block_may_do_all_else() {
 fn question8_first_failing_record_counts_block_or_instruction() {
     // The body's instruction fails before its promise block's result does.
     let text = "r2 = move r3\nr0 = prom 1\nblock 1 quiet -> r3";
-    refuses(&with_every_type(text), 8, 25);
+    refuses(&with_every_type(text), 8, 30);
     let text = "r2 = move r2\nr0 = prom 1\nblock 1 quiet -> r3\nr2 = move r3";
-    refuses(&with_every_type(text), 8, 25 + 6 + 6);
+    refuses(&with_every_type(text), 8, 30 + 6 + 6);
 }
 
 #[test]
@@ -122,5 +122,5 @@ fn question8_is_put_to_the_whole_image_before_questions_9_and_10() {
                     r2 = peek r1.x0
                 version 0.1(r0: int) -> vector
                   block 0 quiet -> r0";
-    refuses(text, 8, 13 + 7 + 7 + 11);
+    refuses(text, 8, (13 + 5 + 7 + 7) + (11 + 5));
 }

@@ -90,9 +90,9 @@ fn question8_result_of_a_dispatch_enters_what_its_return_type_allows() {
 fn question8_owned_register_stands_only_once_in_the_call() {
     let dispatch =
         |arguments: &str| with_every_type(&format!("r2 = dispatch 0({arguments}) -> int quiet"));
-    refuses(&dispatch("r6: own vector, r6: own vector"), 8, 25);
-    refuses(&dispatch("r6: own vector, r6: borrow vector"), 8, 25);
-    refuses(&dispatch("r6: borrow vector, r6: own vector"), 8, 25);
+    refuses(&dispatch("r6: own vector, r6: own vector"), 8, 30);
+    refuses(&dispatch("r6: own vector, r6: borrow vector"), 8, 30);
+    refuses(&dispatch("r6: borrow vector, r6: own vector"), 8, 30);
 }
 
 #[test]
@@ -118,5 +118,5 @@ fn question8_one_register_may_go_to_several_parameters_that_empty_nothing() {
 #[test]
 fn question8_second_argument_is_judged_by_the_second_parameter() {
     let text = "r2 = dispatch 0(r2: int, r3: int) -> int quiet";
-    refuses(&with_every_type(text), 8, 25);
+    refuses(&with_every_type(text), 8, 30);
 }

@@ -5,7 +5,7 @@ use cases::image;
 use reference::{verdict, Refusal, Verdict};
 
 /// r0 any, r1 value, r2 int, r3 vector, r4 quiet promise, r5 reflective
-/// promise, r6 own vector, r7 borrow vector; the instruction stands at 25.
+/// promise, r6 own vector, r7 borrow vector; the instruction stands at 30.
 pub fn with_every_type(instruction: &str) -> String {
     format!(
         "version 0.0(r0: any, r1: value, r2: int, r3: vector, r4: quiet promise, \
@@ -20,7 +20,7 @@ pub fn with_every_type(instruction: &str) -> String {
 pub fn fits(text: &str) -> bool {
     let types_fail = Refusal {
         number: 8,
-        offset: 25,
+        offset: 30,
     };
     match verdict(&image(text)) {
         Verdict::Accepted(_) => true,
@@ -184,7 +184,7 @@ fn question8_skip_takes_an_integer() {
 #[test]
 fn question8_nothing_enters_a_borrowed_register() {
     for instruction in ["r7 = dup r7", "r7 = vec []", "r7 = move r3", "r7 = cast r3"] {
-        refuses(&with_every_type(instruction), 8, 25);
+        refuses(&with_every_type(instruction), 8, 30);
     }
 }
 
@@ -202,5 +202,5 @@ fn question8_use_may_enter_another_owned_register() {
 fn question8_parameter_may_be_assigned_unless_it_is_borrowed() {
     accepts(&with_every_type("r6 = vec []"));
     accepts(&with_every_type("r2 = lit 1"));
-    refuses(&with_every_type("r7 = vec []"), 8, 25);
+    refuses(&with_every_type("r7 = vec []"), 8, 30);
 }

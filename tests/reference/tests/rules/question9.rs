@@ -19,7 +19,7 @@ fn called(mark: &str) -> String {
 #[track_caller]
 fn reflective(instruction: &str) {
     accepts(&body("reflective", instruction));
-    refuses(&body("quiet", instruction), 9, 14);
+    refuses(&body("quiet", instruction), 9, 19);
 }
 
 #[test]
@@ -37,7 +37,7 @@ fn question9_force_is_reflective_by_the_declared_kind() {
     reflective("r3 = force r1");
     accepts(&body("quiet", "r3 = force r0"));
     // What register 1 holds here is a quiet promise, but it is declared reflective.
-    refuses(&body("quiet", "r1 = move r0\nr3 = force r1"), 9, 14);
+    refuses(&body("quiet", "r1 = move r0\nr3 = force r1"), 9, 19);
 }
 
 #[test]
@@ -45,7 +45,7 @@ fn question9_call_is_reflective_by_the_mark_written_in_its_version() {
     let call = |mark, callee| format!("{}\n{}", body(mark, "r3 = call 1.0()"), called(callee));
     accepts(&call("quiet", "quiet"));
     accepts(&call("reflective", "reflective"));
-    refuses(&call("quiet", "reflective"), 9, 14);
+    refuses(&call("quiet", "reflective"), 9, 19);
 }
 
 #[test]
@@ -84,7 +84,7 @@ fn question9_prom_of_a_reflective_block_is_quiet() {
 #[test]
 fn question9_effect_of_a_promise_block_is_at_that_block() {
     let text = "r1 = prom 1\nblock 1 quiet -> r3\nr2 = peek r0.x0";
-    refuses(&body("reflective", text), 9, 14 + 7 + 6);
+    refuses(&body("reflective", text), 9, 19 + 7 + 6);
 }
 
 #[test]
@@ -96,5 +96,9 @@ fn question9_mark_higher_than_needed_is_no_fault() {
 fn question9_is_put_to_the_whole_image_before_question_10() {
     let flow_fails = "version 0.0() -> int\nregisters r0: int\nblock 0 quiet -> r0\n";
     let effect_fails = body("quiet", "r2 = peek r0.x0").replace("0.0", "0.1");
-    refuses(&format!("{flow_fails}{effect_fails}"), 9, 11 + 7 + 14);
+    refuses(
+        &format!("{flow_fails}{effect_fails}"),
+        9,
+        (11 + 5 + 7) + (14 + 5),
+    );
 }

@@ -1,6 +1,6 @@
 //! Questions 11 to 13: how a run begins.
 
-use crate::support::UNTOUCHED;
+use crate::support::{PORTAL, UNTOUCHED};
 use cases::{image, IDENTITY};
 use reference::state::Opener;
 use reference::{begin, Integer, Refusal, Status, Value};
@@ -12,7 +12,7 @@ fn refused_by(parameters: &str, words: &[Integer]) -> Option<u8> {
     );
     let count = parameters.split(',').filter(|p| !p.is_empty()).count();
     let text = text.replace("r8", &format!("r{count}"));
-    let refusal = begin(&image(&text), 0, 0, words, &UNTOUCHED).err()?;
+    let refusal = begin(&image(&text), PORTAL, 0, 0, words, &UNTOUCHED).err()?;
     assert_eq!(refusal.offset, 0);
     Some(refusal.number)
 }
@@ -32,15 +32,15 @@ fn matches(parameter: &str) -> (bool, bool) {
 
 #[test]
 fn questions_1_to_10_come_before_a_run_begins() {
-    let found = begin(&IDENTITY[..17], 9, 9, &[], &[]);
-    let (number, offset) = (2, 11);
+    let found = begin(&IDENTITY[..22], PORTAL, 9, 9, &[], &[]);
+    let (number, offset) = (2, 16);
     assert_eq!(found, Err(Refusal { number, offset }));
 }
 
 #[test]
 fn question11_entry_that_does_not_exist() {
     for (function, version) in [(0, 1), (1, 0), (0, 4), (32, 0), (256, 0), (0, 256)] {
-        let found = begin(&IDENTITY, function, version, &[-1, 7], &UNTOUCHED);
+        let found = begin(&IDENTITY, PORTAL, function, version, &[-1, 7], &UNTOUCHED);
         let (number, offset) = (11, 0);
         assert_eq!(found, Err(Refusal { number, offset }));
     }
@@ -49,7 +49,7 @@ fn question11_entry_that_does_not_exist() {
 #[test]
 fn question11_comes_before_12_and_12_before_13() {
     let number = |function, words: &[Integer]| {
-        let refusal = begin(&IDENTITY, function, 0, words, &[]).unwrap_err();
+        let refusal = begin(&IDENTITY, PORTAL, function, 0, words, &[]).unwrap_err();
         refusal.number
     };
     assert_eq!(number(1, &[]), 11);
@@ -114,11 +114,12 @@ fn question12_head_words_are_not_their_low_32_bits() {
 #[test]
 fn words_and_items_are_64_bits() {
     for integer in [1 << 40, -1 << 40, Integer::MIN, Integer::MAX] {
-        let state = begin(&IDENTITY, 0, 0, &[-1, integer], &UNTOUCHED).expect("a run begins");
+        let state =
+            begin(&IDENTITY, PORTAL, 0, 0, &[-1, integer], &UNTOUCHED).expect("a run begins");
         assert_eq!(state.frames[0].registers[0], Some(Value::Integer(integer)));
         let text = "version 0.0(r0: vector) -> vector\nblock 0 quiet -> r0";
         let words = [2, integer, -1];
-        let state = begin(&image(text), 0, 0, &words, &UNTOUCHED).expect("a run begins");
+        let state = begin(&image(text), PORTAL, 0, 0, &words, &UNTOUCHED).expect("a run begins");
         assert_eq!(state.vectors[0], Some(vec![integer, -1]));
     }
 }
@@ -140,7 +141,7 @@ fn question12_each_argument_matches_its_own_parameter() {
 
 #[test]
 fn question13_buffer_of_16_places_passes_and_15_do_not() {
-    let with_places = |places| begin(&IDENTITY, 0, 0, &[-1, 7], &vec![0; places]);
+    let with_places = |places| begin(&IDENTITY, PORTAL, 0, 0, &[-1, 7], &vec![0; places]);
     let (number, offset) = (13, 0);
     assert_eq!(with_places(15), Err(Refusal { number, offset }));
     assert_eq!(with_places(0), Err(Refusal { number, offset }));
@@ -154,7 +155,7 @@ fn begun_run_has_its_arguments_in_the_first_registers() {
                   registers r3: int
                   block 0 quiet -> r1";
     let words = [2, 5, 6, -1, 7, 0];
-    let state = begin(&image(text), 0, 0, &words, &UNTOUCHED).expect("a run begins");
+    let state = begin(&image(text), PORTAL, 0, 0, &words, &UNTOUCHED).expect("a run begins");
     assert_eq!(state.status, Status::Running);
     assert_eq!(state.frames.len(), 1);
     let frame = &state.frames[0];

@@ -10,7 +10,7 @@ fn identity_prints_its_line_and_accepted_1() {
 
 #[test]
 fn a_refused_image_prints_only_its_refusal() {
-    assert_eq!(report(&IDENTITY[..17]), "refused 2 at 11\n");
+    assert_eq!(report(&IDENTITY[..22]), "refused 2 at 16\n");
     assert_eq!(report(&[]), "refused 1 at 0\n");
 }
 

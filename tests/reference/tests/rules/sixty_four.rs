@@ -1,6 +1,6 @@
 //! "Sixty-four bits": the form and the range before, beside those in force.
 
-use crate::support::{refuses_image, UNTOUCHED};
+use crate::support::{refuses_image, PORTAL, UNTOUCHED};
 use cases::{giving, image};
 use reference::bounds::Steps;
 use reference::{
@@ -30,7 +30,7 @@ fn both(text: &str, words: &[Integer], budget: Steps) -> [(Answer, Steps); 2] {
     assert_eq!(new, image(text));
     let run = |form, range, image: &[u8]| {
         let program = Program::accept_in(form, image).expect("an accepted image");
-        let state = State::begin(&program, 0, 0, words, &UNTOUCHED).expect("a run begins");
+        let state = State::begin(&program, PORTAL, 0, 0, words, &UNTOUCHED).expect("a run begins");
         let (_, answer, steps) = state.budget_to(range, &program, budget, &mut UNTOUCHED.clone());
         (answer, steps)
     };
@@ -62,11 +62,11 @@ fn a_literal_of_kind_36_is_read_from_eight_bytes() {
 
 #[test]
 fn kind_16_and_short_literals_are_refused_by_3() {
-    refuses_image(&giving(&[9, 0, 16, 0, 0, 5, 0, 0, 0]), 3, 18);
+    refuses_image(&giving(&[9, 0, 16, 0, 0, 5, 0, 0, 0]), 3, 23);
     let eight = [13, 0, 16, 0, 0, 5, 0, 0, 0, 0, 0, 0, 0];
-    refuses_image(&giving(&eight), 3, 18);
-    refuses_image(&giving(&[9, 0, 36, 0, 0, 5, 0, 0, 0]), 3, 18);
-    refuses_image(&giving(&eight.map(|b| b.max(1))[..12]), 2, 18);
+    refuses_image(&giving(&eight), 3, 23);
+    refuses_image(&giving(&[9, 0, 36, 0, 0, 5, 0, 0, 0]), 3, 23);
+    refuses_image(&giving(&eight.map(|b| b.max(1))[..12]), 2, 23);
 }
 
 #[test]
@@ -152,22 +152,23 @@ fn literals_of_both_forms_are_the_same_integers() {
 fn versions_of_literals(literals: u8) -> Vec<u8> {
     let version = |index: u8| {
         let head = [11, 0, 1, 0, index / 4, index % 4, 0, 1, 2, 1, 2];
-        let block = [7, 0, 2, 0, 0, 0, literals];
-        let literal = [9, 0, 16, 0, 0, index, 255, 255, 255];
-        [&head[..], &block, &literal.repeat(literals.into())].concat()
+        let (level, block) = ([5, 0, 3, 0, 0], [7, 0, 2, 0, 0, 0, literals + 1]);
+        let literals = [9, 0, 16, 0, 0, index, 255, 255, 255].repeat(literals.into());
+        let arith = [8, 0, 24, 0, 0, 4, 0, 0];
+        [&head[..], &level, &block, &literals, &arith].concat()
     };
     (0..64).flat_map(version).collect()
 }
 
 #[test]
 fn a_longer_image_is_accepted_unless_it_is_too_long() {
-    // A version takes 18 bytes and 13 for each literal: 64 × 512 and 64 × 525 bytes.
-    for (literals, length) in [(38, 32_768), (39, 33_600)] {
+    // A version takes 31 bytes and 13 for each literal: 64 × 512 and 64 × 525 bytes.
+    for (literals, length) in [(37, 32_768), (38, 33_600)] {
         let old = versions_of_literals(literals);
         assert!(Program::accept_in(Form::Narrow, &old).is_ok());
         let new = widened(&old).expect("records");
         assert_eq!(new.len(), length);
-        if literals == 38 {
+        if literals == 37 {
             assert_eq!(verdict(&new), Verdict::Accepted(64));
         } else {
             refuses_image(&new, 1, 0);

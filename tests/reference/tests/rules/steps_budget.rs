@@ -1,6 +1,6 @@
 //! "Steps": budgets, ends, and lent buffers.
 
-use crate::support::{Run, UNTOUCHED};
+use crate::support::{Run, PORTAL, UNTOUCHED};
 use cases::{CALLS_ITSELF, IDENTITY};
 use reference::{Answer, End, Integer, Program, Refusal, Said, State};
 
@@ -193,6 +193,6 @@ fn ends_but_done_leave_calls_registers_and_names() {
 #[test]
 fn identity_ends_with_its_single_block_end() {
     let program = Program::accept(&IDENTITY).expect("an accepted image");
-    let state = State::begin(&program, 0, 0, &[-1, 7], &UNTOUCHED).expect("a run begins");
+    let state = State::begin(&program, PORTAL, 0, 0, &[-1, 7], &UNTOUCHED).expect("a run begins");
     assert_eq!(state.step(&program).1, Said::Ended(End::Integer(7)));
 }

@@ -1,6 +1,6 @@
 //! What a run does after a change of its image, and which ends leave a live call.
 
-use crate::support::Run;
+use crate::support::{Run, PORTAL};
 use cases::{adding, image, CALLS_ITSELF, IDENTITY};
 use reference::bounds::BUFFER;
 use reference::watched::Watched;
@@ -17,7 +17,7 @@ impl Changing {
     fn begin(text: &str, words: &[Integer]) -> Changing {
         let begun = Run::begin(text, words);
         Changing {
-            run: Watched::new(&begun.program, begun.state, "a run that changes"),
+            run: Watched::new(&begun.program, begun.state, PORTAL, "a run that changes"),
             image: image(text),
         }
     }
@@ -63,8 +63,8 @@ fn a_budget_goes_on_under_the_new_image() {
 fn a_refused_change_leaves_the_run_under_the_old_image() {
     let mut run = Changing::begin(&adding(1), &[-1, 5]);
     run.steps(1);
-    // 0.0 takes 36 bytes, and 1.0 is live.
-    let (number, offset) = (15, 36);
+    // 0.0 takes 41 bytes, and 1.0 is live.
+    let (number, offset) = (15, 41);
     assert_eq!(run.change(&adding(100)), Err(Refusal { number, offset }));
     run.steps(3);
     assert_eq!(run.change(&adding(100)), Ok(()));
@@ -117,8 +117,8 @@ fn done_leaves_no_live_call_and_any_accepted_image_goes() {
     ] {
         let mut run = ended(&text, words, end);
         assert_eq!(change(&image(&text), &IDENTITY, &run.state), Ok(()));
-        let refused = change(&image(&text), &IDENTITY[..17], &run.state);
-        let (number, offset) = (2, 11);
+        let refused = change(&image(&text), &IDENTITY[..22], &run.state);
+        let (number, offset) = (2, 16);
         assert_eq!(refused, Err(Refusal { number, offset }));
         // The end is given again under the new image.
         run.program = Program::accept(&IDENTITY).expect("an accepted image");

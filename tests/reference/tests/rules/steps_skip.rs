@@ -1,6 +1,6 @@
 //! "Steps": SKIP.
 
-use crate::support::{end_of, Run, UNTOUCHED};
+use crate::support::{end_of, Run, PORTAL, UNTOUCHED};
 use cases::image;
 use reference::{Answer, End, Integer, Program, Said, State, Value};
 
@@ -130,7 +130,7 @@ fn refused_run(n: u8, moves: usize, argument: Integer) -> (Program, State) {
     let moves = "r0 = move r0\n".repeat(moves);
     let text = format!("version 0.0(r0: int) -> int\nblock 0 quiet -> r0\nskip {n} unless r0\n");
     let program = Program::ordered(&image(&(text + &moves))).expect("records in order");
-    let state = State::begin(&program, 0, 0, &[-1, argument], &UNTOUCHED);
+    let state = State::begin(&program, PORTAL, 0, 0, &[-1, argument], &UNTOUCHED);
     (program, state.expect("a run begins"))
 }
 

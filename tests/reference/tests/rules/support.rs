@@ -5,6 +5,9 @@ use reference::bounds::{Steps, BUFFER};
 use reference::monitor::{check_state, check_step};
 use reference::{verdict, Answer, End, Integer, Program, Refusal, Said, State, Value, Verdict};
 
+/// The level of the tenants' portal.
+pub const PORTAL: usize = 0;
+
 /// A buffer whose places show what was not written.
 pub const UNTOUCHED: [Integer; BUFFER] = [-99; BUFFER];
 
@@ -44,7 +47,7 @@ impl Run {
     #[track_caller]
     pub fn begin(text: &str, words: &[Integer]) -> Run {
         let program = Program::accept(&image(text)).expect("an accepted image");
-        let state = State::begin(&program, 0, 0, words, &UNTOUCHED).expect("a run begins");
+        let state = State::begin(&program, PORTAL, 0, 0, words, &UNTOUCHED).expect("a run begins");
         check_state(&program, &state).expect("demand 3 holds at the start");
         Run { program, state }
     }

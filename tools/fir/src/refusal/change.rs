@@ -5,6 +5,9 @@ use crate::place::place;
 use crate::source::Source;
 use library::State;
 use reference::change::{parts, Part};
+use reference::record::HEAD;
+use reference::Level;
+use text::level_text;
 
 /// Question 15: what is wrong at an offset of the new image, or behind its end.
 pub fn change(old: &Source, new: &Source, offset: usize, state: &State) -> Option<String> {
@@ -29,10 +32,23 @@ fn difference(old: &Source, new: &Source, had: &Part, has: &Part) -> Option<Stri
     let (at, (was, is)) = bytes.find(|(_, (was, is))| was != is)?;
     let (there, here) = (place(old, had.offset + at), place(new, has.offset + at));
     let name = name(has.numbers);
+    if at == level_byte(had) {
+        let (is, was) = (level_text(Level(*is)), level_text(Level(*was)));
+        return Some(format!(
+            "{name} has a live call and differs: its level, byte {here}, is {is}, \
+             and was {was} at {there} of the old image"
+        ));
+    }
     Some(format!(
         "{name} has a live call and differs: byte {here} is {is}, \
          and was {was} at {there} of the old image"
     ))
+}
+
+/// Where a version's bytes hold its level: in the record behind the VERSION.
+fn level_byte(part: &Part) -> usize {
+    let version = u16::from_le_bytes([part.bytes[0], part.bytes[1]]);
+    usize::from(version) + HEAD
 }
 
 /// The oldest live call whose version is missing.

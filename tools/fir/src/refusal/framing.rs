@@ -102,6 +102,7 @@ fn needed(kind: u16, body: &[u8]) -> Length {
         kinds::NARROW_LIT => Length::Whole(HEAD + 5),
         kinds::LIT => Length::Whole(HEAD + 9),
         kinds::ARITH | kinds::SELECT => Length::Whole(HEAD + 4),
+        kinds::LEVEL => Length::Whole(HEAD + 1),
         kinds::BLOCK | kinds::GET | kinds::SET | kinds::PEEK | kinds::POKE => {
             Length::Whole(HEAD + 3)
         }

@@ -11,16 +11,17 @@ mod existence;
 mod fit;
 mod flow;
 mod framing;
+mod levels;
 mod moves;
 mod order;
 mod skips;
 mod types;
 mod vocabulary;
 
-use crate::arguments::Argument;
+use crate::command::Call;
 use crate::place::{place, version_name};
 use crate::source::Source;
-use library::{Entry, Refusal, State};
+use library::{Refusal, State};
 use reference::program::{Block, Program, Version};
 use reference::record::Placed;
 use reference::{Form, Instruction};
@@ -42,10 +43,12 @@ pub fn of_move(form: Form, source: &Source, no: Refusal) -> String {
 }
 
 /// The line for a run that is refused.
-pub fn of_run(source: &Source, no: Refusal, entry: Entry, given: &[Argument]) -> String {
+pub fn of_run(source: &Source, no: Refusal, call: &Call) -> String {
+    let (image, entry) = (&source.image, call.entry);
     let words = match no.question {
-        11 => arguments::entry(&source.image, entry),
-        12 => arguments::arguments(&source.image, entry, given),
+        11 => arguments::entry(image, entry),
+        19 => levels::entry(image, entry, call.level),
+        12 => arguments::arguments(image, entry, &call.arguments),
         _ => diagnosis(Form::Wide, source, no),
     };
     with_words(source, no, words)
@@ -63,7 +66,7 @@ pub fn of_change(old: &Source, new: &Source, no: Refusal, state: &State) -> Stri
 /// The line with the words that were found, or with the question's own.
 fn with_words(source: &Source, no: Refusal, words: Option<String>) -> String {
     let place = match no.question {
-        2..=10 | 14..=16 => place(source, no.offset),
+        2..=10 | 14..=16 | 18 => place(source, no.offset),
         _ => no.offset.to_string(),
     };
     let words = words.unwrap_or_else(|| rule(no.question).to_string());
@@ -79,7 +82,7 @@ fn diagnosis(form: Form, source: &Source, no: Refusal) -> Option<String> {
         3 => framing::fields(form, image, offset),
         4 => order::bounds(form, image, offset),
         5 => order::numbering(form, image, offset),
-        6..=10 | 14 => {
+        6..=10 | 14 | 18 => {
             let program = Program::ordered_in(form, image).ok()?;
             let found = Found::at(&program, offset)?;
             match no.question {
@@ -87,6 +90,7 @@ fn diagnosis(form: Form, source: &Source, no: Refusal) -> Option<String> {
                 7 => existence::existence(source, &found),
                 14 => skips::skips(source, &found, offset),
                 8 => fit::fit(&found),
+                18 => levels::call(&found),
                 9 => effect::effect(source, &found),
                 _ => flow::flow(source, &found),
             }
@@ -149,15 +153,17 @@ fn rule(question: u8) -> &'static str {
         1 => "an image has 1 to 32,768 bytes",
         2 => "a record has a full head and a length of at least 4, and ends inside the image",
         3 => "a record's kind is known, and its length is the one that its fields make",
-        4 => "numbers, counts, marks, op and n are in bounds, and records in order",
+        4 => "numbers, counts, marks, levels, op and n are in bounds, and records in order",
         5 => "the first version is 0.0, and each next one follows on it",
         6 => "a type byte is allowed at its place",
         7 => "what is named exists, and every block but 0 is named by exactly one PROM",
         14 => "no SKIP goes past the end of its block, or of a part that it stands in",
         8 => "types fit",
+        18 => "no CALL names a version of a higher level",
         9 => "a block's mark covers its effect",
         10 => "no register is read before it is assigned, used while it is empty, or emptied after it is captured",
         11 => "the version that a run enters exists",
+        19 => "the version that a run enters is of the run's level or lower",
         12 => "each argument matches its parameter, and there are as many",
         13 => "the result buffer has at least 16 places",
         15 => "every version with a live call has the same bytes and number in both images",
@@ -170,6 +176,7 @@ fn rule(question: u8) -> &'static str {
 #[cfg(test)]
 mod tests {
     use super::*;
+    use library::{Entry, FACTORY};
 
     /// The line for a refusal of some image.
     fn said(image: &[u8], question: u8, offset: usize) -> String {
@@ -179,10 +186,10 @@ mod tests {
 
     #[test]
     fn a_refusal_that_no_diagnosis_explains_gets_the_rule() {
-        let text = "version 0.0(r0: int) -> int\nblock 0 quiet -> r0";
+        let text = "version 0.0(r0: int) -> int\nlevel portal\nblock 0 quiet -> r0";
         let image = text::assemble(text).expect("a text that is well formed");
-        for question in 1..=17 {
-            for offset in [0, 11, 18, 400_000] {
+        for question in 1..=19 {
+            for offset in [0, 11, 16, 23, 400_000] {
                 let expected = format!("refused by {question} at {offset}: {}", rule(question));
                 assert_eq!(said(&image, question, offset), expected);
             }
@@ -192,16 +199,23 @@ mod tests {
     #[test]
     fn a_short_buffer_is_refused_in_words() {
         let source = Source::bytes(Vec::new());
-        let entry = Entry {
-            function: 0,
-            version: 0,
+        let call = Call {
+            file: "-".into(),
+            level: FACTORY,
+            entry: Entry {
+                function: 0,
+                version: 0,
+            },
+            arguments: Vec::new(),
+            budget: 0,
+            then: Vec::new(),
         };
         let no = Refusal {
             question: 13,
             offset: 0,
         };
         assert_eq!(
-            of_run(&source, no, entry, &[]),
+            of_run(&source, no, &call),
             "refused by 13 at 0: the result buffer has at least 16 places"
         );
     }

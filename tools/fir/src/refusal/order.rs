@@ -8,7 +8,7 @@ use reference::bounds::{
 use reference::kinds::OPERATIONS;
 use reference::questions::records_in;
 use reference::record::{BlockRecord, Record, VersionRecord};
-use reference::{Form, Instruction, Mark};
+use reference::{Form, Instruction, Level, Mark};
 
 /// Question 4: what is out of bounds or out of order at an offset.
 pub fn bounds(form: Form, image: &[u8], offset: usize) -> Option<String> {
@@ -35,6 +35,8 @@ struct Due {
     versions: usize,
     /// The last version's numbers.
     version: (u8, u8),
+    /// Is its level still due?
+    level: bool,
     /// The blocks still due in it, and those met.
     blocks: usize,
     met: usize,
@@ -49,9 +51,11 @@ impl Due {
             Record::Version(head) => {
                 self.versions += 1;
                 self.version = (head.function, head.version);
+                self.level = true;
                 self.blocks = head.blocks.into();
                 self.met = 0;
             }
+            Record::Level(_) => self.level = false,
             Record::Block(head) => {
                 self.blocks = self.blocks.saturating_sub(1);
                 self.met += 1;
@@ -65,7 +69,11 @@ impl Due {
     fn missing(&self) -> Option<String> {
         let (function, version) = self.version;
         let verb = |count| if count == 1 { "is" } else { "are" };
-        if self.instructions > 0 {
+        if self.level {
+            Some(format!(
+                "the LEVEL of {function}.{version}, a line such as `level portal`, is"
+            ))
+        } else if self.instructions > 0 {
             let instructions = many(self.instructions, "more instruction");
             let block = self.met.saturating_sub(1);
             let verb = verb(self.instructions);
@@ -85,11 +93,14 @@ impl Due {
     fn misplaced(&self, record: &Record) -> Option<String> {
         let (name, in_order) = match record {
             Record::Version(_) => ("VERSION".to_string(), self.missing().is_none()),
+            Record::Level(_) => ("LEVEL".to_string(), self.level),
             Record::Block(_) => {
-                let in_order = self.instructions == 0 && self.blocks > 0;
+                let in_order = !self.level && self.instructions == 0 && self.blocks > 0;
                 ("BLOCK".to_string(), in_order)
             }
-            Record::Instruction(item) => (instruction_name(item), self.instructions > 0),
+            Record::Instruction(item) => {
+                (instruction_name(item), !self.level && self.instructions > 0)
+            }
         };
         let due = match self.missing() {
             Some(missing) => format!("{missing} due"),
@@ -106,6 +117,7 @@ impl Due {
                 self.versions
             )),
             Record::Version(head) => version_out_of_bounds(head),
+            Record::Level(level) => level_out_of_bounds(*level),
             Record::Block(head) => block_out_of_bounds(head),
             Record::Instruction(item) => instruction_out_of_bounds(item),
         }
@@ -135,6 +147,16 @@ fn version_out_of_bounds(head: &VersionRecord) -> Option<String> {
         return None;
     };
     Some(format!("VERSION {function}.{version} {what}"))
+}
+
+/// What is out of bounds in a LEVEL.
+fn level_out_of_bounds(level: Level) -> Option<String> {
+    (!level.known()).then(|| {
+        format!(
+            "LEVEL has the level {}, and levels are 0 portal, 1 staff and 2 factory",
+            level.0
+        )
+    })
 }
 
 /// What is out of bounds in a BLOCK.

@@ -7,6 +7,7 @@ pub fn kind_name(kind: u16) -> Option<&'static str> {
     Some(match kind {
         kinds::VERSION => "VERSION",
         kinds::BLOCK => "BLOCK",
+        kinds::LEVEL => "LEVEL",
         kinds::MOVE => "MOVE",
         kinds::USE => "USE",
         kinds::DUP => "DUP",

@@ -8,6 +8,8 @@ use reference::Instruction;
 
 /// The instruction or the block end that the next step executes.
 pub struct Spot<'p> {
+    /// The program that the run goes by.
+    pub program: &'p Program,
     /// The version of the call that the newest activation works on.
     pub version: &'p Version,
     /// The newest activation.
@@ -24,6 +26,7 @@ impl<'p> Spot<'p> {
         let version = program.version(function.into(), version.into())?;
         let block = version.blocks.get(activation.block)?;
         Some(Spot {
+            program,
             version,
             activation,
             block,
