@@ -4,3 +4,4 @@ pub mod Lent
 pub mod Looking
 pub mod Seen
 pub mod Starting
+pub mod Texts

@@ -5,8 +5,6 @@ use Prim.Native.Nat.{ℕ, _+_, _*_}
 use lib.Dec.{eqb}
 use lib.IntN.{pos}
 use Rattle.layout.specs.declared.Form.{Form}
-use Rattle.checker.specs.Reports.{reportedOf}
-use Rattle.checker.specs.declared.Reported.{Reported}
 use Rattle.checker.specs.declared.Verdict.{Verdict}
 use Rattle.machine.specs.declared.Answer.{Answer}
 use Rattle.machine.specs.declared.Changed.{Changed}
@@ -15,11 +13,14 @@ use Rattle.machine.specs.declared.Said.{Said}
 use Rattle.machine.specs.declared.Search.{Search}
 use Rattle.moves.specs.declared.Moving.{Moving}
 use Rattle.snapshots.specs.Held.{endingOf}
+use Rattle.whereabouts.specs.declared.Where.{Where}
 use Rattle.abi.specs.declared.answers.FirAnswer.{FirAnswer}
 use Rattle.abi.specs.declared.answers.FirEntry.{FirEntry}
 use Rattle.abi.specs.declared.answers.FirSaid.{FirSaid}
 use Rattle.abi.specs.declared.answers.FirSearched.{FirSearched}
 use Rattle.abi.specs.declared.answers.FirVerdict.{FirVerdict}
+use Rattle.abi.specs.declared.answers.FirVersion.{FirVersion}
+use Rattle.abi.specs.declared.answers.FirWhere.{FirWhere}
 
 -- the number of versions, or the offset and the number of a refusal
 unfoldable pub verdictNumbers : Verdict → FirVerdict
@@ -35,15 +36,6 @@ movedNumbers (Moving.Refused q p) = record { detail = p; question = q }
 unfoldable pub formOf : ℕ → Form
 formOf n = cond (eqb n 1) Form.Narrow Form.Wide
 
--- the length of a text that was written; 0 where the buffer was too short
-unfoldable pub lengthIn : Reported → ℕ
-lengthIn (Reported.Written n) = n
-lengthIn Reported.Short = 0
-
--- the length of the text t where it is written to so many places; 0 where it does not fit
-abbrev pub writtenOf : List ℕ → ℕ → ℕ
-writtenOf t places = lengthIn (reportedOf t places)
-
 -- a refusal's offset and number
 unfoldable pub entryNumbers : Entry → FirEntry
 entryNumbers Entry.Begun = record { offset = 0; question = 0 }
@@ -58,6 +50,16 @@ changedNumbers (Changed.Refused q p) = record { offset = p; question = q }
 unfoldable pub searchNumbers : Search → FirSearched
 searchNumbers Search.Elsewhere = record { dispatch = 0; looked = 0; versions = 0 }
 searchNumbers (Search.Looked looked versions) = record { dispatch = 1; looked = looked; versions = versions }
+
+-- where a state stands: 0 nowhere, 1 at an instruction, 2 at a block end; all else 0 where it stands nowhere
+unfoldable pub whereNumbers : Where → FirWhere
+whereNumbers Where.Nowhere = record { offset = 0; kind = 0; function = 0; version = 0; block = 0; instruction = 0 }
+whereNumbers (Where.Instruction f v b n p) = record { offset = p; kind = 1; function = f; version = v; block = b; instruction = n }
+whereNumbers (Where.BlockEnd f v b n p) = record { offset = p; kind = 2; function = f; version = v; block = b; instruction = n }
+
+-- the number of the interface, and that of the layout of a stored state; each goes up where a program that was made for it could not go on
+unfoldable pub versionNumbers : FirVersion
+versionNumbers = record { interface = 1; state = 1 }
 
 -- a single step: 0 goes on, 1 to 6 an end, 7 stuck
 unfoldable pub saidNumbers : Said → FirSaid

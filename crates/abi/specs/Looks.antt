@@ -14,10 +14,13 @@ use Rattle.machine.specs.declared.Frame.{Frame}
 use Rattle.machine.specs.declared.State.{State}
 use Rattle.machine.specs.declared.Value.{Value}
 use Rattle.memory.specs.Memory.{Memory, cellIn, stateOf}
+use Rattle.memory.specs.Parts.{withOpen}
 use Rattle.searches.specs.Observing.{withThese}
-use Rattle.abi.specs.Answers.{searchNumbers}
+use Rattle.whereabouts.specs.Where.{whereOf}
+use Rattle.abi.specs.Answers.{searchNumbers, whereNumbers}
 use Rattle.abi.specs.declared.answers.FirSearched.{FirSearched}
 use Rattle.abi.specs.declared.answers.FirValue.{FirValue}
+use Rattle.abi.specs.declared.answers.FirWhere.{FirWhere}
 
 -- a value as numbers: vectors and promises by their places
 unfoldable pub valueNumbers : Value → FirValue
@@ -53,3 +56,7 @@ lookIn codes numbers calls k i = cond (ltb k ACTIVATIONS) (cond (ltb k calls) (c
 -- what a state of these arrays looks at, as numbers, whatever else its memory holds
 unfoldable pub Searches : List ℕ → FirSearched → List ℕ → List ℕ → List ℕ → List ℕ → ℕ → ℕ → Type 0
 Searches s r owners codes stack promises calls depth = (M : Memory) → r ≡ searchNumbers (searchOf (programOf s) (stateOf (withThese M owners codes stack promises calls depth)))
+
+-- where a state of these arrays stands, as numbers, whatever else its memory holds
+unfoldable pub Stands : List ℕ → FirWhere → List ℕ → List ℕ → ℕ → ℕ → Type 0
+Stands s r owners stack calls depth = (M : Memory) → r ≡ whereNumbers (whereOf (programOf s) (stateOf (withOpen M owners calls stack depth)))

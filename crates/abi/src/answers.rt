@@ -1,6 +1,6 @@
 //! Answers as numbers, in the layout of C.
 ghost use mathlib.Core.Path.{_≡_};
-ghost use Rattle.abi.specs.Answers.{answerNumbers, changedNumbers, entryNumbers, formOf, movedNumbers, plainNumbers, saidNumbers, searchNumbers, verdictNumbers};
+ghost use Rattle.abi.specs.Answers.{answerNumbers, changedNumbers, entryNumbers, formOf, movedNumbers, plainNumbers, saidNumbers, searchNumbers, verdictNumbers, versionNumbers, whereNumbers};
 ghost use Rattle.abi.specs.Looks.{noPlace, valueNumbers};
 ghost use Rattle.engine.specs.Parts.{saidOf};
 use checker::Verdict;
@@ -11,6 +11,7 @@ use machine::Entry;
 use machine::Search;
 use machine::Value;
 use moves::Moving;
+use whereabouts::Where;
 
 /// A verdict: 0 and the number of versions, or the question that refuses and the offset.
 #[repr(C)]
@@ -59,6 +60,24 @@ pub struct FirSearched {
     pub dispatch: u8,
     pub looked: u8,
     pub versions: u8,
+}
+
+/// Where a state stands.
+#[repr(C)]
+pub struct FirWhere {
+    pub offset: usize,
+    pub kind: u8,
+    pub function: u8,
+    pub version: u8,
+    pub block: u8,
+    pub instruction: u8,
+}
+
+/// The number of the interface, and that of the layout of a stored state.
+#[repr(C)]
+pub struct FirVersion {
+    pub interface: u32,
+    pub state: u32,
 }
 
 /// The numbers of a verdict.
@@ -264,5 +283,47 @@ pub fn searched(search: Search) -> FirSearched
             looked: looked,
             versions: versions,
         },
+    }
+}
+
+/// The numbers of a place in an image.
+pub fn place(place: Where) -> FirWhere
+    ensures { λ r. ⌜ r ≡ whereNumbers place ⌝ }
+{
+    match place {
+        Where::Nowhere => FirWhere {
+            offset: 0,
+            kind: 0,
+            function: 0,
+            version: 0,
+            block: 0,
+            instruction: 0,
+        },
+        Where::Instruction(f, v, b, n, p) => FirWhere {
+            offset: p,
+            kind: 1,
+            function: f,
+            version: v,
+            block: b,
+            instruction: n,
+        },
+        Where::BlockEnd(f, v, b, n, p) => FirWhere {
+            offset: p,
+            kind: 2,
+            function: f,
+            version: v,
+            block: b,
+            instruction: n,
+        },
+    }
+}
+
+/// The numbers in force.
+pub fn version() -> FirVersion
+    ensures { λ r. ⌜ r ≡ versionNumbers ⌝ }
+{
+    FirVersion {
+        interface: 1,
+        state: 1,
     }
 }

@@ -11,7 +11,9 @@ ghost use Rattle.machine.specs.Runs.{budgetOf, stepOf};
 ghost use Rattle.machine.specs.Searches.{searchOf};
 ghost use Rattle.moves.specs.Moves.{bufferAfter, moveOf};
 ghost use Rattle.snapshots.specs.Held.{held};
-ghost use Rattle.abi.specs.Answers.{changedNumbers, entryNumbers, formOf, movedNumbers, saidNumbers, searchNumbers, stateAlignment, stateSize, verdictNumbers, writtenOf};
+ghost use Rattle.whereabouts.specs.Where.{whereOf};
+ghost use Rattle.words.specs.Words.{questionText, writtenOf};
+ghost use Rattle.abi.specs.Answers.{changedNumbers, entryNumbers, formOf, movedNumbers, saidNumbers, searchNumbers, stateAlignment, stateSize, verdictNumbers, versionNumbers, whereNumbers};
 ghost use Rattle.abi.specs.Exits.{Answers, Began};
 ghost use Rattle.abi.specs.Looks.{lookOf};
 use answers::FirAnswer;
@@ -20,6 +22,8 @@ use answers::FirSaid;
 use answers::FirSearched;
 use answers::FirValue;
 use answers::FirVerdict;
+use answers::FirVersion;
+use answers::FirWhere;
 use checker::Reported;
 use checker::questions;
 use checker::report;
@@ -28,6 +32,23 @@ use snapshots::Snapshot;
 pub mod answers;
 pub mod entry;
 pub mod parts;
+
+/// The number of the interface, and that of the layout of a stored state.
+#[no_mangle]
+pub extern "C" fn fir_version() -> FirVersion
+    ensures { λ r. ⌜ r ≡ versionNumbers ⌝ }
+{
+    answers::version()
+}
+
+/// Writes what a refusal by a question says from the place 0 on, and gives its length; a buffer that is too short is left as it
+/// was, and the answer is 0. So it is for a number that is no question's.
+#[no_mangle]
+pub extern "C" fn fir_question_text(question: u8, text: &mut [u8]) -> usize
+    ensures { λ r. ⌜ (r ≡ writtenOf (questionText question) (length (now (text .entry)))) × (now (text .exit) ≡ placed (now (text .entry)) 0 (questionText question)) ⌝ }
+{
+    words::question_text(question, text)
+}
 
 /// The size of a state in bytes.
 #[no_mangle]
@@ -263,6 +284,20 @@ pub extern "C" fn fir_search(image: &[u8], state: &Snapshot) -> FirSearched
         &state.codes,
         &state.stack,
         &state.promises,
+        &state.calls,
+        &state.depth,
+    )
+}
+
+/// Where the state stands in its image, ended or not: at an instruction, at a block end, or nowhere.
+#[no_mangle]
+pub extern "C" fn fir_where(image: &[u8], state: &Snapshot) -> FirWhere
+    ensures { λ r. ⌜ r ≡ whereNumbers (whereOf (programOf (now (image .entry))) (held (now (state .entry)))) ⌝ }
+{
+    parts::stand(
+        image,
+        &state.owners,
+        &state.stack,
         &state.calls,
         &state.depth,
     )

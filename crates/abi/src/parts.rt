@@ -14,13 +14,14 @@ ghost use Rattle.snapshots.specs.Held.{held, snapshotOf, statusOf};
 ghost use Rattle.stepping.specs.Going.{Placed, ranOf};
 ghost use Rattle.abi.specs.Answers.{changedNumbers, saidNumbers};
 ghost use Rattle.abi.specs.Exits.{Answers, Comes};
-ghost use Rattle.abi.specs.Looks.{Searches, lookIn};
+ghost use Rattle.abi.specs.Looks.{Searches, Stands, lookIn};
 use crate::answers;
 use crate::answers::FirAnswer;
 use crate::answers::FirEntry;
 use crate::answers::FirSaid;
 use crate::answers::FirSearched;
 use crate::answers::FirValue;
+use crate::answers::FirWhere;
 use flat::frames;
 use flat::heap;
 use instructions::Turn;
@@ -341,4 +342,19 @@ pub fn search<'s>(
     let live = *calls;
     let deep = *depth;
     answers::searched(searches::search(image, owners, codes, stack, promises, live, deep))
+}
+
+/// Where the state stands.
+pub fn stand<'s>(
+    image: &[u8],
+    owners: &'s [u8; 64],
+    stack: &'s [u8; 192],
+    calls: &'s u8,
+    depth: &'s u8,
+) -> FirWhere
+    ensures { λ r. ⌜ Stands (now (image .entry)) r (now (owners .entry)) (now (stack .entry)) (now (calls .entry)) (now (depth .entry)) ⌝ }
+{
+    let live = *calls;
+    let deep = *depth;
+    answers::place(whereabouts::stand(image, owners, stack, live, deep))
 }

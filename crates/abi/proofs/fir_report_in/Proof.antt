@@ -1,6 +1,6 @@
 -- `abi::fir_report_in`: by what is said of the text.
 use mathlib.Core.Path.{sym, ap, _∙_}
-use Rattle.abi.specs.Answers.{lengthIn}
+use Rattle.abi.proofs.Texts.{lengthIn, written-is}
 use borrow.Author.Needs.{needs}
 use Rattle.abi.proofs.fir_report_in.Statement.{statement}
 use Rattle.abi.proofs.fir_report_in.Tie as tie
@@ -23,7 +23,7 @@ same-length c = search needs
 returns : tie.Need-returns
 unfolding lengthIn
 returns c =
-    rw (sym ((c .before .before .before .before .before .before .before .form) .ensures)) (ap lengthIn (sym ((c .before .n) .given .1) ∙ (c .before .before .before .before .before .report-in) .ensures .says), (c .before .before .before .before .before .report-in) .ensures .writes)
+    rw (sym ((c .before .before .before .before .before .before .before .form) .ensures)) (ap lengthIn (sym ((c .before .n) .given .1) ∙ (c .before .before .before .before .before .report-in) .ensures .says) ∙ written-is _ _, (c .before .before .before .before .before .report-in) .ensures .writes)
 
 same-length-2 : tie.Need-same-length-2
 same-length-2 c = search needs
@@ -31,7 +31,7 @@ same-length-2 c = search needs
 returns-2 : tie.Need-returns-2
 unfolding lengthIn
 returns-2 c =
-    rw (sym ((c .before .before .before .before .before .before .form) .ensures)) (ap lengthIn (sym ((c .enum-told) .given .1) ∙ (c .before .before .before .before .report-in) .ensures .says), (c .before .before .before .before .report-in) .ensures .writes)
+    rw (sym ((c .before .before .before .before .before .before .form) .ensures)) (ap lengthIn (sym ((c .enum-told) .given .1) ∙ (c .before .before .before .before .report-in) .ensures .says) ∙ written-is _ _, (c .before .before .before .before .report-in) .ensures .writes)
 
 pub fir-report-in-spec : {M : Type 1} → statement M
 fir-report-in-spec =
