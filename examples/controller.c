@@ -48,17 +48,22 @@ static const uint8_t built_in[] = {
 };
 
 static uint8_t loaded[FIR_IMAGE_BYTES + 1]; /* one byte more, so that a longer file is refused and not cut */
-static uint8_t text[4096];
+static uint8_t text[FIR_REPORT_BYTES];
 static fir_state state;
 
-/* What is checked of an image, by the number of the question. */
-static const char *const questions[] = {"accepted", "size",      "records", "kinds", "bounds", "numbering", "type bytes",
-                                        "existence", "types", "effects", "flow",  "entry",  "arguments", "buffer",
-                                        "skips",     "change", "literal", "room", "calls", "level"};
-
-static int refused(const char *what, unsigned question, size_t offset)
+static int refused(const char *what, uint8_t question, size_t offset)
 {
-    printf("%s refused: %s, at %lu\n", what, questions[question], (unsigned long)offset);
+    uint8_t words[FIR_QUESTION_TEXT_BYTES];
+    size_t length = fir_question_text(question, words, sizeof words);
+    printf("%s refused by %u at %lu: %.*s\n", what, question, (unsigned long)offset, (int)length, (const char *)words);
+    return 1;
+}
+
+/* What stopped the run, and the record of the image that it stands at. */
+static int stopped(const uint8_t *image, size_t length, const char *what)
+{
+    fir_position at = fir_where(image, length, &state);
+    printf("%s, in %u.%u at %lu\n", what, at.function, at.version, (unsigned long)at.offset);
     return 1;
 }
 
@@ -103,17 +108,13 @@ static int control(const uint8_t *image, size_t length)
             printf("no positions, but the integer %lld\n", (long long)answer.value);
             return 1;
         case FIR_UNDEF:
-            printf("undefined\n");
-            return 1;
+            return stopped(image, length, "undefined");
         case FIR_DEEP:
-            printf("too many calls at once\n");
-            return 1;
+            return stopped(image, length, "too many calls at once");
         case FIR_VECTORS:
-            printf("too many vectors\n");
-            return 1;
+            return stopped(image, length, "too many vectors");
         case FIR_PROMISES:
-            printf("too many promises\n");
-            return 1;
+            return stopped(image, length, "too many promises");
         case FIR_STUCK:
             printf("the state is none of a run of this image\n");
             return 1;
@@ -133,6 +134,11 @@ int main(int count, char **arguments)
     const uint8_t *image = built_in;
     size_t length = sizeof built_in;
     fir_verdict verdict;
+    fir_versions built = fir_version();
+    if (built.interface_number != FIR_INTERFACE || built.state_layout != FIR_STATE_LAYOUT) {
+        printf("the library is not the one of the header\n");
+        return 2;
+    }
     if (count > 1) {
         FILE *file = fopen(arguments[1], "rb");
         if (file == NULL) {

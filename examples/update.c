@@ -61,8 +61,9 @@ static const uint8_t later[] = {
     6, 0, 17, 0, 0, 2,                            /* MOVE r0 = r2 */
 };
 
-/* What the controller works with: the state of its run, and the image in force. */
+/* What the controller works with: the number of the layout of states, the state of its run, and the image in force. */
 static struct {
+    uint32_t layout;
     fir_state state;
     size_t length;
     uint8_t image[FIR_IMAGE_BYTES];
@@ -74,6 +75,7 @@ static FILE *stored;
 
 static int store(void)
 {
+    memory.layout = FIR_STATE_LAYOUT;
     rewind(stored);
     return fwrite(&memory, sizeof memory, 1, stored) == 1 && fflush(stored) == 0;
 }
@@ -81,7 +83,7 @@ static int store(void)
 static int load(void)
 {
     rewind(stored);
-    return fread(&memory, sizeof memory, 1, stored) == 1;
+    return fread(&memory, sizeof memory, 1, stored) == 1 && memory.layout == FIR_STATE_LAYOUT;
 }
 
 static void lose_power(void)

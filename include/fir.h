@@ -9,12 +9,20 @@
  *     point to anything, but it is not NULL.
  *   - A pointer to a fir_state points to one, aligned as fir_state_alignment says. Its content may be anything.
  *   - What a call writes (a state, a text, a result buffer, a moved image) overlaps nothing else that the call is lent.
- *   - Nobody else reads or writes what is lent until the call returns.
- *   - A step, a budget, fir_search and, as its old image, fir_change are lent the image in force: the one that the run was
- *     begun with, or the last one that fir_change accepted for it. The caller keeps it, byte for byte, until another is
- *     accepted or the run is given up.
+ *   - Until the call returns, nobody else writes what is lent, and nobody else reads what the call writes.
+ *   - A step, a budget, fir_search, fir_where and, as its old image, fir_change are lent the image in force: the one that the
+ *     run was begun with, or the last one that fir_change accepted for it. The caller keeps it, byte for byte, until another
+ *     is accepted or the run is given up.
  * Nothing of this can be tested by the library. All else is: every image, entry, argument list, budget, buffer and state
  * gets an answer that is listed here, and nothing outside the lent memory is read or written.
+ *
+ * Threads: every function may be called from several threads at once, each with its own states, texts and buffers. What calls
+ * only read they may share: an image, and a state behind a pointer to const.
+ *
+ * Linking: the archive is for x86-64 and its calling convention of System V. It needs two functions of the C library, memcpy
+ * and memset, and nothing else.
+ *
+ * The examples below are compiled and run by the tests, as they stand, behind <stdio.h> and this header.
  */
 #ifndef FIR_H
 #define FIR_H
@@ -25,6 +33,31 @@
 #ifdef __cplusplus
 extern "C" {
 #endif
+
+/* ---- Which library this is ---- */
+
+/* The number of the interface: it is another one where a host that was compiled with the header before would go wrong. */
+#define FIR_INTERFACE 1
+
+/* The number of the layout of a stored state: it is another one where bytes that were stored before mean something else. */
+#define FIR_STATE_LAYOUT 1
+
+typedef struct fir_versions {
+    uint32_t interface_number; /* FIR_INTERFACE */
+    uint32_t state_layout;     /* FIR_STATE_LAYOUT */
+} fir_versions;
+
+/* The numbers that the library was built with. A host compares them, once, with those of the header it was compiled with.
+ *
+ * Example:
+ *
+ *     static int library_is_the_headers(void)
+ *     {
+ *         fir_versions built = fir_version();
+ *         return built.interface_number == FIR_INTERFACE && built.state_layout == FIR_STATE_LAYOUT;
+ *     }
+ */
+fir_versions fir_version(void);
 
 /* ---- Integers ---- */
 
@@ -100,6 +133,25 @@ extern "C" {
 #define FIR_REFUSED_LITERAL 16   /* every literal of an image that is moved fits 32 bits */
 #define FIR_REFUSED_ROOM 17      /* the moved image has at most 32,768 bytes and fits the buffer */
 
+#define FIR_QUESTION_TEXT_BYTES 128 /* room for the words of every question */
+
+/* Writes in words what a refusal by a question says, without a 0 behind it, and gives the length; for FIR_ACCEPTED the word
+ * is `accepted`. A buffer that is too short is left as it was, and the answer is 0; so it is for a number that is no
+ * question's. The words are for people and may change; a program goes by the numbers.
+ *
+ * Example:
+ *
+ *     static void say_refusal(FILE *to, uint8_t question, size_t offset)
+ *     {
+ *         uint8_t text[FIR_QUESTION_TEXT_BYTES];
+ *         size_t length = fir_question_text(question, text, sizeof text);
+ *         fprintf(to, "refused by %u at %lu: ", (unsigned)question, (unsigned long)offset);
+ *         fwrite(text, 1, length, to);
+ *         fputc('\n', to);
+ *     }
+ */
+size_t fir_question_text(uint8_t question, uint8_t *text, size_t text_length);
+
 /* A verdict on an image: FIR_ACCEPTED and its number of versions, or the question that refuses it and the offset of the
  * first record that fails. Of a move: FIR_ACCEPTED and the length of the moved image, or the question and the offset. */
 typedef struct fir_verdict {
@@ -128,6 +180,10 @@ typedef struct fir_entry {
 #define FIR_STUCK 7     /* the state is none of a begun run that this image is in force for; what it stands for stays */
 #define FIR_REFUSED 8   /* refused by `question` at `offset`; state and buffer are as they were */
 
+/* A run that has ended gives its end again: each further step says the same code, value and length, and each further budget,
+ * of 0 steps too, answers them with 0 steps and writes the items of a vector to its buffer as before. The state stays. Only
+ * the length of the buffer is still asked (FIR_REFUSED_BUFFER). */
+
 /* What a single step says: FIR_STEPS to FIR_STUCK. */
 typedef struct fir_said {
     int64_t value;
@@ -148,13 +204,15 @@ typedef struct fir_answer {
 /* ---- The state of a run ---- */
 
 /* Numbers alone: it may be copied, stored and compared as bytes. Write it by the functions below only; its fields are here
- * so that it can be declared, and for tests to read. What lies above a count means nothing. The 4 bytes of padding before
- * `value` mean nothing either: no call writes them, so where states are compared as bytes, clear each once before its first
- * use, and copy them by memcpy.
+ * so that it can be declared and read. What lies above a count means nothing. The 4 bytes of padding before `value` mean
+ * nothing either: no call writes them, so where states are compared as bytes, clear each once before its first use, and
+ * copy them by memcpy.
  *
- * A stored state is these fir_state_size() bytes, kept anywhere and read back at any time, by another program too that was
- * built with this header. There are no bytes that cannot be loaded: all of them stand for some state. A state does not hold
- * its image: whoever stores it stores the image in force with it, or knows which one that was.
+ * A stored state is these fir_state_size() bytes, kept anywhere and read back at any time, by another program too whose
+ * library has the same FIR_STATE_LAYOUT. There are no bytes that cannot be loaded: all of them stand for some state. So damage
+ * is not noticed, and a damaged state may answer any code: whoever may lose bytes stores a checksum over state and image, and
+ * compares it. A state does not hold its image: whoever stores it stores the image in force with it, or knows which one
+ * that was.
  *
  * Where the image was exchanged without an accepted fir_change, every step and budget still gives an answer that is listed
  * here and keeps to the lent memory, but nothing that is promised of a begun run holds any more: a step may be stuck, and
@@ -188,6 +246,32 @@ typedef struct fir_state {
     int64_t value;  /* the integer that the run is DONE with */
 } fir_state;
 
+/* The bytes of a state, in the layout that FIR_STATE_LAYOUT 1 names: the fields stand in the order above, at the offsets
+ *
+ *       0 numbers     14848 result     16576 stack        17024 calls      17027 length
+ *    6144 items       14976 codes      16768 lengths      17025 depth      17028 padding of 4 bytes
+ *   14336 caches      16512 owners     16832 promises     17026 status     17032 value
+ *
+ * with each number's lowest byte first, and integers in two's complement. No field says the layout: whoever stores a state
+ * stores that number with it, and compares it before the state is read back.
+ *
+ * Example:
+ *
+ *     static int store_state(FILE *to, const fir_state *state)
+ *     {
+ *         const uint32_t layout = FIR_STATE_LAYOUT;
+ *         return fwrite(&layout, sizeof layout, 1, to) == 1 && fwrite(state, sizeof *state, 1, to) == 1;
+ *     }
+ *
+ *     static int load_state(FILE *from, fir_state *state)
+ *     {
+ *         uint32_t layout;
+ *         if (fread(&layout, sizeof layout, 1, from) != 1 || layout != FIR_STATE_LAYOUT)
+ *             return 0;
+ *         return fread(state, sizeof *state, 1, from) == 1;
+ *     }
+ */
+
 /* The size and the alignment of a state in bytes, as the library was built. */
 size_t fir_state_size(void);
 size_t fir_state_alignment(void);
@@ -197,8 +281,21 @@ size_t fir_state_alignment(void);
 /* Checks an image. */
 fir_verdict fir_check(const uint8_t *image, size_t image_length);
 
+/* Room for every report: 64 lines of at most 17 bytes (`31.3 16 16 16 16` would be one) and the 12 of `accepted 64`, each
+ * with its newline. A refusal takes at most 20, as `refused 18 at 32767` does. */
+#define FIR_REPORT_BYTES 1100
+
 /* Writes the text that `check` prints, without a 0 behind it, and gives its length. A buffer that is too short is left as
- * it was, and the answer is 0. */
+ * it was, and the answer is 0.
+ *
+ * Example:
+ *
+ *     static void print_report(FILE *to, const uint8_t *image, size_t image_length)
+ *     {
+ *         uint8_t text[FIR_REPORT_BYTES];
+ *         fwrite(text, 1, fir_report(image, image_length, text, sizeof text), to);
+ *     }
+ */
 size_t fir_report(const uint8_t *image, size_t image_length, uint8_t *text, size_t text_length);
 
 /* ---- Stored images: the form of 32 bits ---- */
@@ -219,26 +316,55 @@ size_t fir_report_in(const uint8_t *image, size_t image_length, uint8_t form, ui
  * It passes the questions of its form, with the same text; moved back it is the same image again, byte for byte.
  *
  * The image is first put to the questions of the form that it comes from, 1 to 10, 14 and 18. Then 16, at the first literal
- * that does not fit 32 bits, which only fir_narrow meets; then 17, at 0. A buffer of FIR_IMAGE_BYTES is always long enough for what
- * the bound lets through, and for fir_narrow one as long as the image. A refusal writes nothing; places of the buffer past the
- * moved image stay. */
+ * that does not fit 32 bits, which only fir_narrow meets; then 17, at 0. A buffer of FIR_IMAGE_BYTES is always long enough for
+ * what the bound lets through, and for fir_narrow one as long as the image. A refusal writes nothing; places of the buffer past
+ * the moved image stay. */
 fir_verdict fir_widen(const uint8_t *image, size_t image_length, uint8_t *out, size_t out_length);
 fir_verdict fir_narrow(const uint8_t *image, size_t image_length, uint8_t *out, size_t out_length);
 
 /* ---- Running ---- */
 
-/* Begins a run of a version of a function at a level and writes its state. Argument words are -1 and an integer, or 0 to 16
+/* Begins a run of a version of a function at a level and writes its state. The image is put to its questions first, so that no
+ * fir_check need come before it. Argument words are -1 and an integer, or 0 to 16
  * and that many integers, for each parameter; a head word counts with all of its 64 bits, as a level does. The buffer is
  * asked for its length only. Where the run is refused, the state is as it was. */
 fir_entry fir_begin(const uint8_t *image, size_t image_length, size_t level, size_t function, size_t version,
                     const int64_t *words, size_t words_length, const int64_t *buffer, size_t buffer_length,
                     fir_state *state);
 
-/* Takes a single step. */
+/* Takes a single step. It is lent no buffer: the items of a vector that the run is DONE with are written by a budget of 0.
+ *
+ * Example:
+ *
+ *     static fir_said step_to_the_end(const uint8_t *image, size_t image_length, fir_state *state, int64_t *items)
+ *     {
+ *         fir_said said;
+ *         do
+ *             said = fir_step(image, image_length, state);
+ *         while (said.code == FIR_STEPS);
+ *         if (said.code == FIR_VECTOR)
+ *             fir_budget(image, image_length, state, 0, items, FIR_ITEMS);
+ *         return said;
+ *     }
+ */
 fir_said fir_step(const uint8_t *image, size_t image_length, fir_state *state);
 
 /* Takes at most `budget` steps. A vector that the run is DONE with is written to the buffer from place 0 on; all else in
- * the buffer stays. */
+ * the buffer stays. Budgets add up: it makes no difference into how many a run is divided. It refuses by 13 alone: the image
+ * is not put to its questions again.
+ *
+ * Example:
+ *
+ *     static fir_answer run_by_slices(const uint8_t *image, size_t image_length, fir_state *state, int64_t *items)
+ *     {
+ *         const uint32_t slice = 1000;
+ *         fir_answer answer;
+ *         do
+ *             answer = fir_budget(image, image_length, state, slice, items, FIR_ITEMS);
+ *         while (answer.code == FIR_STEPS);
+ *         return answer;
+ *     }
+ */
 fir_answer fir_budget(const uint8_t *image, size_t image_length, fir_state *state, uint32_t budget, int64_t *buffer,
                       size_t buffer_length);
 
@@ -294,6 +420,43 @@ typedef struct fir_searched {
  * taken. Where the state is none of a run under this image, `dispatch` is 0 for a DISPATCH with an argument that is not
  * there. */
 fir_searched fir_search(const uint8_t *image, size_t image_length, const fir_state *state);
+
+#define FIR_NOWHERE 0        /* no call is live, or the state is none of a run under this image */
+#define FIR_AT_INSTRUCTION 1 /* at an instruction, `offset` its record's */
+#define FIR_AT_BLOCK_END 2   /* at the end of a block, `offset` that of its BLOCK record */
+
+/* Where a state stands in its image. With FIR_NOWHERE all else is 0. */
+typedef struct fir_position {
+    size_t offset;
+    uint8_t kind;
+    uint8_t function;    /* of the call that is worked on */
+    uint8_t version;
+    uint8_t block;
+    uint8_t instruction; /* its number in the block; at the end of the block how many the block has */
+} fir_position;
+
+/* Where the state stands, ended or not: at what its next step executes, and after UNDEF, DEEP, VECTORS or PROMISES at the
+ * instruction or block end that made it. A run that is DONE stands nowhere. While a block of an older call is forced, that
+ * call's version is named. Nothing is written and no step is taken.
+ *
+ * Example:
+ *
+ *     static void say_position(FILE *to, const uint8_t *image, size_t image_length, const fir_state *state)
+ *     {
+ *         fir_position at = fir_where(image, image_length, state);
+ *         if (at.kind == FIR_NOWHERE) {
+ *             fprintf(to, "nowhere\n");
+ *             return;
+ *         }
+ *         fprintf(to, "%u.%u, block %u, ", (unsigned)at.function, (unsigned)at.version, (unsigned)at.block);
+ *         if (at.kind == FIR_AT_INSTRUCTION)
+ *             fprintf(to, "instruction %u", (unsigned)at.instruction);
+ *         else
+ *             fprintf(to, "its end");
+ *         fprintf(to, ", at %lu\n", (unsigned long)at.offset);
+ *     }
+ */
+fir_position fir_where(const uint8_t *image, size_t image_length, const fir_state *state);
 
 #ifdef __cplusplus
 }

@@ -8,6 +8,7 @@
 #include "fir.h"
 
 static unsigned tests;
+static const uint8_t identity[] = {11, 0, 1, 0, 0, 0, 1, 1, 2, 1, 2, 5, 0, 3, 0, 0, 7, 0, 2, 0, 0, 0, 0};
 
 static void same(const char *what, size_t is, size_t wanted)
 {
@@ -25,7 +26,6 @@ static void same(const char *what, size_t is, size_t wanted)
 /* The bytes between the length and the value of a state, which no call writes. */
 static void padding_stays(void)
 {
-    static const uint8_t identity[] = {11, 0, 1, 0, 0, 0, 1, 1, 2, 1, 2, 5, 0, 3, 0, 0, 7, 0, 2, 0, 0, 0, 0};
     static const int64_t words[] = {-1, 7};
     static int64_t buffer[FIR_ITEMS];
     static fir_state state;
@@ -40,6 +40,20 @@ static void padding_stays(void)
     same("state.status", state.status, FIR_INTEGER);
     for (at = first; at < offsetof(fir_state, value); at++)
         same("a byte of padding", bytes[at], 0xa5);
+}
+
+/* The lowest byte of a number stands first in a state, and an integer is in two's complement. */
+static void byte_order(void)
+{
+    static const uint8_t wanted[] = {0xfe, 0xff, 0xff, 0xff, 0xff, 0xff, 0xff, 0xff};
+    static const int64_t words[] = {-1, -2};
+    static int64_t buffer[FIR_ITEMS];
+    static fir_state state;
+    const uint8_t *bytes = (const uint8_t *)&state;
+    fir_begin(identity, sizeof identity, FIR_PORTAL, 0, 0, words, 2, buffer, FIR_ITEMS, &state);
+    same("the bytes of r0", memcmp(bytes + offsetof(fir_state, numbers), wanted, sizeof wanted) != 0, 0);
+    same("the first byte of its code", bytes[offsetof(fir_state, codes)], 1);
+    same("the second byte of its code", bytes[offsetof(fir_state, codes) + 1], 0);
 }
 
 int main(void)
@@ -81,6 +95,19 @@ int main(void)
     AT(fir_searched, dispatch, 0);
     AT(fir_searched, looked, 1);
     AT(fir_searched, versions, 2);
+    same("sizeof fir_position", sizeof(fir_position), 16);
+    AT(fir_position, offset, 0);
+    AT(fir_position, kind, 8);
+    AT(fir_position, function, 9);
+    AT(fir_position, version, 10);
+    AT(fir_position, block, 11);
+    AT(fir_position, instruction, 12);
+    same("sizeof fir_versions", sizeof(fir_versions), 8);
+    AT(fir_versions, interface_number, 0);
+    AT(fir_versions, state_layout, 4);
+    same("fir_version().interface_number", fir_version().interface_number, FIR_INTERFACE);
+    same("fir_version().state_layout", fir_version().state_layout, FIR_STATE_LAYOUT);
+    byte_order();
     padding_stays();
     printf("layout: %u passed\n", tests);
     return 0;

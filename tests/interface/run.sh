@@ -1,7 +1,8 @@
 #!/usr/bin/env bash
-# Tries the C interface: its header as C99 and as C++, the layout of what crosses it, the stack that each function takes, what
-# a search answers, an image moved there and back, levels, and the examples controller, update and stored, whose output stands
-# beside them. Needs a C and a C++ compiler and valgrind. Its last line is `interface: N passed, 0 failed`; where something fails, it
+# Tries the C interface: its header as C99 and as C++ and the examples in it, the symbols of the archive, the layout of what
+# crosses it, the stack that each function takes, what a search and a position answer, texts, an image moved there and back,
+# levels, calls from several threads, and the examples controller, update and stored, whose output stands beside them. Needs
+# a C and a C++ compiler with nm, and valgrind. Its last line is `interface: N passed, 0 failed`; where something fails, it
 # says what and its status is 1.
 set -euo pipefail
 cd "$(dirname "$0")/../.."
@@ -30,8 +31,22 @@ ok "the header is C++98"
 c++ -x c++ -std=c++17 "${strict[@]}" -c "$out/empty.cc" -o "$out/empty_cc.o" || fail "the header as C++17"
 ok "the header is C++17"
 
-for host in layout stack search moves levels; do
-    cc -std=c99 -O2 "${strict[@]}" "tests/interface/$host.c" "$library" -lpthread -o "$out/$host" || fail "$host does not compile"
+# The symbols of the archive that nm prints with an option, those of some letters alone, in order.
+symbols() {
+    nm "$1" "$library" | awk -v letters="$2" 'NF > 1 && $(NF - 1) ~ letters { print $NF }' | sort | paste -sd ' '
+}
+
+declared=$(sed -n 's/^[a-z][a-z0-9_]* \(fir_[a-z_]*\)(.*/\1/p' include/fir.h | sort | paste -sd ' ')
+[ "$(symbols --defined-only '^T$')" = "$declared" ] || fail "the archive has other functions than the header declares"
+ok "the archive has the functions that the header declares"
+[ "$(symbols --undefined-only '^U$')" = "memcpy memset" ] || fail "the archive needs $(symbols --undefined-only '^U$')"
+ok "the archive needs memcpy and memset alone"
+[ -z "$(symbols --defined-only '^[bBcCdD]$')" ] || fail "the archive has variables"
+ok "the archive has no variable"
+
+awk -f tests/interface/examples.awk include/fir.h >"$out/examples.inc"
+for host in layout stack search where texts moves levels threads examples; do
+    cc -std=c99 -O2 "${strict[@]}" -I"$out" "tests/interface/$host.c" "$library" -lpthread -o "$out/$host" || fail "$host does not compile"
     "$out/$host" || fail "$host"
     ok "$host"
 done

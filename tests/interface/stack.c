@@ -55,6 +55,14 @@ static void search(void)
     fir_search(tried.bytes, tried.length, &midway);
 }
 
+static void where(void)
+{
+    fir_where(searched.bytes, searched.length, &at_dispatch);
+    fir_where(tried.bytes, tried.length, &midway);
+}
+
+static void question_text(void) { fir_question_text(FIR_REFUSED_BOUNDS, text, sizeof text); }
+
 /* Runs that are refused by 11, 19 where the entry is for the factory, 12 and 13, changes that are refused by 1 and by 15, and moves that are by 3 and by 17. */
 static void refusals(void)
 {
@@ -101,7 +109,8 @@ int main(void)
     } calls[] = {{"fir_check", check}, {"fir_report", report}, {"fir_begin", begin}, {"fir_step", step},
                  {"fir_budget", budget}, {"fir_run", run}, {"fir_change", change}, {"fir_look", look},
                  {"fir_search", search}, {"fir_check_in", check_in}, {"fir_report_in", report_in}, {"fir_widen", widen},
-                 {"fir_narrow", narrow}, {"refusals", refusals}};
+                 {"fir_narrow", narrow}, {"fir_where", where}, {"fir_question_text", question_text},
+                 {"refusals", refusals}};
     size_t least = depth(nothing);
     size_t deepest[sizeof calls / sizeof *calls] = {0};
     size_t i, kind;

@@ -31,6 +31,20 @@ const MARGIN: usize = 16;
 /// else, neither in the buffer nor beside it.
 #[track_caller]
 pub fn assert_written(image: &[u8], expected: &str, places: usize, origin: &str) {
+    let written = compare_text(expected, places, |text| library::report(image, text));
+    if let Err(different) = written {
+        panic!("{origin}: {different}\n{}", text::listing(image));
+    }
+}
+
+/// Whether a function writes a text to a buffer of so many places from place 0 on if
+/// there is room for all of it, and nothing else, neither in the buffer nor beside it;
+/// what differs. A text of no byte is none.
+pub fn compare_text(
+    expected: &str,
+    places: usize,
+    write: impl FnOnce(&mut [u8]) -> Option<usize>,
+) -> Result<(), String> {
     let written = if places < expected.len() {
         ""
     } else {
@@ -39,17 +53,18 @@ pub fn assert_written(image: &[u8], expected: &str, places: usize, origin: &str)
     let mut after = untouched(places);
     after[MARGIN..MARGIN + written.len()].copy_from_slice(written.as_bytes());
     let mut found = untouched(places);
-    let length = library::report(image, &mut found[MARGIN..MARGIN + places]).unwrap_or(0);
-    assert!(
-        length == written.len() && found == after,
-        "{origin}: with a buffer of {places} places\n\
+    let length = write(&mut found[MARGIN..MARGIN + places]).unwrap_or(0);
+    if length == written.len() && found == after {
+        return Ok(());
+    }
+    Err(format!(
+        "with a buffer of {places} places\n\
          expected {} and {written:?} in\n{}\n\
-         the proved library gives {length} and leaves\n{}\n{}",
+         the proved library gives {length} and leaves\n{}",
         written.len(),
         after.escape_ascii(),
         found.escape_ascii(),
-        text::listing(image)
-    );
+    ))
 }
 
 /// A buffer and its margins, all places different from what a text holds.

@@ -1,9 +1,9 @@
 //! The proved library's answers in the words of the reference.
 
 use crate::snapshot::untouched;
-use library::{Entry, Ran, Run};
+use library::{At, Entry, Ran, Run};
 use reference::bounds::Steps;
-use reference::{Answer, End, Form, Integer, Refusal, Said, Verdict};
+use reference::{Answer, End, Form, Integer, Position, Refusal, Said, Verdict};
 
 /// The proved library's verdict on an image.
 pub fn verdict(image: &[u8]) -> Verdict {
@@ -93,6 +93,19 @@ pub fn change(run: &mut Run, image: Vec<u8>) -> Result<(), Refusal> {
 pub fn search(run: &Run) -> Option<(u8, u8)> {
     let search = run.search()?;
     Some((search.looked as u8, search.versions as u8))
+}
+
+/// Where the run stands.
+pub fn position(run: &Run) -> Option<Position> {
+    let position = run.position()?;
+    Some(Position {
+        function: position.function,
+        version: position.version,
+        block: position.block,
+        instruction: position.instruction.into(),
+        at_end: position.at == At::BlockEnd,
+        offset: position.offset,
+    })
 }
 
 /// A run from its start at a level, its answer, and the steps taken; it is untouched

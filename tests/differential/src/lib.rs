@@ -10,6 +10,7 @@ pub mod snapshot;
 #[cfg(feature = "stand_in")]
 mod stand_in;
 pub mod tuned;
+pub mod words;
 pub mod workloads;
 
 pub use engine::verdict;

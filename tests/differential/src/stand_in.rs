@@ -6,18 +6,20 @@
 #![allow(unsafe_code)] // The library's functions are named and called as in C.
 
 use crate::snapshot::{state_of, untouched, EMPTY, FILLING, INTEGER, PROMISED, VECTOR};
+use crate::words::question_words;
 use library::State as Snapshot;
 use library::{
-    FirAnswer, FirEntry, FirSaid, FirSearched, FirValue, FirVerdict, ACTIVATION, CELLS,
-    FIR_ACCEPTED, FIR_DEEP, FIR_FORM_32, FIR_FORM_64, FIR_INTEGER, FIR_IS_INTEGER, FIR_IS_PROMISE,
-    FIR_IS_VECTOR, FIR_NOTHING, FIR_OUTSIDE, FIR_PROMISES, FIR_REFUSED, FIR_STEPS, FIR_STUCK,
-    FIR_UNDEF, FIR_VECTOR, FIR_VECTORS, OWNER, PROMISE,
+    FirAnswer, FirEntry, FirPosition, FirSaid, FirSearched, FirValue, FirVerdict, FirVersions,
+    ACTIVATION, CELLS, FIR_ACCEPTED, FIR_AT_BLOCK_END, FIR_AT_INSTRUCTION, FIR_DEEP, FIR_FORM_32,
+    FIR_FORM_64, FIR_INTEGER, FIR_INTERFACE, FIR_IS_INTEGER, FIR_IS_PROMISE, FIR_IS_VECTOR,
+    FIR_NOTHING, FIR_NOWHERE, FIR_OUTSIDE, FIR_PROMISES, FIR_REFUSED, FIR_STATE_LAYOUT, FIR_STEPS,
+    FIR_STUCK, FIR_UNDEF, FIR_VECTOR, FIR_VECTORS, OWNER, PROMISE,
 };
 use reference::bounds::{ITEMS, REGISTERS};
 use reference::state::Opener;
 use reference::{
-    change, move_from, verdict_in, Answer, End, Form, Program, Refusal, Said, State, Status, Value,
-    Verdict,
+    change, move_from, verdict_in, Answer, End, Form, Position, Program, Refusal, Said, State,
+    Status, Value, Verdict,
 };
 use std::cell::RefCell;
 use std::rc::Rc;
@@ -172,6 +174,19 @@ fn entry(answer: Result<(), Refusal>) -> FirEntry {
 }
 
 #[no_mangle]
+extern "C" fn fir_version() -> FirVersions {
+    FirVersions {
+        interface_number: FIR_INTERFACE,
+        state_layout: FIR_STATE_LAYOUT,
+    }
+}
+
+#[no_mangle]
+unsafe extern "C" fn fir_question_text(question: u8, text: *mut u8, places: usize) -> usize {
+    put_text(question_words(question), text, places)
+}
+
+#[no_mangle]
 extern "C" fn fir_state_size() -> usize {
     size_of::<Snapshot>()
 }
@@ -214,11 +229,19 @@ unsafe extern "C" fn fir_report_in(
     places: usize,
 ) -> usize {
     let report = reference::report_in(form_of(form), lent(image, length));
+    put_text(&report, text, places)
+}
+
+/// Writes a text to a buffer if there is room for all of it; how many places it takes.
+///
+/// # Safety
+/// The places are those of a slice that is lent to nobody else.
+unsafe fn put_text(words: &str, text: *mut u8, places: usize) -> usize {
     let text = slice::from_raw_parts_mut(text, places);
-    match text.get_mut(..report.len()) {
+    match text.get_mut(..words.len()) {
         Some(text) => {
-            text.copy_from_slice(report.as_bytes());
-            report.len()
+            text.copy_from_slice(words.as_bytes());
+            words.len()
         }
         None => 0,
     }
@@ -409,5 +432,29 @@ unsafe extern "C" fn fir_search(
         dispatch: search.is_some().into(),
         looked: search.map_or(0, |search| search.looked()),
         versions: search.map_or(0, |search| search.versions),
+    }
+}
+
+#[no_mangle]
+unsafe extern "C" fn fir_where(
+    image: *const u8,
+    image_length: usize,
+    state: *const Snapshot,
+) -> FirPosition {
+    let program = program(lent(image, image_length));
+    let state = state_of(&*state).ok();
+    let position = state.and_then(|state| state.position(program.as_ref().ok()?));
+    let kind = match position {
+        None => FIR_NOWHERE,
+        Some(Position { at_end: true, .. }) => FIR_AT_BLOCK_END,
+        Some(_) => FIR_AT_INSTRUCTION,
+    };
+    FirPosition {
+        offset: position.map_or(0, |position| position.offset),
+        kind,
+        function: position.map_or(0, |position| position.function),
+        version: position.map_or(0, |position| position.version),
+        block: position.map_or(0, |position| position.block),
+        instruction: position.map_or(0, |position| position.instruction as u8),
     }
 }

@@ -85,6 +85,7 @@ fn run(seed: u64) -> Option<usize> {
             assert_eq!(difference(&after, &stands_for), None, "{origin}");
             let search = after.search(&program).map(|s| (s.looked(), s.versions));
             assert_eq!(engine::search(&run), search, "{origin}");
+            assert_eq!(engine::position(&run), after.position(&program), "{origin}");
             let begin = |level, buffer: &mut [Integer]| {
                 engine::run(&image, level, entry, &words, budget, buffer)
             };

@@ -11,7 +11,7 @@
 //! | Questions put to an image | [`questions`], [`begin`], [`change`] |
 //! | Types fit when | [`questions`] |
 //! | Flow | [`flow`] |
-//! | Steps | [`state`], [`counts`], [`outside`], [`steps`], [`search`] |
+//! | Steps | [`state`], [`counts`], [`outside`], [`steps`], [`search`], [`position`] |
 //! | What demand 3 speaks of | [`monitor`], [`watched`] |
 //! | Program | [`report`] |
 //! | Moving stored images | [`moves`] |
@@ -28,6 +28,7 @@ pub mod kinds;
 pub mod monitor;
 pub mod moves;
 pub mod outside;
+pub mod position;
 pub mod program;
 pub mod questions;
 pub mod record;
@@ -44,6 +45,7 @@ pub use change::change;
 pub use form::{Form, Range};
 pub use instruction::{Instruction, Name, Register};
 pub use moves::{move_accepted, move_from, moved, widened};
+pub use position::Position;
 pub use program::Program;
 pub use questions::{questions_1_to_7, verdict, verdict_in, Refusal, Verdict};
 pub use record::Record;

@@ -5,6 +5,7 @@ use crate::change::change;
 use crate::instruction::Instruction;
 use crate::kinds;
 use crate::monitor::{check_levels, check_state, check_step, Breach};
+use crate::position::Position;
 use crate::program::Program;
 use crate::questions::Refusal;
 use crate::search::Search;
@@ -65,6 +66,11 @@ impl Watched {
     /// The same, if no version were passed over for its level.
     pub fn search_without_levels(&self) -> Option<Search> {
         self.state.search_at(&self.program, Level::FACTORY)
+    }
+
+    /// Where the run stands; none where it stands nowhere in its image.
+    pub fn position(&self) -> Option<Position> {
+        self.state.position(&self.program)
     }
 
     /// Has the run ended?

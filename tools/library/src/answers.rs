@@ -1,11 +1,11 @@
 //! What the library answers, as plain enums.
 
 use crate::constants::{
-    FIR_ACCEPTED, FIR_DEEP, FIR_INTEGER, FIR_IS_INTEGER, FIR_IS_PROMISE, FIR_IS_VECTOR, FIR_ITEMS,
-    FIR_NOTHING, FIR_OUTSIDE, FIR_PROMISES, FIR_REFUSED, FIR_STEPS, FIR_STUCK, FIR_UNDEF,
-    FIR_VECTOR, FIR_VECTORS, FIR_VERSIONS,
+    FIR_ACCEPTED, FIR_AT_BLOCK_END, FIR_AT_INSTRUCTION, FIR_DEEP, FIR_INTEGER, FIR_IS_INTEGER,
+    FIR_IS_PROMISE, FIR_IS_VECTOR, FIR_ITEMS, FIR_NOTHING, FIR_NOWHERE, FIR_OUTSIDE, FIR_PROMISES,
+    FIR_REFUSED, FIR_STEPS, FIR_STUCK, FIR_UNDEF, FIR_VECTOR, FIR_VECTORS, FIR_VERSIONS,
 };
-use crate::raw::{FirAnswer, FirEntry, FirSaid, FirSearched, FirValue, FirVerdict};
+use crate::raw::{FirAnswer, FirEntry, FirPosition, FirSaid, FirSearched, FirValue, FirVerdict};
 
 /// A no: the question, and the offset of the first record that fails.
 #[derive(Clone, Copy, PartialEq, Eq, Debug)]
@@ -103,6 +103,33 @@ pub struct Search {
     pub versions: usize,
 }
 
+/// What a run stands at.
+#[derive(Clone, Copy, PartialEq, Eq, Debug)]
+pub enum At {
+    /// An instruction.
+    Instruction,
+    /// The end of a block.
+    BlockEnd,
+}
+
+/// Where a run stands in its image.
+#[derive(Clone, Copy, PartialEq, Eq, Debug)]
+pub struct Position {
+    /// At an instruction, or at the end of a block.
+    pub at: At,
+    /// The function of the call that is worked on.
+    pub function: u8,
+    /// Its version.
+    pub version: u8,
+    /// The block.
+    pub block: u8,
+    /// The number of the instruction; at the end of the block how many it has.
+    pub instruction: u8,
+    /// The offset of the instruction's record; at the end of a block that of the
+    /// BLOCK record.
+    pub offset: usize,
+}
+
 impl Ran {
     /// Was it refused, so that nothing was done?
     pub fn is_refused(&self) -> bool {
@@ -197,6 +224,25 @@ impl From<FirSearched> for Option<Search> {
             }
             _ => panic!("the library looks at {looked} of {versions}, which fir.h does not allow"),
         }
+    }
+}
+
+impl From<FirPosition> for Option<Position> {
+    fn from(position: FirPosition) -> Option<Position> {
+        let at = match position.kind {
+            FIR_NOWHERE => return None,
+            FIR_AT_INSTRUCTION => At::Instruction,
+            FIR_AT_BLOCK_END => At::BlockEnd,
+            kind => panic!("the library says {kind} of a position, which fir.h does not list"),
+        };
+        Some(Position {
+            at,
+            function: position.function,
+            version: position.version,
+            block: position.block,
+            instruction: position.instruction,
+            offset: position.offset,
+        })
     }
 }
 

@@ -1,5 +1,10 @@
 //! The numbers of `fir.h`, under its names.
 
+/// The number of the interface.
+pub const FIR_INTERFACE: u32 = 1;
+/// The number of the layout of a stored state.
+pub const FIR_STATE_LAYOUT: u32 = 1;
+
 /// The longest image.
 pub const FIR_IMAGE_BYTES: usize = 32_768;
 /// Functions are numbered below this.
@@ -58,6 +63,11 @@ pub const FIR_REFUSED_LITERAL: u8 = 16;
 /// The moved image has at most 32,768 bytes and fits the buffer.
 pub const FIR_REFUSED_ROOM: u8 = 17;
 
+/// Room for the words of every question.
+pub const FIR_QUESTION_TEXT_BYTES: usize = 128;
+/// Room for every report.
+pub const FIR_REPORT_BYTES: usize = 1_100;
+
 /// The level of the tenants' portal.
 pub const FIR_PORTAL: usize = 0;
 /// The level of site staff.
@@ -99,3 +109,10 @@ pub const FIR_IS_VECTOR: u8 = 2;
 pub const FIR_IS_PROMISE: u8 = 3;
 /// No such place of a live call.
 pub const FIR_OUTSIDE: u8 = 4;
+
+/// A state stands at no record of its image.
+pub const FIR_NOWHERE: u8 = 0;
+/// A state stands at an instruction.
+pub const FIR_AT_INSTRUCTION: u8 = 1;
+/// A state stands at the end of a block.
+pub const FIR_AT_BLOCK_END: u8 = 2;

@@ -15,12 +15,14 @@ mod raw;
 mod run;
 mod state;
 
-pub use answers::{Answer, End, Held, Ran, Refusal, Said, Search, Verdict};
-pub use checking::{report, verdict};
+pub use answers::{Answer, At, End, Held, Position, Ran, Refusal, Said, Search, Verdict};
+pub use checking::{question_text, report, verdict};
 pub use constants::*;
 pub use moving::{narrow, report_in, verdict_in, widen, Form};
 pub use parts::{Activation, Opener, Promise};
 #[cfg(feature = "stand_in")]
-pub use raw::{FirAnswer, FirEntry, FirSaid, FirSearched, FirValue, FirVerdict};
+pub use raw::{
+    FirAnswer, FirEntry, FirPosition, FirSaid, FirSearched, FirValue, FirVerdict, FirVersions,
+};
 pub use run::{Entry, Run, FACTORY, PORTAL, STAFF};
-pub use state::{State, ACTIVATION, CELLS, OWNER, PROMISE};
+pub use state::{version, State, Versions, ACTIVATION, CELLS, OWNER, PROMISE};

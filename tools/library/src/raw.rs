@@ -72,7 +72,35 @@ pub struct FirSearched {
     pub versions: u8,
 }
 
+/// Where a state stands in its image.
+#[repr(C)]
+pub struct FirPosition {
+    /// The offset of the instruction's record, or of the block's.
+    pub offset: usize,
+    /// `FIR_NOWHERE`, `FIR_AT_INSTRUCTION` or `FIR_AT_BLOCK_END`.
+    pub kind: u8,
+    /// The function of the call that is worked on.
+    pub function: u8,
+    /// Its version.
+    pub version: u8,
+    /// The block.
+    pub block: u8,
+    /// The number of the instruction; at the end of the block how many it has.
+    pub instruction: u8,
+}
+
+/// The numbers that a library was built with.
+#[repr(C)]
+pub struct FirVersions {
+    /// `FIR_INTERFACE`.
+    pub interface_number: u32,
+    /// `FIR_STATE_LAYOUT`.
+    pub state_layout: u32,
+}
+
 extern "C" {
+    pub fn fir_version() -> FirVersions;
+    pub fn fir_question_text(question: u8, text: *mut u8, text_length: usize) -> usize;
     pub fn fir_state_size() -> usize;
     pub fn fir_state_alignment() -> usize;
     pub fn fir_check(image: *const u8, image_length: usize) -> FirVerdict;
@@ -145,4 +173,5 @@ extern "C" {
     ) -> FirEntry;
     pub fn fir_look(state: *const State, call: usize, place: usize) -> FirValue;
     pub fn fir_search(image: *const u8, image_length: usize, state: *const State) -> FirSearched;
+    pub fn fir_where(image: *const u8, image_length: usize, state: *const State) -> FirPosition;
 }

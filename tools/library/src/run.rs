@@ -2,7 +2,7 @@
 
 #![allow(unsafe_code)] // The library is called across a C boundary.
 
-use crate::answers::{Held, Ran, Refusal, Said, Search};
+use crate::answers::{Held, Position, Ran, Refusal, Said, Search};
 use crate::constants::{FIR_FACTORY, FIR_PORTAL, FIR_STAFF};
 use crate::raw;
 use crate::state::{assert_layout, State};
@@ -189,6 +189,15 @@ impl<'i> Run<'i> {
         // SAFETY: the slice lends what its length says and the state is one of
         // the library's layout; both are only read.
         unsafe { raw::fir_search(image.as_ptr(), image.len(), &self.state) }.into()
+    }
+
+    /// Where the run stands, ended or not: at what its next step executes, and after
+    /// UNDEF, DEEP, VECTORS or PROMISES at what made it. None where it is DONE.
+    pub fn position(&self) -> Option<Position> {
+        assert_layout();
+        let image = &self.image[..];
+        // SAFETY: as in `search`.
+        unsafe { raw::fir_where(image.as_ptr(), image.len(), &self.state) }.into()
     }
 
     /// What a place of a live call holds: registers are the places 0 to 15,

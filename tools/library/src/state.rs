@@ -3,7 +3,10 @@
 #![allow(unsafe_code)] // The library is called across a C boundary.
 
 use crate::answers::Held;
-use crate::constants::{FIR_ACTIVATIONS, FIR_ITEMS, FIR_NAMES, FIR_PLACES, FIR_REGISTERS};
+use crate::constants::{
+    FIR_ACTIVATIONS, FIR_INTERFACE, FIR_ITEMS, FIR_NAMES, FIR_PLACES, FIR_REGISTERS,
+    FIR_STATE_LAYOUT,
+};
 use crate::raw;
 use std::sync::Once;
 
@@ -82,10 +85,36 @@ impl State {
     }
 }
 
-/// Asserts, once, that the library was built with this layout of a state.
+/// The numbers of a library: that of its interface, and that of the layout of a
+/// stored state.
+#[derive(Clone, Copy, PartialEq, Eq, Debug)]
+pub struct Versions {
+    /// `FIR_INTERFACE` where the library is the one of this crate.
+    pub interface_number: u32,
+    /// `FIR_STATE_LAYOUT` where it is.
+    pub state_layout: u32,
+}
+
+/// The numbers that the library was built with.
+pub fn version() -> Versions {
+    // SAFETY: the function takes nothing.
+    let built = unsafe { raw::fir_version() };
+    Versions {
+        interface_number: built.interface_number,
+        state_layout: built.state_layout,
+    }
+}
+
+/// Asserts, once, that the library was built with this interface and this layout of a
+/// state.
 pub(crate) fn assert_layout() {
     static ONCE: Once = Once::new();
     ONCE.call_once(|| {
+        let own = Versions {
+            interface_number: FIR_INTERFACE,
+            state_layout: FIR_STATE_LAYOUT,
+        };
+        assert_eq!(version(), own, "the numbers of the library");
         // SAFETY: these functions take nothing.
         let theirs = unsafe { (raw::fir_state_size(), raw::fir_state_alignment()) };
         let own = (size_of::<State>(), align_of::<State>());

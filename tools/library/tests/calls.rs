@@ -1,9 +1,10 @@
 //! Each call of the proved library, on images whose answers are worked out by hand.
 
 use library::{
-    narrow, report, report_in, verdict, verdict_in, widen, Activation, Answer, End, Entry, Form,
-    Held, Opener, Promise, Ran, Refusal, Run, Said, Search, State, Verdict, CELLS, FACTORY,
-    FIR_ITEMS, FIR_REGISTERS, PORTAL, STAFF,
+    narrow, question_text, report, report_in, verdict, verdict_in, version, widen, Activation,
+    Answer, At, End, Entry, Form, Held, Opener, Position, Promise, Ran, Refusal, Run, Said, Search,
+    State, Verdict, Versions, CELLS, FACTORY, FIR_ITEMS, FIR_QUESTION_TEXT_BYTES, FIR_REGISTERS,
+    PORTAL, STAFF,
 };
 
 /// The version that the runs enter.
@@ -63,6 +64,34 @@ fn a_report_needs_room_for_all_of_it() {
     let mut short = vec![7; expected.len() - 1];
     assert_eq!(report(&image(), &mut short), None);
     assert_eq!(short, vec![7; expected.len() - 1]);
+}
+
+#[test]
+fn the_library_has_the_numbers_of_the_header() {
+    let built = Versions {
+        interface_number: 1,
+        state_layout: 1,
+    };
+    assert_eq!(version(), built);
+}
+
+#[test]
+fn each_question_has_words_and_no_other_number() {
+    let expected = b"the entry does not exist";
+    let mut text = [7; FIR_QUESTION_TEXT_BYTES];
+    assert_eq!(question_text(11, &mut text), Some(expected.len()));
+    assert_eq!(&text[..expected.len()], expected);
+    assert_eq!(
+        text[expected.len()..],
+        [7; FIR_QUESTION_TEXT_BYTES][expected.len()..]
+    );
+    let mut short = vec![7; expected.len() - 1];
+    assert_eq!(question_text(11, &mut short), None);
+    assert_eq!(short, vec![7; expected.len() - 1]);
+    for number in 0..=u8::MAX {
+        let length = question_text(number, &mut text);
+        assert_eq!(length.is_some(), number <= 19, "{number}");
+    }
 }
 
 /// Gives the literal -3 to site staff, in the form of 32 bits.
@@ -323,6 +352,44 @@ fn places_of_a_live_call_can_be_seen() {
     assert_eq!(run.look(0, CELLS), None);
     assert_eq!(run.look(1, 0), None);
     assert_eq!(run.look(usize::MAX, usize::MAX), None);
+}
+
+#[test]
+fn a_run_says_where_it_stands_at_each_step() {
+    let image = image();
+    let mut run = begun(&image);
+    // VERSION, LEVEL and BLOCK take 26 bytes, the instructions of block 0 the next 33.
+    let instructions = [(0, 0, 26), (0, 1, 34), (0, 2, 40), (0, 3, 46), (1, 0, 66)];
+    for (block, instruction, offset) in instructions {
+        let position = run.position().expect("the run goes on");
+        assert_eq!(position.at, At::Instruction);
+        let found = (position.block, position.instruction, position.offset);
+        assert_eq!(found, (block, instruction, offset));
+        assert_eq!(run.step(), Said::GoesOn);
+    }
+    let end = Position {
+        at: At::BlockEnd,
+        function: 0,
+        version: 0,
+        block: 1,
+        instruction: 1,
+        offset: 59,
+    };
+    assert_eq!(run.position(), Some(end));
+    run.budget(9, &mut [0; FIR_ITEMS]);
+    assert_eq!(run.position(), None, "DONE stands nowhere");
+}
+
+#[test]
+fn a_run_stands_at_what_made_it_undef() {
+    let text = "version 0.0(r0: int) -> int\nlevel portal\nblock 0 quiet -> r0\nr0 = div r0, r0";
+    let image = text::assemble(text).expect("a text that is well formed");
+    let run = Run::begin(&image, PORTAL, ENTRY, &[-1, 0], &[0; FIR_ITEMS]);
+    let mut run = run.unwrap_or_else(|no| panic!("{no:?}"));
+    let before = run.position();
+    assert_eq!(before.map(|position| position.offset), Some(23));
+    assert_eq!(run.step(), Said::Ended(End::Undef));
+    assert_eq!(run.position(), before);
 }
 
 /// 0.0 dispatches on function 1, whose three versions take an integer, none, and a

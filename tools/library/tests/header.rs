@@ -21,13 +21,17 @@ const FIELDS: [&str; 14] = [
 /// A name and its number in Rust.
 macro_rules! named {
     ($($name:ident),* $(,)?) => {
-        [$((stringify!($name), usize::from(library::$name))),*]
+        [$((stringify!($name), library::$name as usize)),*]
     };
 }
 
 /// The bounds and the questions of this crate.
 fn bounds_and_questions() -> Vec<(&'static str, usize)> {
     let bounds = named![
+        FIR_INTERFACE,
+        FIR_STATE_LAYOUT,
+        FIR_QUESTION_TEXT_BYTES,
+        FIR_REPORT_BYTES,
         FIR_IMAGE_BYTES,
         FIR_FUNCTIONS,
         FIR_VERSIONS,
@@ -82,6 +86,9 @@ fn constants() -> Vec<(&'static str, usize)> {
         FIR_IS_VECTOR,
         FIR_IS_PROMISE,
         FIR_OUTSIDE,
+        FIR_NOWHERE,
+        FIR_AT_INSTRUCTION,
+        FIR_AT_BLOCK_END,
         FIR_FORM_64,
         FIR_FORM_32,
     ];

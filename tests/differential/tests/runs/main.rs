@@ -6,6 +6,7 @@ mod begin;
 mod changes;
 mod events;
 mod pair;
+mod positions;
 mod searches;
 
 use begin::{
@@ -14,6 +15,7 @@ use begin::{
 use changes::assert_changes;
 use generator::{accepted, damaged, entry, level, words, Random, Tally};
 use pair::Pair;
+use positions::assert_positions;
 use reference::bounds::{BUFFER, ITEMS};
 use reference::questions::QUESTIONS;
 use reference::watched::{Watched, ENDINGS};
@@ -75,7 +77,7 @@ fn run(seed: u64, met: &mut Tally<String>) -> usize {
     let reference = Watched::new(checked, state, start.level, &origin);
     let mut pair = Pair::new(&image, reference, proved);
     pair.assert_same_state(&origin);
-    pair.compare_search(&origin, met);
+    pair.compare_standing(&origin, met);
     pair.act_all(seed, &origin, met);
     let ending = pair.reference().ending();
     met.meet(ending.unwrap_or("goes on").to_string());
@@ -205,6 +207,7 @@ fn runs_agree_under_every_list_of_events() {
     assert_eq!(met.count("UNDEF, without a cause"), 0);
     assert_changes(&met);
     assert_searches(&met);
+    assert_positions(&met);
 }
 
 /// Asserts that runs began at each level of an entry and each stated level at or above

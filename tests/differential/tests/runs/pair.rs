@@ -2,7 +2,7 @@
 
 use crate::changes::{self, History};
 use crate::events::{event_list, events_after_the_end, size};
-use crate::searches;
+use crate::{positions, searches};
 use differential::difference::difference;
 use differential::engine;
 use differential::snapshot::state_of;
@@ -99,12 +99,12 @@ impl<'p> Pair<'p> {
         }
     }
 
-    /// Asserts that both say the same of the search that they stand at.
+    /// Asserts that both say the same of where they stand, and of the search there.
     #[track_caller]
-    pub fn compare_search(&self, origin: &str, met: &mut Tally<String>) {
+    pub fn compare_standing(&self, origin: &str, met: &mut Tally<String>) {
         let end = self.end();
         let both = (&self.reference, &self.proved);
-        searches::compare(both, end.as_deref(), origin, met);
+        compare_standing(both, end.as_deref(), origin, met);
     }
 
     /// Asserts that both gave the same.
@@ -158,7 +158,7 @@ impl<'p> Pair<'p> {
             }
         }
         self.assert_same_state(origin);
-        self.compare_search(origin, met);
+        self.compare_standing(origin, met);
     }
 
     /// A single step on both sides; what it says.
@@ -171,7 +171,7 @@ impl<'p> Pair<'p> {
     }
 
     /// A budget on both sides; its answer. A copy of the proved run takes the same
-    /// steps one by one, and the searches between them are compared.
+    /// steps one by one, and where they stand is compared between them.
     #[track_caller]
     fn budget(
         &mut self,
@@ -195,7 +195,7 @@ impl<'p> Pair<'p> {
             .budget_seen(budget, expected.places(), |reference| {
                 let said = engine::step(&mut before);
                 assert_eq!(said, Said::GoesOn, "{origin}: a step under a budget");
-                searches::compare((reference, &before), None, origin, met);
+                compare_standing((reference, &before), None, origin, met);
             });
         self.assert_same(right, given, origin);
         self.assert_same(expected.memory, found.memory, origin);
@@ -223,6 +223,18 @@ impl<'p> Pair<'p> {
         assert!(in_force, "{origin}: the image in force");
         outcome
     }
+}
+
+/// Asserts that both say the same of where they stand, and of the search there.
+#[track_caller]
+fn compare_standing(
+    both: (&Watched, &Run),
+    end: Option<&str>,
+    origin: &str,
+    met: &mut Tally<String>,
+) {
+    positions::compare(both, end, origin, met);
+    searches::compare(both, end, origin, met);
 }
 
 /// Whether an event found the run at its end.

@@ -1,0 +1,131 @@
+/* The examples of the header, as they stand there: each is run, and what it does or prints is compared. */
+#include <stdio.h>
+#include <stdlib.h>
+
+#include "images.h"
+
+#include "examples.inc"
+
+enum { PRINTED = 2048 };
+
+static unsigned tests;
+static image tried;
+static fir_state state;
+static int64_t items[FIR_ITEMS];
+static const int64_t words[] = {-1, 7};
+static const int64_t vector[] = {2, 30, 40};
+
+static void same(const char *what, size_t is, size_t wanted)
+{
+    tests++;
+    if (is != wanted) {
+        printf("examples: %s is %lu and not %lu\n", what, (unsigned long)is, (unsigned long)wanted);
+        exit(1);
+    }
+}
+
+static FILE *opened(void)
+{
+    FILE *file = tmpfile();
+    if (file == NULL) {
+        perror("examples");
+        exit(2);
+    }
+    return file;
+}
+
+/* Asserts what an example has printed, and closes its file. */
+static void printed(FILE *file, const char *wanted)
+{
+    static char text[PRINTED];
+    size_t length;
+    rewind(file);
+    length = fread(text, 1, sizeof text - 1, file);
+    text[length] = 0;
+    fclose(file);
+    tests++;
+    if (strcmp(text, wanted) != 0) {
+        printf("examples: an example prints\n%s\nand not\n%s\n", text, wanted);
+        exit(1);
+    }
+}
+
+static void begins(const int64_t *arguments, size_t length)
+{
+    same("a beginning's question",
+         fir_begin(tried.bytes, tried.length, FIR_PORTAL, 0, 0, arguments, length, items, FIR_ITEMS, &state).question,
+         FIR_ACCEPTED);
+}
+
+static void texts(void)
+{
+    FILE *file = opened();
+    say_refusal(file, FIR_REFUSED_BUFFER, 0);
+    printed(file, "refused by 13 at 0: the result buffer has fewer than 16 places\n");
+    calling(&tried, FIR_PORTAL, FIR_PORTAL);
+    file = opened();
+    print_report(file, tried.bytes, tried.length);
+    printed(file, "0.0 1 1 0 0\n0.1 1 0 0 0\naccepted 2\n");
+}
+
+/* A run in two parts, between which its state is stored and read back; a state of another layout is not. */
+static void stored(void)
+{
+    FILE *file = opened();
+    calling(&tried, FIR_PORTAL, FIR_PORTAL);
+    begins(words, 2);
+    fir_step(tried.bytes, tried.length, &state);
+    same("a state's being stored", (size_t)store_state(file, &state), 1);
+    memset(&state, 0, sizeof state);
+    rewind(file);
+    same("a state's being loaded", (size_t)load_state(file, &state), 1);
+    same("the steps that were left", run_by_slices(tried.bytes, tried.length, &state, items).steps, 2);
+    same("the value", (size_t)state.value, 7);
+    rewind(file);
+    fputc(FIR_STATE_LAYOUT + 1, file);
+    rewind(file);
+    same("another layout's being loaded", (size_t)load_state(file, &state), 0);
+    fclose(file);
+}
+
+/* A run by single steps that gives a vector. */
+static void stepped(void)
+{
+    fir_said said;
+    tried.length = 0;
+    RECORD(&tried, VERSION, 0, 0, 1, 1, 3, 1, 3);
+    RECORD(&tried, LEVEL, FIR_PORTAL);
+    RECORD(&tried, BLOCK, 0, 0, 0);
+    begins(vector, sizeof vector / sizeof *vector);
+    said = step_to_the_end(tried.bytes, tried.length, &state, items);
+    same("the code", said.code, FIR_VECTOR);
+    same("the length", said.length, 2);
+    same("the first item", (size_t)items[0], 30);
+    same("the second item", (size_t)items[1], 40);
+}
+
+static void positions(void)
+{
+    FILE *file = opened();
+    calling(&tried, FIR_PORTAL, FIR_PORTAL);
+    begins(words, 2);
+    do
+        say_position(file, tried.bytes, tried.length, &state);
+    while (fir_step(tried.bytes, tried.length, &state).code == FIR_STEPS);
+    say_position(file, tried.bytes, tried.length, &state);
+    printed(file, "0.0, block 0, instruction 0, at 23\n"
+                  "0.1, block 0, its end, at 48\n"
+                  "0.0, block 0, its end, at 16\n"
+                  "nowhere\n");
+}
+
+int main(void)
+{
+    same("whether the library is the header's", (size_t)library_is_the_headers(), 1);
+    texts();
+    stored();
+    stepped();
+    positions();
+    printf("examples: %u passed\n", tests);
+    return 0;
+}
