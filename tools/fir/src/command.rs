@@ -1,12 +1,18 @@
 //! The command line.
 
 use crate::arguments::Argument;
+use crate::completion::Shell;
+use crate::explain;
 use crate::failure::Failure;
-use crate::help;
+use crate::help::{self, Topic};
+use crate::options::Words;
+use crate::source;
 use library::{Entry, Form, FACTORY, PORTAL, STAFF};
 use std::ffi::{OsStr, OsString};
+use std::path::Path;
 
-/// The steps that `fir run` takes at most, unless the command line says otherwise.
+/// The steps that `fir run` and `fir debug` take at most, unless the command line says
+/// otherwise.
 pub const RUN_BUDGET: u32 = 10_000_000;
 /// The steps that `fir trace` takes at most, unless the command line says otherwise.
 pub const TRACE_BUDGET: u32 = 100_000;
@@ -15,29 +21,65 @@ pub const TRACE_BUDGET: u32 = 100_000;
 #[derive(Clone, PartialEq, Eq, Debug)]
 pub enum Command {
     /// A help text.
-    Help(&'static str),
+    Help(String),
+    /// `fir --version`
+    Version,
     /// `fir check`
-    Check {
-        /// The image.
-        file: OsString,
-        /// The form whose questions it is put to.
-        form: Form,
-    },
+    Check(Check),
     /// `fir run`
     Run {
         /// The run.
         call: Call,
         /// Are its steps to be counted?
         stats: bool,
+        /// Is JSON to be printed?
+        json: bool,
     },
     /// `fir trace`
-    Trace(Call),
+    Trace {
+        /// The run.
+        call: Call,
+        /// Is JSON to be printed?
+        json: bool,
+        /// The file of the page, if one is to be written.
+        html: Option<OsString>,
+    },
+    /// `fir debug`
+    Debug(Call),
+    /// `fir lint`
+    Lint(Lint),
     /// `fir move`
     Move(Move),
     /// `fir asm`
     Assemble(Conversion),
     /// `fir dis`
     Disassemble(Conversion),
+    /// `fir explain`, of a question or of all.
+    Explain(Option<u8>),
+    /// `fir completion`
+    Completion(Shell),
+}
+
+/// Images that are to be checked.
+#[derive(Clone, PartialEq, Eq, Debug)]
+pub struct Check {
+    /// The images.
+    pub files: Vec<OsString>,
+    /// The form whose questions they are put to.
+    pub form: Form,
+    /// Is JSON to be printed?
+    pub json: bool,
+}
+
+/// Images that are to be looked through.
+#[derive(Clone, PartialEq, Eq, Debug)]
+pub struct Lint {
+    /// The images.
+    pub files: Vec<OsString>,
+    /// The versions that runs enter; all of function 0 where there is none.
+    pub entries: Vec<Entry>,
+    /// Is JSON to be printed?
+    pub json: bool,
 }
 
 /// A run that is asked for.
@@ -93,40 +135,129 @@ impl Command {
         let Some((first, rest)) = arguments.split_first() else {
             return Err(wrong("no command is given".to_string()));
         };
-        let first = first.to_string_lossy();
-        if ["--help", "-h", "help"].contains(&&*first) {
-            return Ok(Command::Help(help::ALL));
+        match (&*first.to_string_lossy(), rest.first()) {
+            ("help", Some(name)) => Ok(Command::Help(topic(name)?.help())),
+            ("--help" | "-h" | "help", _) => Ok(Command::Help(help::all())),
+            ("--version" | "-V", None) => Ok(Command::Version),
+            _ => parse_topic(topic(first)?, rest),
         }
-        let Some(command) = help::COMMANDS.iter().find(|command| command.name == first) else {
-            return Err(wrong(format!("`{first}` is no command")));
-        };
-        if rest.iter().any(|word| word == "--help" || word == "-h") {
-            return Ok(Command::Help(command.help));
-        }
-        parse_command(command.name, rest)
-            .map_err(|reason| Failure::Usage(Some(command.name), reason))
     }
 }
 
+/// The command of a name.
+fn topic(name: &OsStr) -> Result<&'static Topic, Failure> {
+    let name = name.to_string_lossy();
+    let mut topics = help::COMMANDS.iter();
+    let found = topics.find(|topic| topic.name == name);
+    found.ok_or_else(|| Failure::Usage(None, format!("`{name}` is no command")))
+}
+
 /// A command of a known name.
-fn parse_command(name: &str, rest: &[OsString]) -> Result<Command, String> {
-    let mut words = Words::new(rest);
+fn parse_topic(topic: &'static Topic, rest: &[OsString]) -> Result<Command, Failure> {
+    if rest.iter().any(|word| word == "--help" || word == "-h") {
+        return Ok(Command::Help(topic.help()));
+    }
+    let words = Words::parse(topic.options, rest);
+    let command = words.and_then(|words| parse_command(topic.name, words));
+    command.map_err(|reason| Failure::Usage(Some(topic.name), reason))
+}
+
+/// A command of a known name and its words.
+fn parse_command(name: &str, words: Words) -> Result<Command, String> {
     match name {
-        "check" => {
-            let form = parse_form(&mut words, "--form")?;
-            let file = words.file()?;
-            words.finish()?;
-            Ok(Command::Check { file, form })
-        }
-        "run" => {
-            let stats = words.flag("--stats")?;
-            let call = parse_call(words, RUN_BUDGET)?;
-            Ok(Command::Run { call, stats })
-        }
-        "trace" => parse_call(words, TRACE_BUDGET).map(Command::Trace),
+        "check" => parse_check(words).map(Command::Check),
+        "run" => parse_run(words),
+        "trace" => parse_trace(words),
+        "debug" => parse_debug(words).map(Command::Debug),
+        "lint" => parse_lint(words).map(Command::Lint),
         "move" => parse_move(words).map(Command::Move),
         "asm" => parse_conversion(words).map(Command::Assemble),
-        _ => parse_conversion(words).map(Command::Disassemble),
+        "dis" => parse_conversion(words).map(Command::Disassemble),
+        "explain" => parse_explain(words).map(Command::Explain),
+        _ => parse_completion(words).map(Command::Completion),
+    }
+}
+
+/// Images that are to be checked.
+fn parse_check(mut words: Words) -> Result<Check, String> {
+    let form = parse_form(&mut words, "--form")?;
+    let json = words.flag("--json")?;
+    let files = words.files()?;
+    ask_standard_input_once(&files)?;
+    Ok(Check { files, form, json })
+}
+
+/// Images that are to be looked through.
+fn parse_lint(mut words: Words) -> Result<Lint, String> {
+    let json = words.flag("--json")?;
+    let entries = words.options("--entry");
+    let entries = entries.iter().map(|entry| parse_entry(&plain(entry)?));
+    let entries: Result<Vec<Entry>, String> = entries.collect();
+    let entries = entries?;
+    let files = words.files()?;
+    ask_standard_input_once(&files)?;
+    Ok(Lint {
+        files,
+        entries,
+        json,
+    })
+}
+
+/// `fir run`
+fn parse_run(mut words: Words) -> Result<Command, String> {
+    let (stats, json) = (words.flag("--stats")?, words.flag("--json")?);
+    let call = parse_call(words, RUN_BUDGET)?;
+    Ok(Command::Run { call, stats, json })
+}
+
+/// `fir trace`
+fn parse_trace(mut words: Words) -> Result<Command, String> {
+    let (json, html) = (words.flag("--json")?, words.option("--html")?);
+    if json && html.is_some() {
+        return Err("--json and --html do not go together".to_string());
+    }
+    if let Some(file) = html
+        .as_ref()
+        .filter(|file| source::is_text(Path::new(file)))
+    {
+        let file = file.to_string_lossy();
+        return Err(format!("`{file}` would hold a page, and .fir names texts"));
+    }
+    let call = parse_call(words, TRACE_BUDGET)?;
+    Ok(Command::Trace { call, json, html })
+}
+
+/// `fir debug`
+fn parse_debug(words: Words) -> Result<Call, String> {
+    let call = parse_call(words, RUN_BUDGET)?;
+    if call.file == "-" {
+        return Err("standard input holds the debugger's commands, and no image".to_string());
+    }
+    Ok(call)
+}
+
+/// The question that is to be explained; none for all.
+fn parse_explain(mut words: Words) -> Result<Option<u8>, String> {
+    let word = words.next().map(|word| plain(&word)).transpose()?;
+    words.finish()?;
+    explain::parse(word.as_deref())
+}
+
+/// `fir completion`
+fn parse_completion(mut words: Words) -> Result<Shell, String> {
+    let shells = "bash, zsh or fish";
+    let word = words.next();
+    let word = word.ok_or_else(|| format!("no shell is named: {shells}"))?;
+    words.finish()?;
+    let shell = Shell::parse(&word.to_string_lossy());
+    shell.ok_or_else(|| format!("`{}` is no shell of {shells}", word.to_string_lossy()))
+}
+
+/// Asks that standard input is named once at most.
+fn ask_standard_input_once(files: &[OsString]) -> Result<(), String> {
+    match files.iter().filter(|&file| file == "-").count() {
+        0 | 1 => Ok(()),
+        _ => Err("standard input is named twice".to_string()),
     }
 }
 
@@ -136,7 +267,7 @@ fn parse_call(mut words: Words, mut budget: u32) -> Result<Call, String> {
         budget = parse_budget(&text)?;
     }
     let level = parse_level(&mut words)?;
-    let then = parse_changes(&words.options("--then")?)?;
+    let then = parse_changes(&words.options("--then"))?;
     let file = words.file()?;
     let entry = words.next().ok_or("no version is named, such as 0.0")?;
     let entry = parse_entry(&plain(&entry)?)?;
@@ -144,10 +275,9 @@ fn parse_call(mut words: Words, mut budget: u32) -> Result<Call, String> {
     while let Some(word) = words.next() {
         arguments.push(Argument::parse(&plain(&word)?)?);
     }
-    let files = then.iter().map(|then| &then.file).chain([&file]);
-    if files.filter(|&file| file == "-").count() > 1 {
-        return Err("standard input is named twice".to_string());
-    }
+    let files = then.iter().map(|then| then.file.clone());
+    let files: Vec<OsString> = files.chain([file.clone()]).collect();
+    ask_standard_input_once(&files)?;
     Ok(Call {
         file,
         level,
@@ -206,10 +336,7 @@ fn parse_conversion(mut words: Words) -> Result<Conversion, String> {
 fn parse_move(mut words: Words) -> Result<Move, String> {
     let to = parse_form(&mut words, "--to")?;
     let out = words.option("-o")?;
-    let mut files = vec![words.file()?];
-    while !words.rest.is_empty() {
-        files.push(words.file()?);
-    }
+    let files = words.files()?;
     let out = out.ok_or("-o is missing: the file or the folder to write to")?;
     if files.len() > 1 && files.iter().any(|file| file == "-") {
         return Err("standard input is named beside other images".to_string());
@@ -250,73 +377,4 @@ fn parse_entry(text: &str) -> Result<Entry, String> {
 fn plain(word: &OsStr) -> Result<String, String> {
     let text = word.to_str().map(str::to_string);
     text.ok_or_else(|| format!("`{}` is not in UTF-8", word.to_string_lossy()))
-}
-
-/// The words of a command line that are not read yet.
-struct Words {
-    rest: Vec<OsString>,
-}
-
-impl Words {
-    /// All words.
-    fn new(words: &[OsString]) -> Words {
-        let rest = words.to_vec();
-        Words { rest }
-    }
-
-    /// The next word.
-    fn next(&mut self) -> Option<OsString> {
-        (!self.rest.is_empty()).then(|| self.rest.remove(0))
-    }
-
-    /// Takes out an option without a value, wherever it stands; whether it does.
-    fn flag(&mut self, name: &str) -> Result<bool, String> {
-        let all = self.rest.len();
-        self.rest.retain(|word| word != name);
-        match all - self.rest.len() {
-            0 => Ok(false),
-            1 => Ok(true),
-            _ => Err(format!("{name} stands twice")),
-        }
-    }
-
-    /// Takes out an option and its value, wherever it stands; none if it does not.
-    fn option(&mut self, name: &str) -> Result<Option<OsString>, String> {
-        let mut values = self.options(name)?;
-        if values.len() > 1 {
-            return Err(format!("{name} stands twice"));
-        }
-        Ok(values.pop())
-    }
-
-    /// Takes out the values of an option that may stand several times.
-    fn options(&mut self, name: &str) -> Result<Vec<OsString>, String> {
-        let mut values = Vec::new();
-        while let Some(place) = self.rest.iter().position(|word| word == name) {
-            self.rest.remove(place);
-            if place == self.rest.len() {
-                return Err(format!("nothing follows {name}"));
-            }
-            values.push(self.rest.remove(place));
-        }
-        Ok(values)
-    }
-
-    /// The next word as the name of a file.
-    fn file(&mut self) -> Result<OsString, String> {
-        let file = self.next().ok_or("no file is named")?;
-        let option = file != "-" && file.as_encoded_bytes().starts_with(b"-");
-        if option {
-            return Err(format!("`{}` is no option", file.to_string_lossy()));
-        }
-        Ok(file)
-    }
-
-    /// Asks that no word is left.
-    fn finish(&self) -> Result<(), String> {
-        match self.rest.first() {
-            Some(word) => Err(format!("`{}` is one too many", word.to_string_lossy())),
-            None => Ok(()),
-        }
-    }
 }

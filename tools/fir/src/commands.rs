@@ -1,64 +1,66 @@
 //! What each command does.
 
+use crate::checking;
 use crate::command::{Command, Conversion};
+use crate::debug;
+use crate::explain;
 use crate::failure::{Failure, Status};
+use crate::lint;
 use crate::moving;
-use crate::refusal;
-use crate::running::{self, answered, Manner};
+use crate::running::{self, Manner};
 use crate::source::{self, Source};
 use crate::streams::Streams;
+use crate::telling::Format;
 use crate::DONE;
-use library::{Form, Verdict};
-use std::ffi::OsStr;
 
 /// Does what a command line asks for; the exit status.
 pub fn execute(command: &Command, streams: &mut Streams) -> Result<Status, Failure> {
     match command {
-        Command::Help(text) => {
-            streams.write(text.as_bytes())?;
-            DONE
+        Command::Help(text) => print(text, streams),
+        Command::Version => print(VERSION, streams),
+        Command::Check(asked) => checking::all(asked, streams),
+        Command::Run { call, stats, json } => {
+            let manner = match stats {
+                true => Manner::Counted,
+                false => Manner::Budgets,
+            };
+            running::run(call, manner, format(*json), streams)
         }
-        Command::Check { file, form } => check(file, *form, streams),
-        Command::Run { call, stats: false } => running::run(call, Manner::Budgets, streams),
-        Command::Run { call, stats: true } => running::run(call, Manner::Counted, streams),
-        Command::Trace(call) => running::run(call, Manner::Steps, streams),
+        Command::Trace { call, json, html } => {
+            let manner = html.as_deref().map_or(Manner::Steps, Manner::Page);
+            running::run(call, manner, format(*json), streams)
+        }
+        Command::Debug(call) => debug::debug(call, streams),
+        Command::Lint(asked) => lint::all(asked, streams),
         Command::Move(asked) => moving::all(asked, streams),
         Command::Assemble(conversion) => assemble(conversion, streams),
         Command::Disassemble(conversion) => disassemble(conversion, streams),
+        Command::Explain(question) => print(&explain::text(*question), streams),
+        Command::Completion(shell) => print(&shell.script(), streams),
     }
 }
 
-/// `fir check`
-fn check(file: &OsStr, form: Form, streams: &mut Streams) -> Result<Status, Failure> {
-    let source = Source::read(file, streams)?;
-    match library::verdict_in(&source.image, form) {
-        Verdict::Accepted { .. } => {
-            streams.write(&report(&source.image, form))?;
-            DONE
-        }
-        Verdict::Refused(no) => {
-            let line = refusal::line(moving::form_of(form), &source, no);
-            answered(Status::No, streams.line(&line))
-        }
-    }
+/// What `fir --version` prints.
+const VERSION: &str = concat!("fir ", env!("CARGO_PKG_VERSION"), "\n");
+
+/// Prints a text.
+fn print(text: &str, streams: &mut Streams) -> Result<Status, Failure> {
+    streams.write(text.as_bytes())?;
+    DONE
 }
 
-/// The text that the library reports of an image in a form.
-fn report(image: &[u8], form: Form) -> Vec<u8> {
-    let mut text = vec![0; 2048];
-    loop {
-        if let Some(length) = library::report_in(image, form, &mut text) {
-            text.truncate(length);
-            return text;
-        }
-        text.resize(2 * text.len(), 0);
+/// How things are printed.
+fn format(json: bool) -> Format {
+    match json {
+        true => Format::Json,
+        false => Format::Lines,
     }
 }
 
 /// `fir asm`
 fn assemble(conversion: &Conversion, streams: &mut Streams) -> Result<Status, Failure> {
     let text = source::text_of(&conversion.file, streams)?;
-    let source = Source::text(&text, &source::name(&conversion.file))?;
+    let source = Source::text(text, &source::name(&conversion.file))?;
     source::put(conversion.out.as_ref(), &source.image, streams)?;
     DONE
 }

@@ -1,5 +1,6 @@
 //! Why a command came to no answer, and the exit status.
 
+use crate::place::Position;
 use crate::streams::Streams;
 
 /// The exit status.
@@ -7,10 +8,27 @@ use crate::streams::Streams;
 pub enum Status {
     /// Accepted, DONE, assembled.
     Yes = 0,
-    /// Refused, UNDEF, a stop, or a text that does not assemble.
+    /// Refused, or a text that does not assemble.
     No = 1,
     /// Bad usage, or a file that cannot be read or written.
     Usage = 2,
+    /// UNDEF.
+    Undef = 3,
+    /// DEEP, VECTORS or PROMISES.
+    Stopped = 4,
+    /// STEPS: the budget is used up.
+    Steps = 5,
+}
+
+/// What is wrong with a text, and where.
+#[derive(Clone, PartialEq, Eq, Debug)]
+pub struct Wrong {
+    /// What the text is called.
+    pub name: String,
+    /// Where it is wrong.
+    pub position: Position,
+    /// Why.
+    pub reason: String,
 }
 
 /// Why a command came to no answer.
@@ -21,7 +39,7 @@ pub enum Failure {
     /// A file cannot be read or written.
     File(String),
     /// A text does not assemble.
-    Text(String),
+    Text(Wrong),
     /// Whoever read the output has gone.
     Closed,
 }
@@ -42,7 +60,15 @@ impl Failure {
             Failure::Usage(Some(command), reason) => {
                 format!("fir {command}: {reason}; see `fir {command} --help`")
             }
-            Failure::File(reason) | Failure::Text(reason) => format!("fir: {reason}"),
+            Failure::File(reason) => format!("fir: {reason}"),
+            Failure::Text(wrong) => {
+                let Wrong {
+                    name,
+                    position,
+                    reason,
+                } = wrong;
+                format!("{name}:{position}: {reason}")
+            }
             Failure::Closed => return,
         };
         streams.complain(&line);

@@ -1,218 +1,243 @@
-//! The help texts.
+//! The commands with their options, and the help texts.
+
+use crate::manual::{ASM, CHECK, COMPLETION, DEBUG, DIS, EXPLAIN, LINT, MOVE, RUN, TRACE};
+use crate::options::{Opt, Takes};
 
 /// A command with its help text.
+#[derive(Debug)]
 pub struct Topic {
     /// The command's name.
     pub name: &'static str,
-    /// What `--help` prints.
-    pub help: &'static str,
+    /// What it is given besides options.
+    pub given: &'static str,
+    /// What it does, in a line.
+    pub summary: &'static str,
+    /// The options it knows.
+    pub options: &'static [Opt],
+    /// What it does, at length.
+    pub words: &'static str,
+    /// What its exit status says.
+    pub status: &'static str,
 }
 
+impl Topic {
+    /// How it is written: `fir check FILE..`, with its options in short.
+    fn usage(&self) -> String {
+        let options = match self.options.len() {
+            0 => "",
+            _ => " [OPTION..]",
+        };
+        format!("fir {} {}{options}", self.name, self.given)
+    }
+
+    /// What `--help` prints.
+    pub fn help(&self) -> String {
+        let (usage, words) = (self.usage(), self.words);
+        let mut help = format!("usage: {usage}\n\n{words}\n");
+        if !self.options.is_empty() {
+            help += "options:\n";
+        }
+        for option in self.options {
+            help += &format!("  {:<22} {}\n", option.usage(), option.words);
+        }
+        if !self.options.is_empty() {
+            help += "--NAME VALUE may be written --NAME=VALUE.\n\n";
+        }
+        help + &format!("exit status: {}\n", self.status)
+    }
+}
+
+/// What `fir --help` prints.
+pub fn all() -> String {
+    let mut help = "fir: checks, runs and moves FIR images, by the proved library\n\n".to_string();
+    help += "usage:\n";
+    for topic in &COMMANDS {
+        help += &format!("  {}\n      {}\n", topic.usage(), topic.summary);
+    }
+    help + ALL
+}
+
+/// What `fir --help` prints behind the commands.
+const ALL: &str = "  fir help COMMAND, fir COMMAND --help
+      says more of a command, and its options
+  fir --version
+      the tool's version
+
+FILE holds the text form where its name ends in .fir, and an image's bytes
+otherwise; `-` is standard input, a text or bytes by what it holds. A message on a
+text begins with FILE:LINE:COLUMN.
+
+exit status:
+  0  accepted; DONE; moved; assembled; nothing found by lint
+  1  refused; a text that does not assemble; something found by lint; a trace or a
+     conversion whose reader has gone
+  2  bad usage, or a file that cannot be read or written
+  3  UNDEF
+  4  a stop: DEEP, VECTORS or PROMISES
+  5  STEPS: the budget is used up
+";
+
+/// The status of a run.
+const RUN_STATUS: &str = "0 DONE, 1 refused, 2 bad usage, 3 UNDEF, 4 a stop (DEEP,
+VECTORS, PROMISES), 5 the budget is used up";
+
+const LEVEL: Opt = Opt {
+    name: "--level",
+    takes: Takes::One(&["portal", "staff", "factory", "0", "1", "2"]),
+    words: "the level that the run states; factory if none is named",
+};
+
+const BUDGET: Opt = Opt {
+    name: "--budget",
+    takes: Takes::Value("N"),
+    words: "the most steps, 0 to 4,294,967,295",
+};
+
+const THEN: Opt = Opt {
+    name: "--then",
+    takes: Takes::File("IMAGE@STEP"),
+    words: "goes on under IMAGE once STEP steps are taken; several may stand",
+};
+
+const JSON: Opt = Opt {
+    name: "--json",
+    takes: Takes::Nothing,
+    words: "prints JSON, an object on each line",
+};
+
+const OUT: Opt = Opt {
+    name: "-o",
+    takes: Takes::File("OUT"),
+    words: "the file to write to",
+};
+
+/// The two forms of images, by the bits of their literals.
+const FORMS: Takes = Takes::One(&["32", "64"]);
+
+/// The shells that completion is made for.
+const SHELLS: &str = "bash|zsh|fish";
+
 /// The commands.
-pub const COMMANDS: [Topic; 6] = [
+pub const COMMANDS: [Topic; 10] = [
     Topic {
         name: "check",
-        help: CHECK,
+        given: "FILE..",
+        summary: "is the image accepted, and if not, why?",
+        options: &[
+            Opt {
+                name: "--form",
+                takes: FORMS,
+                words: "the form whose questions are put; 64 bits if none is named",
+            },
+            JSON,
+        ],
+        words: CHECK,
+        status: "0 all accepted, 1 one refused or a text that does not assemble,\n2 bad usage or a file that cannot be read",
     },
     Topic {
         name: "run",
-        help: RUN,
+        given: "FILE F.V [ARGUMENT..]",
+        summary: "runs version V of function F",
+        options: &[
+            LEVEL,
+            BUDGET,
+            THEN,
+            Opt {
+                name: "--stats",
+                takes: Takes::Nothing,
+                words: "counts steps, calls and searches",
+            },
+            JSON,
+        ],
+        words: RUN,
+        status: RUN_STATUS,
     },
     Topic {
         name: "trace",
-        help: TRACE,
+        given: "FILE F.V [ARGUMENT..]",
+        summary: "the same, step by step",
+        options: &[
+            LEVEL,
+            BUDGET,
+            THEN,
+            JSON,
+            Opt {
+                name: "--html",
+                takes: Takes::File("PAGE"),
+                words: "writes a page that shows the run, in place of the lines",
+            },
+        ],
+        words: TRACE,
+        status: RUN_STATUS,
+    },
+    Topic {
+        name: "debug",
+        given: "FILE F.V [ARGUMENT..]",
+        summary: "goes through a run by commands, forward and back",
+        options: &[LEVEL, BUDGET],
+        words: DEBUG,
+        status: "0 the debugger was left, 1 refused, 2 bad usage",
+    },
+    Topic {
+        name: "lint",
+        given: "FILE..",
+        summary: "what an accepted image has and does not need",
+        options: &[
+            Opt {
+                name: "--entry",
+                takes: Takes::Value("F.V"),
+                words: "a version that runs enter; several may stand",
+            },
+            JSON,
+        ],
+        words: LINT,
+        status: "0 nothing found, 1 something found, or refused, 2 bad usage",
     },
     Topic {
         name: "move",
-        help: MOVE,
+        given: "FILE.. -o OUT",
+        summary: "stored images to 64 bits, or back",
+        options: &[
+            OUT,
+            Opt {
+                name: "--to",
+                takes: FORMS,
+                words: "the form that they are moved to; 64 bits if none is named",
+            },
+        ],
+        words: MOVE,
+        status: "0 all moved, 1 some refused, 2 bad usage or a file that cannot be\nread or written",
     },
     Topic {
         name: "asm",
-        help: ASM,
+        given: "FILE",
+        summary: "from text to image",
+        options: &[OUT],
+        words: ASM,
+        status: "0 assembled, 1 a line that is wrong, 2 bad usage",
     },
     Topic {
         name: "dis",
-        help: DIS,
+        given: "FILE",
+        summary: "from image to text",
+        options: &[OUT],
+        words: DIS,
+        status: "0 written, 2 bad usage",
+    },
+    Topic {
+        name: "explain",
+        given: "[N]",
+        summary: "what refusal N means, and how to mend it",
+        options: &[],
+        words: EXPLAIN,
+        status: "0 explained, 2 bad usage",
+    },
+    Topic {
+        name: "completion",
+        given: SHELLS,
+        summary: "a script by which a shell completes commands and options",
+        options: &[],
+        words: COMPLETION,
+        status: "0 written, 2 bad usage",
     },
 ];
-
-/// `fir --help`
-pub const ALL: &str = "\
-fir: checks, runs and moves FIR images, by the proved library
-
-usage:
-  fir check FILE [--form 32]                   is the image accepted, and if not, why?
-  fir run FILE F.V [ARGUMENT..] [--budget N]   runs version V of function F
-  fir trace FILE F.V [ARGUMENT..] [--budget N] the same, step by step
-      [--level portal|staff|factory]           both: the level that the run states
-      [--then IMAGE@STEP]..                    both: goes on under another image
-      [--stats]                                run: steps, calls and searches
-  fir move FILE.. -o OUT [--to 32|64]          stored images to 64 bits, or back
-  fir asm FILE [-o OUT]                        from text to image
-  fir dis FILE [-o OUT]                        from image to text
-
-`fir COMMAND --help` says more of a command.
-
-FILE holds the text form where its name ends in .fir, and an image's bytes
-otherwise; `-` is standard input, an image's bytes.
-
-exit status:
-  0  accepted; DONE; moved; assembled
-  1  refused; UNDEF, STEPS, DEEP, VECTORS or PROMISES; a text that does not
-     assemble; a trace or a conversion whose reader has gone
-  2  bad usage, or a file that cannot be read or written
-";
-
-const CHECK: &str = "\
-usage: fir check FILE [--form 32|64]
-
-Puts the questions 1 to 7, 14, 8, 18, 9 and 10 to an image. For an accepted one
-it prints, per version, `f.v R W U C`: how many registers its body reads before it
-assigns them, assigns, leaves empty at its end, and captures; then `accepted` and
-the number of versions. For a refused one it prints a line: the question that says
-no, the offset of the first record that fails, the line of the text if FILE is
-one, and why.
-
-The questions are those of the form in force, whose literals have 64 bits. With
---form 32 they are those of the form before, which differ in its literals alone.
-
-FILE holds the text form where its name ends in .fir, and an image's bytes
-otherwise; `-` is standard input, an image's bytes.
-
-example:
-  $ fir check wrong.fir
-  refused by 8 at 37 (line 6): SET needs an owned vector, r2 is a shared vector
-
-exit status: 0 accepted, 1 refused or a text that does not assemble, 2 bad usage
-";
-
-const RUN: &str = "\
-usage: fir run FILE F.V [ARGUMENT..] [--level L] [--budget N]
-           [--then IMAGE@STEP].. [--stats]
-
-Runs version V of function F under a budget of N steps, 10,000,000 if none is
-given, 4,294,967,295 at most. An argument is an integer such as 7 or -7, or a
-vector such as [1,2,3] or [].
-
-The run states the level L, one of portal, staff and factory, or 0, 1 and 2; where
-none is given it is the highest, factory. Version F.V is of that level or a lower
-one, or 19 refuses the run; then no version above the level is ever entered, and
-at each higher level the run is the same.
-
-It prints how the run ended and after how many steps:
-  DONE 7        with an integer
-  DONE [1, 2]   with a vector
-  UNDEF         a result is out of range, an index outside, a name unset, ..
-  STEPS         the budget is used up
-  DEEP          a 33rd activation is needed
-  VECTORS       a 65th vector is needed
-  PROMISES      a 65th promise is needed
-and, but for DONE, where the run stands. A run that is refused gets a line that
-says why.
-
-With --then the run goes on under the image of another file once STEP steps are
-taken, counted from the start; several are tried in the order of their steps.
-The new image is put to its own questions and then to 15: every version with a
-live call has the same bytes in both. Where it is refused, a line says why, with
-the version and the first byte that differs, or the version that is missing, and
-the command ends with status 1; a controller would go on under the old image. An
-image whose step the run does not come to is named as not reached.
-
-With --stats it prints at the end what the steps were, under all images:
-  steps: 26            those that counted
-  calls: 3             that CALL and DISPATCH opened
-  DISPATCH steps: 2, looked at 5 of 8 versions
-The search of a DISPATCH ends at the first version that fits, or has looked at all
-of the function where none fits; 8 is how many versions the functions of the two
-have together. Versions that are passed over for their level are looked at too. A
-DISPATCH that is stopped by DEEP is no step.
-
-A file, FILE or IMAGE, holds the text form where its name ends in .fir, and an
-image's bytes otherwise; `-` is standard input, an image's bytes.
-
-exit status: 0 DONE, 1 refused, UNDEF or a stop, 2 bad usage
-";
-
-const TRACE: &str = "\
-usage: fir trace FILE F.V [ARGUMENT..] [--level L] [--budget N]
-           [--then IMAGE@STEP]..
-
-Runs version V of function F as `fir run` does, at a level as there, but step by
-step, under a budget of N steps, 100,000 if none is given. It prints a line for
-each step: its number, the depth of calls and forces, the version and the block,
-the instruction or the end of the block, and what changed:
-  r1 = 5            a register of the step's own call
-  x1 = 5            a name of it
-  call 0: x1 = 5    one of another call
-  r1 = v0 [1, 2]    a register that holds vector 0
-  v0 = [1, 3]       the items of vector 0 are others now
-  r1 = p0           a register that holds promise 0
-  p0 is block 1 of call 0, p0 gave 5
-  r1 empty          a register that was emptied
-  r1 stays 5        nothing changed, and the register takes what it held
-  opens call 1 of 2.0, ends call 1 with 5
-  looked at 3 of 4  the versions that the search of a DISPATCH looked at, also
-                    those above its level, of those that the function has
-  forces p0 in block 1 of call 0, ends the force of p0 with 5
-  skips 3, does not skip
-Then it prints the result as `fir run` does. --then goes as there, with a line
-where the run goes on under another image.
-
-A file, FILE or IMAGE, holds the text form where its name ends in .fir, and an
-image's bytes otherwise; `-` is standard input, an image's bytes.
-
-exit status: 0 DONE, 1 refused, UNDEF or a stop, 2 bad usage
-";
-
-const MOVE: &str = "\
-usage: fir move FILE.. -o OUT [--to 32|64]
-
-Moves stored images to the form in force, whose literals have 64 bits, or with
---to 32 back to the form before. Only literals change, and there and back gives
-the same bytes; levels stay. An image is first put to the questions of the form that
-it comes from; then 16 asks that each literal fits 32 bits, and 17 that the moved
-image has at most 32,768 bytes. A refused image is not written.
-
-A single image is written to OUT, or into OUT under its own name where that is a
-folder; several are written into the folder OUT, which is made if it is missing.
-There is a line for each, and for several a count at the end; on a terminal it
-shows how far it is. An image that is refused, or cannot be read or written, does
-not stop the others.
-
-No image is written over: a command that would write to a file that it reads, or
-twice to the same, does nothing. Other files of these names are replaced. A file
-is written beside its place and then renamed, so none is ever there in part.
-
-FILE holds the text form where its name ends in .fir, and an image's bytes
-otherwise; `-` is standard input, an image's bytes. What is written are bytes, so
-its name may not end in .fir.
-
-example:
-  $ fir move old/*.bin -o new
-  old/defrost.bin: moved to new/defrost.bin, 279 bytes
-  old/spread.bin: refused by 4 at 187: the image ends where 1 more block of 1.3 is due
-  1 moved, 1 refused
-
-exit status: 0 all moved, 1 some refused, 2 bad usage or a file that cannot be
-read or written
-";
-
-const ASM: &str = "\
-usage: fir asm FILE [-o OUT]
-
-Assembles a text, whatever its name ends in, and writes the image's bytes to OUT
-or to standard output. `-` reads the text from standard input. The image is not
-checked: `fir check` does that.
-
-exit status: 0 assembled, 1 a line that is wrong, 2 bad usage
-";
-
-const DIS: &str = "\
-usage: fir dis FILE [-o OUT]
-
-Writes the text of an image, whatever its name ends in and whether or not it is
-accepted, to OUT or to standard output. `-` reads the image from standard input.
-`fir asm` makes the same bytes of the text.
-
-exit status: 0 written, 2 bad usage
-";

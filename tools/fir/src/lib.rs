@@ -6,12 +6,21 @@
 //! files that are written whole.
 
 mod arguments;
+mod checking;
 mod command;
 mod commands;
+mod completion;
+mod debug;
+mod explain;
 mod failure;
 mod help;
+mod json;
+mod lint;
+mod manual;
 mod moving;
 mod number;
+mod options;
+mod page;
 mod place;
 mod refusal;
 mod running;
@@ -19,6 +28,7 @@ mod single;
 mod source;
 mod stats;
 mod streams;
+mod telling;
 mod trace;
 
 pub use streams::Streams;

@@ -8,12 +8,13 @@ use std::process::ExitCode;
 fn main() -> ExitCode {
     let arguments: Vec<OsString> = env::args_os().skip(1).collect();
     let (input, output, errors) = (io::stdin(), io::stdout(), io::stderr());
-    let terminal = errors.is_terminal();
+    let (terminal, interactive) = (errors.is_terminal(), input.is_terminal());
     let mut streams = fir::Streams {
         input: &mut input.lock(),
         output: &mut io::BufWriter::new(output.lock()),
         errors: &mut errors.lock(),
         terminal,
+        interactive,
     };
     fir::run(&arguments, &mut streams).into()
 }

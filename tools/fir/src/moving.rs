@@ -177,8 +177,8 @@ fn one(planned: &Planned, to: Form, streams: &mut Streams) -> Result<Done, Failu
             Ok(Done::Moved(format!("{name}: moved to {out}, {bytes}")))
         }
         Err(no) => {
-            let words = refusal::of_move(form_of(to).other(), &source, no);
-            Ok(Done::Refused(format!("{name}: {words}")))
+            let refused = refusal::of_move(form_of(to).other(), &source, no);
+            Ok(Done::Refused(refused.line_of_several(&source)))
         }
     }
 }

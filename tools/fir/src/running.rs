@@ -4,30 +4,33 @@
 use crate::arguments::words;
 use crate::command::Call;
 use crate::failure::{Failure, Status};
-use crate::number::many;
-use crate::refusal;
+use crate::page::Recorder;
+use crate::refusal::{self, Refused};
 use crate::source::{self, Source};
 use crate::stats::Stats;
 use crate::streams::Streams;
+use crate::telling::{self, Ending, Format, Tried};
 use crate::trace;
-use library::{Answer, End, Ran, Refusal, Run, FIR_ITEMS};
+use library::{Ran, Refusal, Run, FIR_ITEMS};
+use std::ffi::OsStr;
+use std::fs;
 
 /// How the steps of a run are taken.
 #[derive(Clone, Copy, PartialEq, Eq, Debug)]
-pub enum Manner {
+pub enum Manner<'a> {
     /// By budgets: nothing is printed of them.
     Budgets,
     /// One by one: what they were is counted, and the sums are printed.
     Counted,
-    /// One by one: each gets a line.
+    /// One by one: each is printed.
     Steps,
+    /// One by one: a page that shows them is written to a file.
+    Page(&'a OsStr),
 }
 
 /// An image that a run is to go on under.
 struct Next {
     source: Source,
-    /// What it is called in a message.
-    name: String,
     /// After how many steps.
     step: u32,
 }
@@ -39,7 +42,6 @@ impl Next {
         for then in &call.then {
             all.push(Next {
                 source: Source::read(&then.file, streams)?,
-                name: source::name(&then.file),
                 step: then.step,
             });
         }
@@ -47,30 +49,55 @@ impl Next {
     }
 }
 
+/// Asks that a page is not written over an image that is read.
+fn ask_page_apart(call: &Call, manner: Manner) -> Result<(), Failure> {
+    let Manner::Page(page) = manner else {
+        return Ok(());
+    };
+    let files = call.then.iter().map(|then| &then.file).chain([&call.file]);
+    let mut read = files.filter_map(|file| fs::canonicalize(file).ok());
+    match fs::canonicalize(page) {
+        Ok(page) if read.any(|file| file == page) => {
+            let reason = format!("`{}` would be written over", page.display());
+            Err(Failure::Usage(Some("trace"), reason))
+        }
+        _ => Ok(()),
+    }
+}
+
+/// Begins a run that is asked for, of the image of its file.
+pub fn begin<'s>(source: &'s Source, call: &Call) -> Result<Run<'s>, Refused> {
+    let words = words(&call.arguments);
+    let (image, buffer) = (&source.image, [0; FIR_ITEMS]);
+    Run::begin(image, call.level, call.entry, &words, &buffer)
+        .map_err(|no| refusal::of_run(source, no, call))
+}
+
 /// Does a run that is asked for; the exit status.
-pub fn run(call: &Call, manner: Manner, streams: &mut Streams) -> Result<Status, Failure> {
+pub fn run(
+    call: &Call,
+    manner: Manner,
+    format: Format,
+    streams: &mut Streams,
+) -> Result<Status, Failure> {
     let source = Source::read(&call.file, streams)?;
     let changes = Next::read_all(call, streams)?;
-    let words = words(&call.arguments);
-    let begun = Run::begin(
-        &source.image,
-        call.level,
-        call.entry,
-        &words,
-        &[0; FIR_ITEMS],
-    );
-    let run = match begun {
+    let run = match begin(&source, call) {
         Ok(run) => run,
-        Err(no) => {
-            let line = refusal::of_run(&source, no, call);
-            return answered(Status::No, streams.line(&line));
+        Err(refused) => {
+            let told = format.refused(&source, &refused, streams);
+            return answered(Status::No, told);
         }
     };
+    ask_page_apart(call, manner)?;
+    let page = matches!(manner, Manner::Page(_));
     let mut going = Going {
+        recorder: page.then(|| Recorder::new(&source, run.state())),
         run,
         source: &source,
         steps: 0,
         manner,
+        format,
         stats: Stats::default(),
     };
     for (index, next) in changes.iter().enumerate() {
@@ -78,14 +105,9 @@ pub fn run(call: &Call, manner: Manner, streams: &mut Streams) -> Result<Status,
         if going.steps < next.step {
             return going.finish(&changes[index..], streams);
         }
-        let after = format!("after {}", many(going.steps as usize, "step"));
-        if let Err(no) = going.change(&next.source) {
-            let words = refusal::of_change(going.source, &next.source, no, going.run.state());
-            let told = streams.line(&format!("{after}, {}: {words}", next.name));
-            let told = told.and_then(|()| going.stand(streams));
-            return answered(Status::No, told.and_then(|()| going.count(streams)));
+        if let Err(refused) = going.change(&next.source, streams)? {
+            return going.leave(&refused, &next.source, streams);
         }
-        streams.line(&format!("{after}: goes on under {}", next.name))?;
     }
     going.go_to(call.budget, streams)?;
     going.finish(&[], streams)
@@ -99,73 +121,132 @@ struct Going<'s> {
     /// The steps taken so far.
     steps: u32,
     /// How they are taken.
-    manner: Manner,
+    manner: Manner<'s>,
+    /// How things are printed.
+    format: Format,
     /// What is counted of them, if it is.
     stats: Stats,
+    /// What the page shows, if there is one.
+    recorder: Option<Recorder>,
 }
 
 impl<'s> Going<'s> {
     /// Takes steps until so many are taken in all, or the run has ended.
     fn go_to(&mut self, steps: u32, streams: &mut Streams) -> Result<(), Failure> {
-        match self.manner {
+        let (source, format) = (self.source, self.format);
+        let (run, taken) = (&mut self.run, self.steps);
+        self.steps = match self.manner {
             Manner::Budgets => {
-                let budget = steps.saturating_sub(self.steps);
-                self.steps += self.run.budget(budget, &mut [0; FIR_ITEMS]).steps;
+                let budget = steps.saturating_sub(taken);
+                taken + run.budget(budget, &mut [0; FIR_ITEMS]).steps
             }
-            Manner::Counted => self.steps = self.stats.steps(&mut self.run, self.steps, steps),
-            Manner::Steps => self.steps = trace::steps(&mut self.run, self.steps, steps, streams)?,
-        }
+            Manner::Counted => self.stats.steps(run, taken, steps),
+            Manner::Steps => trace::steps(run, taken, steps, &mut |step, after| {
+                format.step(source, step, after, streams)
+            })?,
+            Manner::Page(_) => {
+                let recorder = &mut self.recorder;
+                trace::steps(run, taken, steps, &mut |step, after| {
+                    recorder
+                        .iter_mut()
+                        .for_each(|page| page.record(step, after));
+                    Ok(())
+                })?
+            }
+        };
         Ok(())
     }
 
     /// Goes on under another image, unless that is refused.
-    fn change(&mut self, source: &'s Source) -> Result<(), Refusal> {
-        self.run.change(&source.image)?;
+    fn change(
+        &mut self,
+        source: &'s Source,
+        streams: &mut Streams,
+    ) -> Result<Result<(), Refused>, Failure> {
+        if let Err(no) = self.run.change(&source.image) {
+            return Ok(Err(self.refused(source, no)));
+        }
         self.source = source;
-        Ok(())
+        let state = self.run.state();
+        let page = self.recorder.iter_mut();
+        page.for_each(|page| page.change(source, state));
+        let tried = self.tried(source);
+        self.format.changed(&tried, None, streams).map(Ok)
+    }
+
+    /// Why another image is refused.
+    fn refused(&self, new: &Source, no: Refusal) -> Refused {
+        refusal::of_change(self.source, new, no, self.run.state())
+    }
+
+    /// Another image that is tried now.
+    fn tried<'r>(&self, new: &'r Source) -> Tried<'r> {
+        let steps = self.steps;
+        Tried { steps, new }
+    }
+
+    /// Prints that another image is refused, and where the run stands; the exit status.
+    fn leave(
+        mut self,
+        refused: &Refused,
+        new: &Source,
+        streams: &mut Streams,
+    ) -> Result<Status, Failure> {
+        let tried = self.tried(new);
+        let told = self.format.changed(&tried, Some(refused), streams);
+        let format = self.format;
+        let mut buffer = [0; FIR_ITEMS];
+        let ending = self.ending(&[], &mut buffer);
+        let told = told.and_then(|()| format.left(&ending, streams));
+        self.write_page(&refused.plain(), streams)?;
+        answered(Status::No, told)
     }
 
     /// Prints how the run ended, and the images that it did not come to; the exit status.
     fn finish(mut self, left: &[Next], streams: &mut Streams) -> Result<Status, Failure> {
+        let format = self.format;
         let mut buffer = [0; FIR_ITEMS];
-        let Ran { answer, .. } = self.run.budget(0, &mut buffer);
-        answered(status(answer), self.tell(answer, &buffer, left, streams))
+        let ending = self.ending(left, &mut buffer);
+        let status = telling::status(ending.answer);
+        let result = telling::words_of(ending.answer, ending.buffer);
+        let told = format.ended(&ending, streams);
+        self.write_page(&result, streams)?;
+        answered(status, told)
     }
 
-    /// Prints the answer, where the run stands unless it is DONE, what is left, and
-    /// what was counted.
-    fn tell(
-        &self,
-        answer: Answer,
-        buffer: &[i64],
-        left: &[Next],
-        streams: &mut Streams,
-    ) -> Result<(), Failure> {
-        let steps = many(self.steps as usize, "step");
-        streams.line(&format!("{} after {steps}", words_of(answer, buffer)))?;
-        if status(answer) == Status::No {
-            self.stand(streams)?;
-        }
-        for Next { name, step, .. } in left {
-            streams.line(&format!("  not reached: {name}@{step}"))?;
-        }
-        self.count(streams)
-    }
-
-    /// Prints what was counted, if it was.
-    fn count(&self, streams: &mut Streams) -> Result<(), Failure> {
-        match self.manner {
-            Manner::Counted => self.stats.tell(self.steps, streams),
-            Manner::Budgets | Manner::Steps => Ok(()),
+    /// Writes the page of the run, which came to this, if one is asked for.
+    fn write_page(self, result: &str, streams: &mut Streams) -> Result<(), Failure> {
+        match (self.manner, self.recorder) {
+            (Manner::Page(file), Some(recorder)) => {
+                let page = recorder.page(result);
+                source::put(Some(&file.to_os_string()), page.as_bytes(), streams)
+            }
+            _ => Ok(()),
         }
     }
 
-    /// Prints where the run stands.
-    fn stand(&self, streams: &mut Streams) -> Result<(), Failure> {
-        match trace::standing(self.source, self.run.state()) {
-            Some(standing) => streams.line(&format!("  {standing}")),
-            None => Ok(()),
+    /// How the run ended, or where it stands.
+    fn ending<'r>(&'r mut self, left: &[Next], buffer: &'r mut [i64]) -> Ending<'r> {
+        let Ran { answer, .. } = self.run.budget(0, buffer);
+        let done = telling::status(answer) == Status::Yes;
+        let standing = trace::standing(self.source, &self.run);
+        let counted = self.manner == Manner::Counted;
+        Ending {
+            answer,
+            buffer,
+            steps: self.steps,
+            source: self.source,
+            standing: standing.filter(|_| !done),
+            left: left.iter().map(Next::named).collect(),
+            stats: counted.then_some(&self.stats),
         }
+    }
+}
+
+impl Next {
+    /// The image and its step: `new.fir@100`.
+    fn named(&self) -> String {
+        format!("{}@{}", self.source.name, self.step)
     }
 }
 
@@ -174,28 +255,5 @@ pub fn answered(status: Status, told: Result<(), Failure>) -> Result<Status, Fai
     match told {
         Ok(()) | Err(Failure::Closed) => Ok(status),
         Err(failure) => Err(failure),
-    }
-}
-
-/// The exit status of an answer.
-fn status(answer: Answer) -> Status {
-    match answer {
-        Answer::Ended(End::Integer(_) | End::Vector(_)) => Status::Yes,
-        _ => Status::No,
-    }
-}
-
-/// An answer, with what the run is DONE with.
-fn words_of(answer: Answer, buffer: &[i64]) -> String {
-    match answer {
-        Answer::Ended(End::Integer(integer)) => format!("DONE {integer}"),
-        Answer::Ended(End::Vector(length)) => format!("DONE {:?}", &buffer[..length]),
-        Answer::Ended(End::Undef) => "UNDEF".to_string(),
-        Answer::Ended(End::Deep) => "DEEP".to_string(),
-        Answer::Ended(End::Vectors) => "VECTORS".to_string(),
-        Answer::Ended(End::Promises) => "PROMISES".to_string(),
-        Answer::Steps => "STEPS".to_string(),
-        Answer::Stuck => "STUCK".to_string(),
-        Answer::Refused(no) => format!("refused by {}", no.question),
     }
 }

@@ -1,7 +1,9 @@
 //! Files: an image as bytes or as text, and where its records stand in the text.
 
-use crate::failure::Failure;
+use crate::failure::{Failure, Wrong};
+use crate::place::Position;
 use crate::streams::Streams;
+use reference::record::HEAD;
 use std::ffi::{OsStr, OsString};
 use std::fs::{self, File};
 use std::io::{Read, Result as Reading};
@@ -13,48 +15,110 @@ const MOST_BYTES: usize = 16 << 20;
 /// The extension of texts.
 const TEXT: &str = "fir";
 
-/// An image, with the lines of its text if it came from one.
-#[derive(Debug)]
+/// An image, with its text if it came from one.
+#[derive(Clone, Debug)]
 pub struct Source {
+    /// What it is called in a message.
+    pub name: String,
     /// The image.
     pub image: Vec<u8>,
+    /// The text; none for an image from bytes.
+    pub text: Option<String>,
     /// Offsets with their lines, in order; empty for an image from bytes.
     lines: Vec<(usize, usize)>,
+    /// The column of the first word of each line.
+    columns: Vec<usize>,
 }
 
 impl Source {
-    /// An image from bytes.
-    pub fn bytes(image: Vec<u8>) -> Source {
-        let lines = Vec::new();
-        Source { image, lines }
-    }
-
-    /// The image of a text; `name` is what the text is called in a failure.
-    pub fn text(text: &str, name: &str) -> Result<Source, Failure> {
-        let lined = text::assemble_lined(text)
-            .map_err(|error| Failure::Text(format!("{name}: {error}")))?;
-        Ok(Source {
-            image: lined.image,
-            lines: lined.lines,
-        })
-    }
-
-    /// The image of a file: from its text where the name ends in `.fir`, else from its bytes.
-    pub fn read(file: &OsStr, streams: &mut Streams) -> Result<Source, Failure> {
-        if is_text(Path::new(file)) {
-            Source::text(&text_of(file, streams)?, &name(file))
-        } else {
-            bytes_of(file, streams).map(Source::bytes)
+    /// An image from bytes; `name` is what it is called in a message.
+    pub fn bytes(image: Vec<u8>, name: &str) -> Source {
+        Source {
+            name: name.to_string(),
+            image,
+            text: None,
+            lines: Vec::new(),
+            columns: Vec::new(),
         }
+    }
+
+    /// The image of a text; `name` is what the text is called in a message.
+    pub fn text(text: String, name: &str) -> Result<Source, Failure> {
+        let name = name.to_string();
+        match text::assemble_lined(&text) {
+            Ok(lined) => Ok(Source {
+                name,
+                image: lined.image,
+                lines: lined.lines,
+                columns: text.lines().map(text::first_column).collect(),
+                text: Some(text),
+            }),
+            Err(error) => Err(Failure::Text(Wrong {
+                name,
+                position: Position {
+                    line: error.line,
+                    column: error.column,
+                },
+                reason: error.reason,
+            })),
+        }
+    }
+
+    /// The image of a file: from its text where the name ends in `.fir`, else from its
+    /// bytes; standard input is a text where it looks like one.
+    pub fn read(file: &OsStr, streams: &mut Streams) -> Result<Source, Failure> {
+        let (bytes, name) = (bytes_of(file, streams)?, name(file));
+        let is_text = is_text(Path::new(file)) || (file == "-" && looks_like_text(&bytes));
+        if is_text {
+            Source::text(text_from(bytes, &name)?, &name)
+        } else {
+            Ok(Source::bytes(bytes, &name))
+        }
+    }
+
+    /// The same image with a text in any case: bytes get that of `fir dis`.
+    pub fn readable(self) -> Source {
+        if self.text.is_some() {
+            return self;
+        }
+        let name = format!("{}, disassembled", self.name);
+        let readable = Source::text(text::disassemble(&self.image), &name);
+        readable.unwrap_or(self)
     }
 
     /// The line of the record at an offset; none for an image from bytes, and
     /// none behind the last record.
     pub fn line(&self, offset: usize) -> Option<usize> {
-        let before = self.lines.iter().take_while(|&&(first, _)| first <= offset);
+        let behind = self.lines.partition_point(|&(first, _)| first <= offset);
         let inside = offset < self.image.len();
-        before.last().filter(|_| inside).map(|&(_, line)| line)
+        let record = behind.checked_sub(1).filter(|_| inside)?;
+        self.lines.get(record).map(|&(_, line)| line)
     }
+
+    /// Where the record at an offset stands in the text; behind the last record, where
+    /// the text ends; none for an image from bytes.
+    pub fn position(&self, offset: usize) -> Option<Position> {
+        self.text.as_ref()?;
+        let last = self.columns.len().max(1);
+        let line = self.line(offset).unwrap_or(last);
+        let column = self.columns.get(line - 1).copied().unwrap_or(1);
+        Some(Position { line, column })
+    }
+
+    /// Where a register of the version at an offset is declared in the text.
+    pub fn declared(&self, version: usize, register: usize) -> Option<Position> {
+        let (text, register) = (self.text.as_ref()?, u8::try_from(register).ok()?);
+        let (line, column) = text::declaration(text, self.line(version)?, register)?;
+        Some(Position { line, column })
+    }
+}
+
+/// Are these the bytes of a text? An image that has a whole record has bytes that no text
+/// has: the upper byte of each kind is 0.
+fn looks_like_text(bytes: &[u8]) -> bool {
+    let plain = |sign: char| !sign.is_control() || sign.is_ascii_whitespace();
+    let is_text = |text: &str| text.chars().all(plain) && text.contains(char::is_alphanumeric);
+    bytes.len() >= HEAD && std::str::from_utf8(bytes).is_ok_and(is_text)
 }
 
 /// Does a file hold the text form, by its name?
@@ -95,11 +159,23 @@ fn limited(input: &mut dyn Read) -> Reading<Vec<u8>> {
 
 /// The text of a file, of standard input for `-`.
 pub fn text_of(file: &OsStr, streams: &mut Streams) -> Result<String, Failure> {
-    let bytes = bytes_of(file, streams)?;
+    text_from(bytes_of(file, streams)?, &name(file))
+}
+
+/// The text that bytes make; `name` is what it is called in a failure.
+fn text_from(bytes: Vec<u8>, name: &str) -> Result<String, Failure> {
     String::from_utf8(bytes).map_err(|error| {
         let before = &error.as_bytes()[..error.utf8_error().valid_up_to()];
-        let line = 1 + before.iter().filter(|&&byte| byte == b'\n').count();
-        Failure::Text(format!("{}: line {line}: not in UTF-8", name(file)))
+        let before = String::from_utf8_lossy(before);
+        let line = before.rsplit('\n').next().unwrap_or_default();
+        Failure::Text(Wrong {
+            name: name.to_string(),
+            position: Position {
+                line: 1 + before.matches('\n').count(),
+                column: 1 + line.chars().count(),
+            },
+            reason: "not in UTF-8".to_string(),
+        })
     })
 }
 

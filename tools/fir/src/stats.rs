@@ -1,6 +1,7 @@
 //! `fir run --stats`: what the steps of a run were, counted one by one.
 
 use crate::failure::Failure;
+use crate::json::Json;
 use crate::single::Single;
 use crate::streams::Streams;
 use library::{Run, Search};
@@ -60,5 +61,16 @@ impl Stats {
         streams.line(&format!(
             "  DISPATCH steps: {dispatches}, looked at {looked} of {versions} versions"
         ))
+    }
+
+    /// What was counted of so many steps, as an object.
+    pub fn json(&self, steps: u32) -> Json {
+        Json::Object(vec![
+            ("steps", steps.into()),
+            ("calls", self.calls.into()),
+            ("dispatches", self.dispatches.into()),
+            ("looked_at", self.looked.into()),
+            ("of_versions", self.versions.into()),
+        ])
     }
 }

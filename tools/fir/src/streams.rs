@@ -13,6 +13,8 @@ pub struct Streams<'a> {
     pub errors: &'a mut dyn Write,
     /// Do complaints go to a terminal, which also shows how far a command is?
     pub terminal: bool,
+    /// Does the input come from a terminal, where somebody waits for a prompt?
+    pub interactive: bool,
 }
 
 impl Streams<'_> {
@@ -35,6 +37,32 @@ impl Streams<'_> {
     pub fn complain(&mut self, line: &str) {
         let _ = self.flush();
         let _ = writeln!(self.errors, "{line}");
+    }
+}
+
+/// The most bytes of a line that is read.
+const LINE_BYTES: usize = 4096;
+
+impl Streams<'_> {
+    /// The next line of the input, without its end; none at the end of the input.
+    pub fn input_line(&mut self) -> Result<Option<String>, Failure> {
+        let (mut line, mut byte) = (Vec::new(), [0]);
+        loop {
+            let read = self.input.read(&mut byte);
+            let read = read.map_err(|error| {
+                Failure::File(format!("standard input: cannot be read: {error}"))
+            })?;
+            let ended = read == 0;
+            if ended && line.is_empty() {
+                return Ok(None);
+            }
+            if ended || byte[0] == b'\n' {
+                return Ok(Some(String::from_utf8_lossy(&line).into_owned()));
+            }
+            if line.len() < LINE_BYTES {
+                line.push(byte[0]);
+            }
+        }
     }
 }
 

@@ -3,7 +3,7 @@
 mod support;
 
 use cases::{adding, image};
-use support::{file, fir, Done};
+use support::{file, fir, Done, STEPS};
 
 /// Runs 0.0 of a text with 5, and goes on under other texts after so many steps; what
 /// is done, with the files' names as `old.fir` and `new0.fir`, `new1.fir` ..
@@ -80,8 +80,8 @@ fn a_version_that_differs_is_named_with_the_byte_in_both_images() {
     // 1.0 is live after 1 step. Its VERSION has 12 bytes, its LEVEL 5, its BLOCK 7, and
     // LIT's integer begins at byte 5 of its record.
     let refused =
-        "after 1 step, new0.fir: refused by 15 at 41 (line 6): 1.0 has a live call and differs: ";
-    let stands = "  at 65 (line 10) in 1.0, block 0: r1 = lit 1\n";
+        "new0.fir:6:1: refused by 15 at 41 after 1 step: 1.0 has a live call and differs: ";
+    let stands = "old.fir:10:5: at 65 in 1.0, block 0: r1 = lit 1\n";
     for (there, other, words) in [
         (
             "lit 1\n",
@@ -127,9 +127,9 @@ fn a_version_that_moved_is_named_at_both_places() {
     did(
         &done,
         1,
-        "after 1 step, new0.fir: refused by 15 at 64 (line 9): 1.0 has a live call and differs: \
+        "new0.fir:9:1: refused by 15 at 64 after 1 step: 1.0 has a live call and differs: \
          byte 93 (line 13) is 2, and was 1 at 70 (line 10) of the old image
-  at 65 (line 10) in 1.0, block 0: r1 = lit 1
+old.fir:10:5: at 65 in 1.0, block 0: r1 = lit 1
 ",
     );
     // The same one may move.
@@ -150,7 +150,7 @@ fn a_version_that_is_missing_is_named() {
         &done,
         1,
         &format!(
-            "after 1 step, {new}: refused by 15 at 23: 0.1 has a live call and is missing
+            "{new}: refused by 15 at 23 after 1 step: 0.1 has a live call and is missing
   at 16 in 0.0, block 0: end -> r0
 "
         ),
@@ -163,7 +163,7 @@ fn a_new_image_is_put_to_its_own_questions_first() {
     let done = changed("own", "run", &adding(1), &[(&new, 1)], &[]);
     assert!(
         done.text()
-            .starts_with("after 1 step, new0.fir: refused by 7 at 23 (line 4): "),
+            .starts_with("new0.fir:4:5: refused by 7 at 23 after 1 step: "),
         "{}",
         done.text()
     );
@@ -172,8 +172,8 @@ fn a_new_image_is_put_to_its_own_questions_first() {
     did(
         &done,
         1,
-        "after 1 step, new0.fir: refused by 1 at 0: the image is empty, and has 1 to 32,768 bytes
-  at 65 (line 10) in 1.0, block 0: r1 = lit 1
+        "new0.fir: refused by 1 at 0 after 1 step: the image is empty, and has 1 to 32,768 bytes
+old.fir:10:5: at 65 in 1.0, block 0: r1 = lit 1
 ",
     );
 }
@@ -190,8 +190,8 @@ fn an_image_whose_step_is_not_reached_is_named() {
     let done = changed("reached", "run", &adding(1), &new[..1], &["--budget", "2"]);
     did(
         &done,
-        1,
-        "STEPS after 2 steps\n  at 78 (line 11) in 1.0, block 0: r0 = add r0, r1\n  not reached: new0.fir@10\n",
+        STEPS,
+        "STEPS after 2 steps\nold.fir:11:5: at 78 in 1.0, block 0: r0 = add r0, r1\n  not reached: new0.fir@10\n",
     );
 }
 
@@ -206,8 +206,8 @@ fn a_budget_that_is_used_up_at_the_step_comes_to_the_change() {
     );
     did(
         &done,
-        1,
-        "after 4 steps: goes on under new0.fir\nSTEPS after 4 steps\n  at 32 (line 5) in 0.0, block 0: r0 = call 1.0(r0)\n",
+        STEPS,
+        "after 4 steps: goes on under new0.fir\nSTEPS after 4 steps\nnew0.fir:5:5: at 32 in 0.0, block 0: r0 = call 1.0(r0)\n",
     );
 }
 
@@ -216,16 +216,16 @@ fn places_are_those_of_the_image_in_force() {
     let shifted = format!("# One line more.\n{}", adding(9));
     let new = [(&shifted[..], 4), (&adding(8), 5)];
     let done = changed("places", "run", &adding(1), &new[..1], &["--budget", "4"]);
-    let end = "STEPS after 4 steps\n  at 32 (line 6) in 0.0, block 0: r0 = call 1.0(r0)\n";
+    let end = "STEPS after 4 steps\nnew0.fir:6:5: at 32 in 0.0, block 0: r0 = call 1.0(r0)\n";
     assert!(done.text().ends_with(end), "{}", done.text());
     let done = changed("places", "run", &adding(1), &new, &[]);
     did(
         &done,
         1,
         "after 4 steps: goes on under new0.fir
-after 5 steps, new1.fir: refused by 15 at 41 (line 6): 1.0 has a live call and differs: \
+new1.fir:6:1: refused by 15 at 41 after 5 steps: 1.0 has a live call and differs: \
 byte 70 (line 10) is 8, and was 9 at 70 (line 11) of the old image
-  at 65 (line 11) in 1.0, block 0: r1 = lit 9
+new0.fir:11:5: at 65 in 1.0, block 0: r1 = lit 9
 ",
     );
 }
@@ -243,8 +243,7 @@ fn an_ended_run_may_go_on_under_another_image_too() {
     let old = adding(i64::MAX);
     let done = changed("ended", "run", &old, &[(other, 3)], &[]);
     let text = done.text();
-    let begin =
-        "after 3 steps, new0.fir: refused by 15 at 0 (line 1): 0.0 has a live call and differs: ";
+    let begin = "new0.fir:1:1: refused by 15 at 0 after 3 steps: 0.0 has a live call and differs: ";
     assert!(text.starts_with(begin), "{text}");
     let end = ": r0 = add r0, r1: 5 + 9223372036854775807 is out of range\n";
     assert!(text.ends_with(end), "{text}");

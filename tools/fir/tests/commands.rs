@@ -4,7 +4,7 @@ mod support;
 
 use cases::image;
 use std::fs;
-use support::{file, fir, Done};
+use support::{file, fir, Done, STEPS, STOPPED, UNDEF};
 
 /// The identity on integers.
 const IDENTITY: &str = "version 0.0(r0: int) -> int\n  level portal\n  block 0 quiet -> r0\n";
@@ -63,12 +63,12 @@ fn a_text_that_does_not_assemble_is_a_no_with_its_line() {
         "wrong.fir",
         b"version 0.0(r0: int) -> int\n\n  r0 = lot 4\n",
     );
-    let reason = format!("fir: {text}: line 3: expected an instruction, found `lot`\n");
+    let reason = format!("{text}:3:8: expected an instruction, found `lot`\n");
     did(&fir(&["check", &text], b""), 1, "", &reason);
     did(&fir(&["run", &text, "0.0", "1"], b""), 1, "", &reason);
     did(&fir(&["asm", &text], b""), 1, "", &reason);
     let bytes = file("check", "bytes.fir", b"# one\n# \xFF\n");
-    let reason = format!("fir: {bytes}: line 2: not in UTF-8\n");
+    let reason = format!("{bytes}:2:3: not in UTF-8\n");
     did(&fir(&["check", &bytes], b""), 1, "", &reason);
 }
 
@@ -107,19 +107,19 @@ fn run_says_where_it_stands_unless_it_is_done() {
     let (identity, put) = (image(IDENTITY), image(PUT));
     did(
         &fir(&["run", "-", "0.0", "[]", "4"], &put),
-        1,
+        UNDEF,
         "UNDEF after 3 steps\n  at 45 in 0.0, block 0: set r2[r3] = r1: index 0 is outside of v1 []\n",
         "",
     );
     did(
         &fir(&["run", "-", "0.0", "[1]", "4", "--budget", "1"], &put),
-        1,
+        STEPS,
         "STEPS after 1 step\n  at 32 in 0.0, block 0: r3 = lit 0\n",
         "",
     );
     did(
         &fir(&["run", "--budget", "0", "-", "0.0", "7"], &identity),
-        1,
+        STEPS,
         "STEPS after 0 steps\n  at 16 in 0.0, block 0: end -> r0\n",
         "",
     );
@@ -139,7 +139,7 @@ fn run_prints_the_three_stops() {
     let deep = fir(&["run", "-", "0.0", "1"], &body("r0 = call 0.0(r0)"));
     did(
         &deep,
-        1,
+        STOPPED,
         "DEEP after 31 steps\n  at 29 in 0.0, block 0: r0 = call 0.0(r0)\n",
         "",
     );
@@ -148,7 +148,7 @@ fn run_prints_the_three_stops() {
     let done = fir(&["run", "-", "0.0", "1"], &vectors);
     did(
         &done,
-        1,
+        STOPPED,
         "VECTORS after 85 steps\n  at 35 in 0.0, block 0: r2 = vec []\n",
         "",
     );
@@ -159,7 +159,7 @@ fn run_prints_the_three_stops() {
     let done = fir(&["run", "-", "0.0", "1"], &promises);
     did(
         &done,
-        1,
+        STOPPED,
         "PROMISES after 85 steps\n  at 35 in 0.0, block 0: r5 = prom 2\n",
         "",
     );
@@ -256,7 +256,7 @@ fn bad_usage_is_named() {
         (&[], "fir: no command is given; see `fir --help`"),
         (&["chek"], "fir: `chek` is no command; see `fir --help`"),
         (&["check"], "fir check: no file is named; see `fir check --help`"),
-        (&["check", "a", "b"], "fir check: `b` is one too many; see `fir check --help`"),
+        (&["dis", "a", "b"], "fir dis: `b` is one too many; see `fir dis --help`"),
         (&["check", "--all"], "fir check: `--all` is no option; see `fir check --help`"),
         (&["run", "a"], "fir run: no version is named, such as 0.0; see `fir run --help`"),
         (&["run", "a", "0"], "fir run: `0` names no version; write one such as 0.0; see `fir run --help`"),

@@ -128,8 +128,8 @@ fn refusals_in_the_form_of_32_bits_have_words_too() {
 
 #[test]
 fn a_form_is_32_or_64() {
-    for (command, option) in [("check", "--form"), ("move", "--to")] {
-        let done = fir(&[command, "-", option, "33", "-o", "x"], b"");
+    for (command, option, out) in [("check", "--form", &[][..]), ("move", "--to", &["-o", "x"])] {
+        let done = fir(&[&[command, "-", option, "33"], out].concat(), b"");
         let reason = format!("{option} is 32 or 64, not `33`");
         let line = format!("fir {command}: {reason}; see `fir {command} --help`\n");
         did(&done, 2, "", &line);
@@ -177,8 +177,9 @@ fn refusals_have_words_and_write_nothing() {
     let out = format!("{folder}/out");
     let text = put(&folder, "large.fir", LARGE.as_bytes());
     let done = fir(&["move", &text, "-o", &out, "--to", "32"], b"");
-    let line = "refused by 16 at 36 (line 7): LIT has 2147483648, and 32 bits hold -2147483648 to 2147483647";
-    did(&done, 1, &format!("{text}: {line}\n"), "");
+    let line =
+        "refused by 16 at 36: LIT has 2147483648, and 32 bits hold -2147483648 to 2147483647";
+    did(&done, 1, &format!("{text}:7:5: {line}\n"), "");
     let long = put(&folder, "long", &too_long());
     let line = "refused by 17 at 0: moved it would have 33920 bytes, and 32,768 are the most";
     did(

@@ -6,7 +6,7 @@ use cases::image;
 use std::fs::OpenOptions;
 use std::io::{Read, Write};
 use std::process::{Command, Output, Stdio};
-use support::file;
+use support::{file, STEPS};
 
 /// The program with arguments.
 fn program(arguments: &[&str]) -> Command {
@@ -53,7 +53,7 @@ fn the_exit_status_says_how_it_went() {
     assert_eq!((done.status.code(), &done.stderr[..]), (Some(0), &b""[..]));
     let stopped = output(&["run", &long, "0.0", "0", "--budget", "44"]);
     assert!(stopped.stdout.starts_with(b"STEPS after 44 steps\n"));
-    assert_eq!(stopped.status.code(), Some(1));
+    assert_eq!(stopped.status.code(), Some(i32::from(STEPS)));
     let refused = output(&["run", &long, "9.0"]);
     assert!(refused.stdout.starts_with(b"refused by 11 at 0: "));
     assert_eq!(refused.status.code(), Some(1));

@@ -253,11 +253,11 @@ fn question_6_names_the_type_byte() {
         format!("version 0.0(r0: {parameter}) -> {returns}\nregisters r1: {register}\nblock 0 quiet -> r0")
     };
     let cases = [
-        (version("0x12", "int", "int"), "the type of r0 of VERSION 0.0 is 0x12, and only a vector is owned or borrowed"),
+        (version("0x12", "int", "int"), "the type of r0 of VERSION 0.0 is own int, and only a vector is owned or borrowed"),
         (version("0x06", "int", "int"), "the type of r0 of VERSION 0.0 is 0x06, and there is no kind 6"),
         (version("0x33", "int", "int"), "the type of r0 of VERSION 0.0 is 0x33, and there is no ownership 3"),
         (version("int", "borrow vector", "int"), "the type of r1 of VERSION 0.0 is borrowed, and only parameters are"),
-        (version("int", "0x22", "int"), "the type of r1 of VERSION 0.0 is 0x22, and only a vector is owned or borrowed"),
+        (version("int", "0x22", "int"), "the type of r1 of VERSION 0.0 is borrow int, and only a vector is owned or borrowed"),
         (version("int", "int", "any"), "the return type of VERSION 0.0 is of kind any, and a version returns an integer, a vector or a value"),
         (version("int", "int", "quiet promise"), "the return type of VERSION 0.0 is a quiet promise, and a version returns an integer, a vector or a value"),
         (version("int", "int", "borrow vector"), "the return type of VERSION 0.0 is borrowed, and only parameters are"),

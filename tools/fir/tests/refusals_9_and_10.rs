@@ -63,7 +63,7 @@ fn question_10_names_what_is_read_before_it_is_assigned() {
     );
     flows(
         "r3 = prom 1\nblock 1 quiet -> r1\nr1 = add r2, r1",
-        "r2 is read by ARITH add at 39 in block 1 before it is assigned",
+        "r2 is read by ARITH add at 39 in block 1, and not assigned before PROM at 26",
     );
     refused(
         &image("version 0.0(r0: int) -> int\nregisters r1: int\nblock 0 quiet -> r1"),
@@ -75,7 +75,7 @@ fn question_10_names_what_is_read_before_it_is_assigned() {
 fn question_10_names_what_only_a_forced_block_assigns() {
     flows(
         "r3 = prom 1\nr1 = force r3\nr1 = add r2, r1\nblock 1 quiet -> r2\nr2 = lit 4",
-        "r2 is read by ARITH add at 38 before it is assigned",
+        "r2 is read by ARITH add at 38 before it is assigned; that LIT at 53 in block 1 assigns it does not count for what follows a FORCE",
     );
 }
 
@@ -91,7 +91,7 @@ fn question_10_names_what_is_used_after_it_is_emptied() {
     );
     flows(
         "r1 = call 1.0(r0)\nr3 = prom 1\nblock 1 quiet -> r1\nr1 = len r0",
-        "r0 is emptied by CALL of 1.0 at 26 and read again by LEN at 48 in block 1",
+        "r0 is emptied by CALL of 1.0 at 26 and read again by LEN at 48 in block 1, of PROM at 35",
     );
 }
 
@@ -145,12 +145,14 @@ fn a_text_gets_its_lines_named() {
     let file = file("lines", "wrong.fir", text.as_bytes());
     assert_eq!(
         fir(&["check", &file], b"").text(),
-        "refused by 8 at 24 (line 6): SET needs an owned vector, r0 is a shared vector\n"
+        format!(
+            "{file}:6:5: refused by 8 at 24: SET needs an owned vector, r0 is a shared vector\n"
+        )
     );
     let text = "version 0.0(r0: own vector) -> int\n  registers r1: int\n  level portal\n  block 0 quiet -> r1\n\n    r1 = call 0.0(r0)\n    r1 = len r0\n";
     let file = support::file("lines", "flow.fir", text.as_bytes());
     assert_eq!(
         fir(&["check", &file], b"").text(),
-        "refused by 10 at 0 (line 1): in VERSION 0.0, r0 is emptied by CALL of 0.0 at 24 (line 6) and read again by LEN at 33 (line 7)\n"
+        format!("{file}:7:5: refused by 10 at 0: in VERSION 0.0, r0 is emptied by CALL of 0.0 at 24 (line 6) and read again by LEN at 33 (line 7)\n")
     );
 }

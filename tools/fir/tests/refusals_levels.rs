@@ -66,8 +66,10 @@ fn a_text_without_a_level_line_names_the_line_in_its_place() {
     let file = file("levels", "old.fir", text.as_bytes());
     assert_eq!(
         fir(&["check", &file], b"").text(),
-        "refused by 4 at 11 (line 4): BLOCK stands where the LEVEL of 0.0, a line such as \
-         `level portal`, is due\n"
+        format!(
+            "{file}:4:3: refused by 4 at 11: BLOCK stands where the LEVEL of 0.0, a line such as \
+             `level portal`, is due\n"
+        )
     );
 }
 
@@ -112,8 +114,10 @@ fn a_call_up_is_named_with_both_levels() {
     let file = file("levels", "up.fir", calling("staff", "factory").as_bytes());
     assert_eq!(
         fir(&["check", &file], b"").text(),
-        "refused by 18 at 23 (line 4): CALL of 1.0 goes up: 0.0 is of level staff, and 1.0 of \
-         factory\n"
+        format!(
+            "{file}:4:1: refused by 18 at 23: CALL of 1.0 goes up: 0.0 is of level staff, and \
+             1.0 of factory\n"
+        )
     );
 }
 
@@ -246,7 +250,7 @@ fn a_live_version_whose_level_differs_is_named_with_both() {
     let then = format!("{new}@1");
     let call = ["run", "-", "0.0", "7", "--then", &then];
     let done = fir(&call, &exact(&text("staff")));
-    let words = "refused by 15 at 32: 1.0 has a live call and differs: its level, byte 47, is \
+    let words = "refused by 15 at 32 after 1 step: 1.0 has a live call and differs: its level, byte 47, is \
                  portal, and was staff at 47 of the old image\n";
     assert!(done.text().contains(words), "{}", done.text());
     assert_eq!(done.status, 1);

@@ -76,8 +76,10 @@ fn question_14_names_the_lines_of_a_text() {
     let file = file("skips", "wrong.fir", text.as_bytes());
     assert_eq!(
         fir(&["check", &file], b"").text(),
-        "refused by 14 at 29 (line 6): SKIP of 1 instruction goes past the end of the part of \
-         SKIP at 23 (line 4), where none is left: it ends with the record at 29 (line 6)\n"
+        format!(
+            "{file}:6:5: refused by 14 at 29: SKIP of 1 instruction goes past the end of the part of \
+             SKIP at 23 (line 4), where none is left: it ends with the record at 29 (line 6)\n"
+        )
     );
 }
 

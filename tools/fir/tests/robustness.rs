@@ -1,12 +1,16 @@
-//! No file and no command line makes the tool panic: it answers with a status
-//! of 0, 1 or 2, and with words where it is 2.
+//! No file, no command line and no command of the debugger makes the tool panic: it
+//! answers with a status of 0 to 5, and with words where it is 2.
 
 mod support;
 
-use generator::{accepted, any, mutated, Random};
+use generator::{accepted, any, entry, mutated, words, Random};
+use reference::Program;
 use std::ffi::OsString;
 use std::os::unix::ffi::OsStringExt;
-use support::{file, fir, fir_of};
+use support::{arguments, file, fir, fir_of};
+
+/// How many exit statuses there are.
+const STATUSES: usize = 6;
 
 /// How many command lines, and how many texts, are made.
 const LINES: u64 = 6_000;
@@ -41,6 +45,9 @@ fn word(random: &mut Random, files: &[String]) -> OsString {
         "--budget=",
         "--then",
         "--stats",
+        "--json",
+        "--html",
+        "--entry=0.0",
         "--form",
         "--to",
         "-@3",
@@ -77,17 +84,22 @@ fn word(random: &mut Random, files: &[String]) -> OsString {
 /// A command line; what is written goes to a file of the test's own.
 fn line(random: &mut Random, files: &[String], out: &str) -> Vec<OsString> {
     let command = random.pick(&[
-        "check", "check", "run", "run", "trace", "move", "asm", "dis", "help",
+        "check", "check", "run", "run", "trace", "debug", "lint", "move", "asm", "dis", "help",
     ]);
     let mut line: Vec<OsString> = vec![command.into(), random.pick(files).into()];
-    if command == "run" || command == "trace" {
+    if ["run", "trace", "debug"].contains(&command) {
         line.push(format!("{}.{}", random.below(2), random.below(2)).into());
         line.extend((0..random.below(3)).map(|_| "5".into()));
         line.extend(["--budget".into(), random.below(300).to_string().into()]);
-        if random.one_in(3) {
+        if command != "debug" && random.one_in(3) {
             let then = format!("{}@{}", random.pick(files), random.below(40));
             line.splice(1..1, ["--then".into(), then.into()]);
         }
+    }
+    if ["check", "run", "trace", "lint"].contains(&command) && random.one_in(4) {
+        line.push("--json".into());
+    } else if command == "trace" && random.one_in(3) {
+        line.push(format!("--html={out}").into());
     }
     if command == "check" && random.one_in(3) {
         line.extend(["--form".into(), random.pick(&["32", "64", "8"]).into()]);
@@ -112,7 +124,7 @@ fn line(random: &mut Random, files: &[String], out: &str) -> Vec<OsString> {
 #[test]
 fn no_command_line_makes_it_panic() {
     let out = file("robust", "out", b"");
-    let mut statuses = [0; 3];
+    let mut statuses = [0; STATUSES];
     let mut made = files(0);
     for seed in 0..LINES {
         if seed % 50 == 0 {
@@ -125,12 +137,15 @@ fn no_command_line_makes_it_panic() {
         let complains = !done.errors.is_empty();
         match done.status {
             0 => assert!(!complains, "{line:?}: {done:?}"),
-            1 => assert!(complains || !done.output.is_empty(), "{line:?}"),
-            _ => assert!(complains && done.output.is_empty(), "{line:?}: {done:?}"),
+            2 => assert!(complains || done.text().contains("\"error\":"), "{line:?}"),
+            _ => assert!(complains || !done.output.is_empty(), "{line:?}"),
         }
     }
     println!("{statuses:?}");
-    assert!(statuses.iter().all(|&count| count > 500), "{statuses:?}");
+    assert!(
+        statuses[..3].iter().all(|&count| count > 300),
+        "{statuses:?}"
+    );
 }
 
 /// A text with some of its signs changed, taken out or doubled.
@@ -152,7 +167,7 @@ fn changed(random: &mut Random, text: &str) -> String {
 
 #[test]
 fn no_text_makes_it_panic() {
-    let mut statuses = [0; 3];
+    let mut statuses = [0; STATUSES];
     for seed in 0..TEXTS {
         let mut random = Random::new(seed);
         let text = changed(&mut random, &text::disassemble(&accepted(seed % 300)));
@@ -164,9 +179,56 @@ fn no_text_makes_it_panic() {
         ] {
             let done = fir(call, b"");
             statuses[usize::from(done.status)] += 1;
-            assert!(done.status < 2, "seed {seed}: {done:?}");
+            assert_ne!(done.status, 2, "seed {seed}: {done:?}");
         }
     }
     println!("{statuses:?}");
     assert!(statuses[0] > 100 && statuses[1] > 100, "{statuses:?}");
+}
+
+/// How many programs are gone through by commands of chance.
+const SESSIONS: u64 = 100;
+
+/// A command of the debugger; most make sense.
+fn command(random: &mut Random) -> String {
+    let names = [
+        "step", "s", "next", "n", "out", "o", "to", "run", "r", "back", "b", "at", "stack", "k",
+        "vectors", "v", "promises", "p", "list", "l", "help", "", "é",
+    ];
+    let given = match random.below(5) {
+        0 => random.below(200).to_string(),
+        1 => format!("{}.{}", random.below(3), random.below(2)),
+        2 => random
+            .pick(&["-1", "4294967295", "4294967296", "1.", "999.999", "x"])
+            .to_string(),
+        _ => String::new(),
+    };
+    format!("{} {given}\n", random.pick(&names))
+}
+
+#[test]
+fn no_command_of_the_debugger_makes_it_panic() {
+    let mut moved = 0;
+    for seed in 0..SESSIONS {
+        let mut random = Random::new(seed);
+        let image = accepted(seed);
+        let program = Program::accept(&image).expect("an accepted image");
+        let Some(entry) = entry(seed, &program) else {
+            continue;
+        };
+        let given = arguments(&words(seed, &program, entry)).unwrap_or_default();
+        let commands: String = (0..40).map(|_| command(&mut random)).collect();
+        let image = file("robust", "debugged.bin", &image);
+        let entry = format!("{}.{}", entry.0, entry.1);
+        let mut call = vec!["debug", &image, &entry, "--budget=300"];
+        call.extend(given.iter().map(String::as_str));
+        let done = fir(&call, commands.as_bytes());
+        assert!(
+            done.status < 2 && done.errors.is_empty(),
+            "seed {seed}: {done:?}"
+        );
+        moved += usize::from(done.text().lines().count() > 20);
+    }
+    println!("{moved} sessions");
+    assert!(moved > 50, "{moved}");
 }

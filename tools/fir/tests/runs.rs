@@ -7,7 +7,7 @@ use generator::{
 };
 use reference::{change, Answer, End, Integer, Program, Refusal, Said, State, Status};
 use std::collections::BTreeMap;
-use support::{file, fir, Done};
+use support::{arguments, file, fir, Done, STEPS, STOPPED, UNDEF};
 
 /// How many programs are generated, and how many to be changed while they run.
 const PROGRAMS: u64 = 1_500;
@@ -72,26 +72,6 @@ fn traced_searches(trace: &str) -> Vec<(u8, u8)> {
         Some((looked.parse().ok()?, versions.parse().ok()?))
     });
     shown.collect()
-}
-
-/// The arguments of words, as the command line has them; none where the words
-/// are those of no arguments.
-fn arguments(words: &[Integer]) -> Option<Vec<String>> {
-    let mut rest = words;
-    let mut arguments = Vec::new();
-    while let Some((&head, after)) = rest.split_first() {
-        if head == -1 {
-            let (&integer, after) = after.split_first()?;
-            arguments.push(integer.to_string());
-            rest = after;
-        } else {
-            let length = usize::try_from(head).ok()?;
-            let (items, after) = after.split_at_checked(length)?;
-            arguments.push(format!("{items:?}"));
-            rest = after;
-        }
-    }
-    Some(arguments)
 }
 
 /// The name of an answer, and how the first line of the output begins.
@@ -180,6 +160,16 @@ fn compared(seed: u64, searched: &mut usize) -> Option<&'static str> {
     Some(name)
 }
 
+/// The exit status of an end.
+fn status(begin: &str) -> u8 {
+    match begin {
+        "UNDEF" => UNDEF,
+        "STEPS" => STEPS,
+        "DEEP" | "VECTORS" | "PROMISES" => STOPPED,
+        _ => 0,
+    }
+}
+
 /// Asserts that a run and its trace ended so, after so many steps.
 #[track_caller]
 fn assert_ended(run: &Done, trace: &Done, begin: &str, steps: usize, origin: &str) {
@@ -187,7 +177,7 @@ fn assert_ended(run: &Done, trace: &Done, begin: &str, steps: usize, origin: &st
     let first = format!("{begin} after {steps} {unit}");
     let (run_text, trace_text) = (run.text(), trace.text());
     assert_eq!(run_text.lines().next(), Some(first.as_str()), "{origin}");
-    assert_eq!(run.status, u8::from(!begin.starts_with("DONE")), "{origin}");
+    assert_eq!(run.status, status(begin), "{origin}");
     assert_eq!(trace.status, run.status, "{origin}");
     let causeless = run_text.contains("the instruction has no result");
     assert!(!causeless, "{origin}: UNDEF without a cause");
@@ -266,7 +256,7 @@ impl Halfway {
             }
             Err(Refusal { number, offset }) => {
                 let kind = if number == 15 { "15" } else { "refused" };
-                let begin = format!("{after}, {file}: refused by {number} at {offset}: ");
+                let begin = format!("{file}: refused by {number} at {offset} {after}: ");
                 (kind, begin, self.counted)
             }
         }

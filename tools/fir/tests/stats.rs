@@ -3,7 +3,7 @@
 mod support;
 
 use cases::image;
-use support::{file, fir, Done};
+use support::{file, fir, Done, STEPS, STOPPED, UNDEF};
 
 /// 0.0 calls 2.0, which dispatches on function 1 twice: with its argument, which
 /// fits version 1 of three, and with nothing, which fits version 2.
@@ -68,7 +68,7 @@ fn a_budget_counts_the_steps_that_were_taken() {
     let stands = "  at 145 in 2.0, block 0: r1 = dispatch 1(r0: int) -> int quiet\n";
     did(
         &run(&["--stats", "--budget", "1"]),
-        1,
+        STEPS,
         &format!(
             "STEPS after 1 step\n{stands}  steps: 1
   calls: 1
@@ -101,7 +101,7 @@ fn a_dispatch_without_a_fit_is_a_step_and_one_that_is_deep_is_none() {
                       r1 = len r0";
     did(
         &fir(&["run", "-", "0.0", "4", "--stats"], &image(misfit)),
-        1,
+        UNDEF,
         "UNDEF after 1 step
   at 23 in 0.0, block 0: r0 = dispatch 1() -> int quiet: no version of function 1 fits
   steps: 1
@@ -115,7 +115,7 @@ fn a_dispatch_without_a_fit_is_a_step_and_one_that_is_deep_is_none() {
                     r0 = dispatch 0(r0: int) -> int quiet";
     did(
         &fir(&["run", "-", "0.0", "4", "--stats"], &image(deep)),
-        1,
+        STOPPED,
         "DEEP after 31 steps
   at 23 in 0.0, block 0: r0 = dispatch 0(r0: int) -> int quiet
   steps: 31

@@ -3,7 +3,7 @@
 mod support;
 
 use cases::image;
-use support::fir;
+use support::{fir, UNDEF};
 
 /// Asserts what a trace of version 0.0 prints, spaces in a row taken as one.
 #[track_caller]
@@ -237,7 +237,7 @@ fn undefined(instructions: &str, cause: &str) {
     assert!(text.lines().any(|line| line.ends_with(&words)), "{text}");
     let last = text.lines().last().unwrap_or_default();
     assert!(last.ends_with(&format!(": {cause}")), "{text}");
-    assert_eq!(done.status, 1);
+    assert_eq!(done.status, UNDEF);
 }
 
 #[test]

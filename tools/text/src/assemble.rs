@@ -25,15 +25,23 @@ pub fn assemble(text: &str) -> Result<Vec<u8>, Error> {
 pub fn assemble_lined(text: &str) -> Result<Lined, Error> {
     let mut assembly = Assembly::default();
     for (number, line) in (1..).zip(text.lines()) {
-        let at_line = |reason| Error {
+        let wrong = |(column, reason)| Error {
             line: number,
+            column,
             reason,
         };
-        if let Some(line) = Line::parse(line).map_err(at_line)? {
-            assembly.add(number, line).map_err(at_line)?;
+        let start = first_column(line);
+        if let Some(line) = Line::parse(line).map_err(wrong)? {
+            let added = assembly.add(number, line);
+            added.map_err(|reason| wrong((start, reason)))?;
         }
     }
     assembly.lined()
+}
+
+/// The column of the first word of a line, the first being 1.
+pub fn first_column(line: &str) -> usize {
+    1 + line.chars().take_while(|sign| sign.is_whitespace()).count()
 }
 
 /// The items so far, each with the line it came from and its written count.
@@ -92,6 +100,7 @@ impl Assembly {
                 Some(written) => written,
                 None => u8::try_from(implied[index]).map_err(|_| Error {
                     line: self.lines[index],
+                    column: 1,
                     reason: format!("{} follow, and a count is at most 255", implied[index]),
                 })?,
             };

@@ -2,6 +2,7 @@
 
 use crate::vocabulary::{KINDS, LEVELS, MARKS, OWNERSHIPS};
 use reference::{Integer, Kind, Level, Mark, Name, Ownership, Register, Type};
+use std::cell::Cell;
 use std::str::FromStr;
 
 /// What is wrong with a line.
@@ -9,14 +10,26 @@ pub type Reason = String;
 
 /// The part of a line that is not read yet.
 pub struct Cursor<'a> {
+    line: &'a str,
     rest: &'a str,
+    /// How much of the line was left where something else was expected last; at
+    /// first, all that is no space.
+    wrong: Cell<&'a str>,
 }
 
 impl<'a> Cursor<'a> {
     /// A line without its comment.
     pub fn new(line: &'a str) -> Cursor<'a> {
         let code = line.split('#').next().unwrap_or_default();
-        Cursor { rest: code.trim() }
+        let rest = code.trim();
+        let wrong = Cell::new(rest);
+        Cursor { line, rest, wrong }
+    }
+
+    /// The column of what was not expected, the first being 1.
+    pub fn wrong_column(&self) -> usize {
+        let before = self.wrong.get().as_ptr() as usize - self.line.as_ptr() as usize;
+        1 + self.line[..before].chars().count()
     }
 
     /// Is nothing left?
@@ -35,6 +48,7 @@ impl<'a> Cursor<'a> {
 
     /// The reason of a line that has something else here.
     pub fn expected(&self, what: &str) -> Reason {
+        self.wrong.set(self.rest);
         let found = self.rest.split_whitespace().next();
         match found {
             Some(found) => format!("expected {what}, found `{found}`"),

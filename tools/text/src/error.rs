@@ -7,6 +7,8 @@ use std::fmt;
 pub struct Error {
     /// The line's number, the first being 1.
     pub line: usize,
+    /// The column of what is wrong in it, the first being 1.
+    pub column: usize,
     /// What is wrong with it.
     pub reason: String,
 }

@@ -87,6 +87,7 @@
 
 mod assemble;
 mod cursor;
+mod declarations;
 mod disassemble;
 mod error;
 mod instruction;
@@ -94,8 +95,9 @@ mod item;
 mod line;
 mod vocabulary;
 
-pub use assemble::{assemble, assemble_lined, Lined};
+pub use assemble::{assemble, assemble_lined, first_column, Lined};
+pub use declarations::declaration;
 pub use disassemble::{disassemble, listing};
 pub use error::Error;
 pub use instruction::print as instruction_text;
-pub use vocabulary::{level_text, operation_text};
+pub use vocabulary::{level_text, operation_text, type_text};

@@ -22,27 +22,34 @@ pub enum Line {
 }
 
 impl Line {
-    /// What the line says; none if it is blank.
-    pub fn parse(text: &str) -> Result<Option<Line>, Reason> {
+    /// What the line says, none if it is blank; or the column that is wrong, and why.
+    pub fn parse(text: &str) -> Result<Option<Line>, (usize, Reason)> {
         let mut line = Cursor::new(text);
         if line.at_end() {
             return Ok(None);
         }
+        let parsed = Line::parse_words(&mut line);
+        let parsed = parsed.map_err(|reason| (line.wrong_column(), reason))?;
+        Ok(Some(parsed))
+    }
+
+    /// What the words of a line say that is not blank.
+    fn parse_words(line: &mut Cursor) -> Result<Line, Reason> {
         let parsed = if line.take_word("version") {
-            parse_version(&mut line)?
+            parse_version(line)?
         } else if line.take_word("registers") {
-            Line::Registers(parse_registers(&mut line)?)
+            Line::Registers(parse_registers(line)?)
         } else if line.take_word("level") {
             Line::Level(line.level()?)
         } else if line.take_word("block") {
-            parse_block(&mut line)?
+            parse_block(line)?
         } else if line.take_word("bytes") {
-            Line::Bytes(parse_bytes(&mut line)?)
+            Line::Bytes(parse_bytes(line)?)
         } else {
-            Line::Instruction(instruction::parse(&mut line)?)
+            Line::Instruction(instruction::parse(line)?)
         };
         line.finish()?;
-        Ok(Some(parsed))
+        Ok(parsed)
     }
 }
 

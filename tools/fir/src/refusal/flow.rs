@@ -1,7 +1,7 @@
 //! Question 10, "Flow": which register is read too early, or used or emptied too late.
 
 use super::vocabulary::instruction_name;
-use super::{Found, FoundRecord};
+use super::{Diagnosis, Found, FoundRecord};
 use crate::place::place;
 use crate::source::Source;
 use reference::record::Placed;
@@ -9,12 +9,12 @@ use reference::{Instruction, Register};
 use std::collections::BTreeMap;
 
 /// Question 10: where flow does not hold in a version.
-pub fn flow(source: &Source, found: &Found) -> Option<String> {
+pub fn flow(source: &Source, found: &Found) -> Option<Diagnosis> {
     let FoundRecord::Version = found.record else {
         return None;
     };
     let break_ = match block_action(found, 0) {
-        Err(break_) => break_,
+        Err(break_) => *break_,
         Ok(action) => {
             let parameters = found.version.head.parameters;
             let mut reads = action.reads.into_iter();
@@ -26,7 +26,10 @@ pub fn flow(source: &Source, found: &Found) -> Option<String> {
         }
     };
     let words = break_.words(source, found);
-    Some(format!("in VERSION {}, {words}", found.version_name()))
+    Some(Diagnosis {
+        words: format!("in VERSION {}, {words}", found.version_name()),
+        position: source.position(break_.offset()),
+    })
 }
 
 /// What does something to a register: an instruction, or the end of its block.
@@ -35,9 +38,21 @@ struct Doer<'p> {
     offset: usize,
     block: usize,
     instruction: Option<&'p Instruction>,
+    /// The offset of the PROM of its block, which does it as far as flow goes.
+    prom: Option<usize>,
 }
 
-impl Doer<'_> {
+impl<'p> Doer<'p> {
+    /// An instruction of a block.
+    fn of(block: usize, placed: &'p Placed<Instruction>) -> Doer<'p> {
+        Doer {
+            offset: placed.offset,
+            block,
+            instruction: Some(&placed.item),
+            prom: None,
+        }
+    }
+
     /// What it is and where: `LEN at 41`, in a promise block with the block.
     fn words(&self, source: &Source) -> String {
         let name = match self.instruction {
@@ -48,6 +63,15 @@ impl Doer<'_> {
         match (self.block, self.instruction) {
             (0, _) | (_, None) => format!("{name} at {place}"),
             (block, _) => format!("{name} at {place} in block {block}"),
+        }
+    }
+
+    /// The same with the PROM of its block, if that does it as far as flow goes.
+    fn words_with_prom(&self, source: &Source) -> String {
+        let words = self.words(source);
+        match self.prom {
+            Some(prom) => format!("{words}, of PROM at {}", place(source, prom)),
+            None => words,
         }
     }
 }
@@ -92,15 +116,20 @@ enum Break<'p> {
 }
 
 impl Break<'_> {
+    /// The offset of what breaks it; of a promise block's, that of its PROM.
+    fn offset(&self) -> usize {
+        let (Break::ReadFirst(_, doer)
+        | Break::ReadHalf(_, doer, _)
+        | Break::Emptied(_, _, _, doer)
+        | Break::HalfFilled(_, _, _, _, doer)
+        | Break::Captured(_, _, doer)) = self;
+        doer.prom.unwrap_or(doer.offset)
+    }
+
     /// What happens to the register, and where.
     fn words(&self, source: &Source, found: &Found) -> String {
         match self {
-            Break::ReadFirst(r, read) => {
-                format!(
-                    "r{r} is read by {} before it is assigned",
-                    read.words(source)
-                )
-            }
+            Break::ReadFirst(r, read) => read_first(source, found, *r, read),
             Break::ReadHalf(r, read, half) => {
                 let (read, skip) = (read.words(source), half.skip.words(source));
                 let assigns = half.assigns.words(source);
@@ -112,12 +141,12 @@ impl Break<'_> {
                     let filled = filled.words(source);
                     format!(", before {filled} fills it again")
                 });
-                let (emptied, doer) = (emptied.words(source), doer.words(source));
+                let (emptied, doer) = (emptied.words(source), doer.words_with_prom(source));
                 let before = before.unwrap_or_default();
                 format!("r{r} is emptied by {emptied} and {then} again by {doer}{before}")
             }
             Break::HalfFilled(r, emptied, half, then, doer) => {
-                let (emptied, doer) = (emptied.words(source), doer.words(source));
+                let (emptied, doer) = (emptied.words(source), doer.words_with_prom(source));
                 let (filled, skip) = (half.assigns.words(source), half.skip.words(source));
                 format!(
                     "r{r} is emptied by {emptied}, filled again by {filled} \
@@ -135,6 +164,37 @@ impl Break<'_> {
     }
 }
 
+/// Words for a register that is read before it is assigned: in a promise block, before
+/// its PROM; and what assigns it in a promise block, which does not count.
+fn read_first(source: &Source, found: &Found, register: Register, read: &Doer) -> String {
+    let reader = read.words(source);
+    let words = match read.prom {
+        Some(prom) => {
+            let prom = place(source, prom);
+            format!("r{register} is read by {reader}, and not assigned before PROM at {prom}")
+        }
+        None => format!("r{register} is read by {reader} before it is assigned"),
+    };
+    match assigned_in_promise(found, register, read.block) {
+        Some(assigned) => {
+            let assigned = assigned.words(source);
+            format!("{words}; that {assigned} assigns it does not count for what follows a FORCE")
+        }
+        None => words,
+    }
+}
+
+/// What assigns a register in a promise block other than the given block.
+fn assigned_in_promise<'p>(found: &Found<'p>, register: Register, but: usize) -> Option<Doer<'p>> {
+    let blocks = found.version.blocks.iter().enumerate().skip(1);
+    let mut others = blocks.filter(|&(number, _)| number != but);
+    others.find_map(|(number, block)| {
+        let mut instructions = block.instructions.iter();
+        let assigns = instructions.find(|placed| placed.item.assigns() == Some(register))?;
+        Some(Doer::of(number, assigns))
+    })
+}
+
 /// What fills a register again behind something in the same block, if anything does.
 fn filled_later<'p>(found: &Found<'p>, register: Register, behind: &Doer) -> Option<Doer<'p>> {
     behind.instruction?;
@@ -144,16 +204,12 @@ fn filled_later<'p>(found: &Found<'p>, register: Register, behind: &Doer) -> Opt
     };
     let mut later = block.instructions.iter();
     let filling = later.find(|placed| placed.offset > behind.offset && fills(&placed.item))?;
-    Some(Doer {
-        offset: filling.offset,
-        block: behind.block,
-        instruction: Some(&filling.item),
-    })
+    Some(Doer::of(behind.block, filling))
 }
 
 impl<'p> Action<'p> {
     /// A, then a single instruction A′, or how that breaks.
-    fn then(mut self, next: Action<'p>) -> Result<Action<'p>, Break<'p>> {
+    fn then(mut self, next: Action<'p>) -> Result<Action<'p>, Box<Break<'p>>> {
         self.allows(&next)?;
         for (register, doer) in next.reads {
             if !self.assigns.contains_key(&register) && !self.reads.contains_key(&register) {
@@ -174,7 +230,7 @@ impl<'p> Action<'p> {
     }
 
     /// Is the instruction allowed after this, or how does it break?
-    fn allows(&self, next: &Action<'p>) -> Result<(), Break<'p>> {
+    fn allows(&self, next: &Action<'p>) -> Result<(), Box<Break<'p>>> {
         let later = [
             ("read", &next.reads),
             ("emptied", &next.empties),
@@ -182,14 +238,16 @@ impl<'p> Action<'p> {
         ];
         for (does, registers) in later {
             if let Some((register, first, second)) = meeting(&self.empties, registers) {
-                return Err(match self.half_filled.get(&register) {
+                return Err(Box::new(match self.half_filled.get(&register) {
                     Some(&half) => Break::HalfFilled(register, first, half, does, second),
                     None => Break::Emptied(register, first, does, second),
-                });
+                }));
             }
         }
         match meeting(&self.captures, &next.empties) {
-            Some((register, first, second)) => Err(Break::Captured(register, first, second)),
+            Some((register, first, second)) => {
+                Err(Box::new(Break::Captured(register, first, second)))
+            }
             None => Ok(()),
         }
     }
@@ -229,7 +287,12 @@ impl<'p> Action<'p> {
         let sets = [&self.reads, &self.assigns, &self.empties, &self.captures];
         let captured = sets.into_iter().flat_map(|set| set.keys());
         let captures = captured.map(|&register| (register, prom)).collect();
+        let delayed = |(register, doer): (Register, Doer<'p>)| {
+            let prom = doer.prom.or(Some(prom.offset));
+            (register, Doer { prom, ..doer })
+        };
         Action {
+            reads: self.reads.into_iter().map(delayed).collect(),
             assigns: Registers::new(),
             captures,
             half: BTreeMap::new(),
@@ -261,7 +324,7 @@ fn all<'p>(registers: impl IntoIterator<Item = Register>, doer: Doer<'p>) -> Reg
 }
 
 /// The action of a block: its instructions in order, then its result register is read.
-fn block_action<'p>(found: &Found<'p>, number: usize) -> Result<Action<'p>, Break<'p>> {
+fn block_action<'p>(found: &Found<'p>, number: usize) -> Result<Action<'p>, Box<Break<'p>>> {
     let Some(block) = found.version.blocks.get(number) else {
         return Ok(Action::default());
     };
@@ -270,6 +333,7 @@ fn block_action<'p>(found: &Found<'p>, number: usize) -> Result<Action<'p>, Brea
         offset: block.offset,
         block: number,
         instruction: None,
+        prom: None,
     };
     action.then(Action {
         reads: all([block.head.result], end),
@@ -284,14 +348,10 @@ fn part_action<'p>(
     block: usize,
     mut instructions: &'p [Placed<Instruction>],
     before: Action<'p>,
-) -> Result<Action<'p>, Break<'p>> {
+) -> Result<Action<'p>, Box<Break<'p>>> {
     let mut action = before;
     while let [first, rest @ ..] = instructions {
-        let doer = Doer {
-            offset: first.offset,
-            block,
-            instruction: Some(&first.item),
-        };
+        let doer = Doer::of(block, first);
         action = instruction_action(found, action, doer, &first.item)?;
         instructions = rest;
         if let Instruction::Skip { n, .. } = first.item {
@@ -310,7 +370,7 @@ fn instruction_action<'p>(
     before: Action<'p>,
     doer: Doer<'p>,
     instruction: &Instruction,
-) -> Result<Action<'p>, Break<'p>> {
+) -> Result<Action<'p>, Box<Break<'p>>> {
     let first = match *instruction {
         Instruction::Prom { block, .. } if usize::from(block) > doer.block => {
             block_action(found, block.into())?.delayed(doer)

@@ -16,67 +16,143 @@ mod moves;
 mod order;
 mod skips;
 mod types;
-mod vocabulary;
+pub mod vocabulary;
 
 use crate::command::Call;
-use crate::place::{place, version_name};
+use crate::json::Json;
+use crate::place::{beginning, version_name, Position};
 use crate::source::Source;
-use library::{Refusal, State};
+use library::{Entry, Refusal, State, FIR_REFUSED_ENTRY};
 use reference::program::{Block, Program, Version};
 use reference::record::Placed;
 use reference::{Form, Instruction};
 
-/// The line for an image of a form that is refused.
-pub fn line(form: Form, source: &Source, no: Refusal) -> String {
-    with_words(source, no, diagnosis(form, source, no))
+/// A refusal in words.
+#[derive(Clone, PartialEq, Eq, Debug)]
+pub struct Refused {
+    /// The question and the offset.
+    pub no: Refusal,
+    /// Where to look in the text, if there is one.
+    pub position: Option<Position>,
+    /// Why.
+    pub words: String,
 }
 
-/// The line for a move from a form that is refused.
-pub fn of_move(form: Form, source: &Source, no: Refusal) -> String {
+impl Refused {
+    /// The refusal with the words that were found, or with the question's own.
+    fn new(source: &Source, no: Refusal, found: Option<Diagnosis>) -> Refused {
+        let found = found.unwrap_or_else(|| rule(no.question).to_string().into());
+        let of_record = matches!(no.question, 2..=10 | 14..=16 | 18);
+        let record = || source.position(no.offset).filter(|_| of_record);
+        Refused {
+            no,
+            position: found.position.or_else(record),
+            words: found.words,
+        }
+    }
+
+    /// The question, the offset and the words: `refused by 8 at 37: ..`.
+    pub fn plain(&self) -> String {
+        let Refusal { question, offset } = self.no;
+        format!("refused by {question} at {offset}: {}", self.words)
+    }
+
+    /// The line of a refusal; it begins with the place in the text, if there is one.
+    pub fn line(&self, source: &Source) -> String {
+        beginning(&source.name, self.position, "") + &self.plain()
+    }
+
+    /// The question, the offset, the place and the words, to stand in an object.
+    pub fn json(&self) -> Vec<(&'static str, Json)> {
+        let mut fields = vec![
+            ("question", self.no.question.into()),
+            ("offset", self.no.offset.into()),
+        ];
+        fields.extend(Json::position(self.position));
+        fields.push(("words", self.words.as_str().into()));
+        fields
+    }
+
+    /// The same among those of other files: it begins with the file's name.
+    pub fn line_of_several(&self, source: &Source) -> String {
+        self.line_after(source, "")
+    }
+
+    /// The same of a refusal after something, which is named behind the offset.
+    pub fn line_after(&self, source: &Source, after: &str) -> String {
+        let Refusal { question, offset } = self.no;
+        let name = format!("{}: ", source.name);
+        let begin = beginning(&source.name, self.position, &name);
+        format!(
+            "{begin}refused by {question} at {offset}{after}: {}",
+            self.words
+        )
+    }
+}
+
+/// Words for a refusal, and where to look if that is not the record of the refusal.
+struct Diagnosis {
+    words: String,
+    position: Option<Position>,
+}
+
+impl From<String> for Diagnosis {
+    fn from(words: String) -> Diagnosis {
+        let position = None;
+        Diagnosis { words, position }
+    }
+}
+
+/// Why an image of a form is refused.
+pub fn of_image(form: Form, source: &Source, no: Refusal) -> Refused {
+    Refused::new(source, no, diagnosis(form, source, no))
+}
+
+/// Why a move from a form is refused.
+pub fn of_move(form: Form, source: &Source, no: Refusal) -> Refused {
+    let image = &source.image[..];
     let words = match no.question {
-        3 => moves::already(form, &source.image, no.offset).or_else(|| diagnosis(form, source, no)),
-        16 => moves::literal(&source.image, no.offset),
-        17 => moves::room(form, &source.image),
-        _ => diagnosis(form, source, no),
+        3 => moves::already(form, image, no.offset),
+        16 => moves::literal(image, no.offset),
+        17 => moves::room(form, image),
+        _ => None,
     };
-    with_words(source, no, words)
+    let found = words.map(Diagnosis::from);
+    Refused::new(source, no, found.or_else(|| diagnosis(form, source, no)))
 }
 
-/// The line for a run that is refused.
-pub fn of_run(source: &Source, no: Refusal, call: &Call) -> String {
+/// Why a version is no entry of an image, where it does not exist.
+pub fn of_entry(source: &Source, entry: Entry) -> Refused {
+    let (question, offset) = (FIR_REFUSED_ENTRY, 0);
+    let words = arguments::entry(&source.image, entry).map(Diagnosis::from);
+    Refused::new(source, Refusal { question, offset }, words)
+}
+
+/// Why a run is refused.
+pub fn of_run(source: &Source, no: Refusal, call: &Call) -> Refused {
     let (image, entry) = (&source.image, call.entry);
     let words = match no.question {
-        11 => arguments::entry(image, entry),
-        19 => levels::entry(image, entry, call.level),
-        12 => arguments::arguments(image, entry, &call.arguments),
+        11 => arguments::entry(image, entry).map(Diagnosis::from),
+        19 => levels::entry(image, entry, call.level).map(Diagnosis::from),
+        12 => arguments::arguments(image, entry, &call.arguments).map(Diagnosis::from),
         _ => diagnosis(Form::Wide, source, no),
     };
-    with_words(source, no, words)
+    Refused::new(source, no, words)
 }
 
-/// The line for a change of image that is refused, in the state of the run.
-pub fn of_change(old: &Source, new: &Source, no: Refusal, state: &State) -> String {
+/// Why a change of image is refused, in the state of the run.
+pub fn of_change(old: &Source, new: &Source, no: Refusal, state: &State) -> Refused {
     let words = match no.question {
-        15 => change::change(old, new, no.offset, state),
+        15 => change::change(old, new, no.offset, state).map(Diagnosis::from),
         _ => diagnosis(Form::Wide, new, no),
     };
-    with_words(new, no, words)
-}
-
-/// The line with the words that were found, or with the question's own.
-fn with_words(source: &Source, no: Refusal, words: Option<String>) -> String {
-    let place = match no.question {
-        2..=10 | 14..=16 | 18 => place(source, no.offset),
-        _ => no.offset.to_string(),
-    };
-    let words = words.unwrap_or_else(|| rule(no.question).to_string());
-    format!("refused by {} at {place}: {words}", no.question)
+    Refused::new(new, no, words)
 }
 
 /// What the record at the refusal's offset does wrong, if it is found.
-fn diagnosis(form: Form, source: &Source, no: Refusal) -> Option<String> {
+fn diagnosis(form: Form, source: &Source, no: Refusal) -> Option<Diagnosis> {
     let (image, offset) = (&source.image[..], no.offset);
-    match no.question {
+    let words = match no.question {
         1 => framing::size(image),
         2 => framing::record(image, offset),
         3 => framing::fields(form, image, offset),
@@ -86,17 +162,18 @@ fn diagnosis(form: Form, source: &Source, no: Refusal) -> Option<String> {
             let program = Program::ordered_in(form, image).ok()?;
             let found = Found::at(&program, offset)?;
             match no.question {
-                6 => types::type_bytes(&found),
+                6 => return types::type_bytes(source, &found),
                 7 => existence::existence(source, &found),
                 14 => skips::skips(source, &found, offset),
                 8 => fit::fit(&found),
                 18 => levels::call(&found),
                 9 => effect::effect(source, &found),
-                _ => flow::flow(source, &found),
+                _ => return flow::flow(source, &found),
             }
         }
         _ => None,
-    }
+    };
+    words.map(Diagnosis::from)
 }
 
 /// A record of a program, with what it stands in.
@@ -148,7 +225,7 @@ impl<'p> Found<'p> {
 }
 
 /// What a question asks, in general words.
-fn rule(question: u8) -> &'static str {
+pub fn rule(question: u8) -> &'static str {
     match question {
         1 => "an image has 1 to 32,768 bytes",
         2 => "a record has a full head and a length of at least 4, and ends inside the image",
@@ -176,12 +253,12 @@ fn rule(question: u8) -> &'static str {
 #[cfg(test)]
 mod tests {
     use super::*;
-    use library::{Entry, FACTORY};
+    use library::FACTORY;
 
     /// The line for a refusal of some image.
     fn said(image: &[u8], question: u8, offset: usize) -> String {
-        let source = Source::bytes(image.to_vec());
-        line(Form::Wide, &source, Refusal { question, offset })
+        let source = Source::bytes(image.to_vec(), "image");
+        of_image(Form::Wide, &source, Refusal { question, offset }).line(&source)
     }
 
     #[test]
@@ -198,7 +275,7 @@ mod tests {
 
     #[test]
     fn a_short_buffer_is_refused_in_words() {
-        let source = Source::bytes(Vec::new());
+        let source = Source::bytes(Vec::new(), "image");
         let call = Call {
             file: "-".into(),
             level: FACTORY,
@@ -215,7 +292,7 @@ mod tests {
             offset: 0,
         };
         assert_eq!(
-            of_run(&source, no, &call),
+            of_run(&source, no, &call).plain(),
             "refused by 13 at 0: the result buffer has at least 16 places"
         );
     }

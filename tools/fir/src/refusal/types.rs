@@ -1,45 +1,48 @@
 //! Question 6: type bytes at their places.
 
-use super::vocabulary::instruction_name;
-use super::{Found, FoundRecord};
+use super::vocabulary::{instruction_name, kind_words};
+use super::{Diagnosis, Found, FoundRecord};
+use crate::source::Source;
 use reference::{Instruction, Kind, Type};
 
-/// Question 6: which type byte is not allowed at its place, and why.
-pub fn type_bytes(found: &Found) -> Option<String> {
+/// Question 6: which type is not allowed at its place, and why.
+pub fn type_bytes(source: &Source, found: &Found) -> Option<Diagnosis> {
     match found.record {
-        FoundRecord::Version => in_version(found),
-        FoundRecord::Instruction(
-            _,
-            instruction @ Instruction::Dispatch {
-                returns, arguments, ..
-            },
-        ) => {
-            let name = instruction_name(instruction);
-            let on_return =
-                on_return(*returns).map(|why| format!("the return type of {name} {why}"));
-            on_return.or_else(|| {
-                arguments
-                    .iter()
-                    .enumerate()
-                    .find_map(|(place, &(ty, register))| {
-                        let why = on_parameter(ty)?;
-                        Some(format!(
-                            "the type of argument {}, r{register}, of {name} {why}",
-                            place + 1
-                        ))
-                    })
-            })
+        FoundRecord::Version => in_version(source, found),
+        FoundRecord::Instruction(_, dispatch @ Instruction::Dispatch { .. }) => {
+            in_dispatch(dispatch).map(Diagnosis::from)
         }
         _ => None,
     }
 }
 
-/// Which type byte of a VERSION is not allowed.
-fn in_version(found: &Found) -> Option<String> {
+/// Which type of a DISPATCH is not allowed.
+fn in_dispatch(dispatch: &Instruction) -> Option<String> {
+    let Instruction::Dispatch {
+        returns, arguments, ..
+    } = dispatch
+    else {
+        return None;
+    };
+    let name = instruction_name(dispatch);
+    if let Some(why) = on_return(*returns) {
+        return Some(format!("the return type of {name} {why}"));
+    }
+    let mut arguments = (1..).zip(arguments);
+    arguments.find_map(|(place, &(ty, register))| {
+        let why = on_parameter(ty)?;
+        Some(format!(
+            "the type of argument {place}, r{register}, of {name} {why}"
+        ))
+    })
+}
+
+/// Which type of a VERSION is not allowed, and where its register is declared.
+fn in_version(source: &Source, found: &Found) -> Option<Diagnosis> {
     let head = &found.version.head;
     let name = format!("VERSION {}", found.version_name());
     if let Some(why) = on_return(head.returns) {
-        return Some(format!("the return type of {name} {why}"));
+        return Some(format!("the return type of {name} {why}").into());
     }
     let mut types = head.types.iter().enumerate();
     types.find_map(|(register, &ty)| {
@@ -48,7 +51,10 @@ fn in_version(found: &Found) -> Option<String> {
         } else {
             on_register(ty)?
         };
-        Some(format!("the type of r{register} of {name} {why}"))
+        Some(Diagnosis {
+            words: format!("the type of r{register} of {name} {why}"),
+            position: source.declared(found.version.offset, register),
+        })
     })
 }
 
@@ -60,7 +66,7 @@ fn on_return(ty: Type) -> Option<String> {
     } else if ty.is_borrowed() {
         Some("is borrowed, and only parameters are".to_string())
     } else if !kinds.contains(&ty.kind()) {
-        let kind = super::vocabulary::kind_words(ty.kind())?;
+        let kind = kind_words(ty.kind())?;
         Some(format!(
             "is {kind}, and a version returns an integer, a vector or a value"
         ))
@@ -80,7 +86,7 @@ fn on_register(ty: Type) -> Option<String> {
 
 /// Why a type byte may not stand on a parameter.
 fn on_parameter(ty: Type) -> Option<String> {
-    let byte = format!("is 0x{:02X}", ty.0);
+    let byte = format!("is {}", text::type_text(ty));
     if !ty.kind().known() {
         Some(format!("{byte}, and there is no kind {}", ty.kind().0))
     } else if !ty.ownership().known() {

@@ -52,7 +52,7 @@ pub fn value(state: &State, held: Held) -> String {
 }
 
 /// The name of a register or a name by its place.
-fn cell_name(place: usize) -> String {
+pub fn cell_name(place: usize) -> String {
     match place.checked_sub(FIR_REGISTERS) {
         None => format!("r{place}"),
         Some(name) => format!("x{name}"),
@@ -123,14 +123,16 @@ fn cell_changes<'s>(
 }
 
 /// Which vectors and promises the registers and names of live calls hold, by place.
-struct Holdings {
-    vectors: [bool; FIR_PLACES],
-    promises: [bool; FIR_PLACES],
+pub struct Holdings {
+    /// The vectors.
+    pub vectors: [bool; FIR_PLACES],
+    /// The promises.
+    pub promises: [bool; FIR_PLACES],
 }
 
 impl Holdings {
     /// Those of a state.
-    fn of(state: &State) -> Holdings {
+    pub fn of(state: &State) -> Holdings {
         let (mut vectors, mut promises) = ([false; FIR_PLACES], [false; FIR_PLACES]);
         let calls = 0..usize::from(state.calls);
         for (call, place) in calls.flat_map(|call| (0..CELLS).map(move |place| (call, place))) {

@@ -4,23 +4,23 @@ mod cause;
 mod changes;
 mod spot;
 
+pub use changes::{cell_name, value, Holdings};
+pub use spot::Spot;
+
 use crate::failure::Failure;
-use crate::place::place;
+use crate::json::Json;
+use crate::place::{beginning, Position};
 use crate::single::Single;
 use crate::source::Source;
-use crate::streams::Streams;
 use library::{Run, Search, State, FIR_UNDEF};
 use reference::program::Program;
-use spot::Spot;
 
-/// Takes single steps until so many are taken in all, and prints a line for each
-/// that counts; how many are taken then.
-pub fn steps(
-    run: &mut Run,
-    taken: u32,
-    wished: u32,
-    streams: &mut Streams,
-) -> Result<u32, Failure> {
+/// What is done with each step that counts, and the state that it leaves.
+pub type Watch<'w> = dyn FnMut(&Step, &State) -> Result<(), Failure> + 'w;
+
+/// Takes single steps until so many are taken in all, and shows each that counts; how
+/// many are taken then.
+pub fn steps(run: &mut Run, taken: u32, wished: u32, watch: &mut Watch) -> Result<u32, Failure> {
     let program = Program::ordered(run.image()).ok();
     let mut steps = taken;
     while steps < wished {
@@ -28,11 +28,12 @@ pub fn steps(
             number: steps + 1,
             before: run.state().clone(),
             search: run.search(),
+            program: program.as_ref(),
         };
         let single = Single::take(run);
         if single.counts {
             steps = step.number;
-            streams.line(&step.line(run.state(), program.as_ref()))?;
+            watch(&step, run.state())?;
         }
         if !single.goes_on {
             break;
@@ -42,26 +43,49 @@ pub fn steps(
 }
 
 /// A step that was taken.
-struct Step {
+pub struct Step<'p> {
     /// Its number.
-    number: u32,
+    pub number: u32,
     /// The state before it.
-    before: State,
+    pub before: State,
     /// What its search came to, if it was a DISPATCH.
     search: Option<Search>,
+    program: Option<&'p Program>,
 }
 
-impl Step {
+impl<'p> Step<'p> {
+    /// Where it stood.
+    pub fn spot(&self) -> Option<Spot<'p>> {
+        Spot::of(self.program?, &self.before)
+    }
+
+    /// What it did, or why it is UNDEF.
+    pub fn did(&self, after: &State, spot: &Spot) -> String {
+        looked(self.search) + &changed(&self.before, after, spot)
+    }
+
     /// The line of the step.
-    fn line(&self, after: &State, program: Option<&Program>) -> String {
-        let (number, before) = (self.number, &self.before);
-        let Some(spot) = program.and_then(|program| Spot::of(program, before)) else {
+    pub fn line(&self, after: &State) -> String {
+        let (number, depth) = (self.number, self.before.depth);
+        let Some(spot) = self.spot() else {
             return format!("{number:>6}");
         };
         let (version, block) = (spot.version_name(), spot.activation.block);
-        let (depth, text) = (before.depth, spot.text());
-        let did = looked(self.search) + &changed(before, after, &spot);
+        let (text, did) = (spot.text(), self.did(after, &spot));
         format!("{number:>6} {depth:>3}  {version:<5} block {block}  {text:<36} {did}")
+    }
+
+    /// The step as an object.
+    pub fn json(&self, source: &Source, after: &State) -> Json {
+        let mut fields = vec![
+            ("step", self.number.into()),
+            ("depth", self.before.depth.into()),
+        ];
+        if let Some(spot) = self.spot() {
+            fields.extend(Standing::of(source, &spot).json());
+            fields.push(("did", self.did(after, &spot).into()));
+        }
+        Json::Object(fields)
     }
 }
 
@@ -82,15 +106,72 @@ fn changed(before: &State, after: &State, spot: &Spot) -> String {
     }
 }
 
-/// Where a run stands that is not DONE, and why it is UNDEF if it is.
-pub fn standing(source: &Source, state: &State) -> Option<String> {
-    let program = Program::ordered(&source.image).ok()?;
-    let spot = Spot::of(&program, state)?;
-    let place = place(source, spot.offset());
-    let (version, block) = (spot.version_name(), spot.activation.block);
-    let mut words = format!("at {place} in {version}, block {block}: {}", spot.text());
-    if state.status == FIR_UNDEF {
-        words += &format!(": {}", cause::cause(state, &spot));
+/// Where a run stands.
+pub struct Standing {
+    offset: usize,
+    position: Option<Position>,
+    version: String,
+    block: usize,
+    text: String,
+    /// Why it is UNDEF, if it is.
+    cause: Option<String>,
+}
+
+impl Standing {
+    /// A spot of a run of an image.
+    fn of(source: &Source, spot: &Spot) -> Standing {
+        let offset = spot.offset();
+        Standing {
+            offset,
+            position: source.position(offset),
+            version: spot.version_name(),
+            block: spot.activation.block,
+            text: spot.text(),
+            cause: None,
+        }
     }
-    Some(words)
+
+    /// The line: `at 37 in 0.0, block 0: ..`, behind the place in the text if there is
+    /// one.
+    pub fn line(&self, source: &Source) -> String {
+        let Standing { offset, block, .. } = self;
+        let (version, text) = (&self.version, &self.text);
+        let mut line = beginning(&source.name, self.position, "  ");
+        line += &format!("at {offset} in {version}, block {block}: {text}");
+        if let Some(cause) = &self.cause {
+            line += &format!(": {cause}");
+        }
+        line
+    }
+
+    /// The same, to stand in an object.
+    pub fn json(&self) -> Vec<(&'static str, Json)> {
+        let mut fields = vec![("offset", Json::from(self.offset))];
+        fields.extend(Json::position(self.position));
+        fields.push(("version", self.version.as_str().into()));
+        fields.push(("block", self.block.into()));
+        fields.push(("text", self.text.as_str().into()));
+        if let Some(cause) = &self.cause {
+            fields.push(("cause", cause.as_str().into()));
+        }
+        fields
+    }
+}
+
+/// Where a run stands that is not DONE, by the proved library, and why it is UNDEF if it
+/// is.
+pub fn standing(source: &Source, run: &Run) -> Option<Standing> {
+    let position = run.position()?;
+    let program = Program::ordered(&source.image).ok()?;
+    let spot = Spot::of(&program, run.state())?;
+    let undefined = run.state().status == FIR_UNDEF;
+    let cause = undefined.then(|| cause::cause(run.state(), &spot));
+    Some(Standing {
+        offset: position.offset,
+        position: source.position(position.offset),
+        version: format!("{}.{}", position.function, position.version),
+        block: position.block.into(),
+        text: spot.text(),
+        cause,
+    })
 }

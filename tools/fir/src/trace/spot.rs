@@ -21,7 +21,11 @@ pub struct Spot<'p> {
 impl<'p> Spot<'p> {
     /// Where a state stands; none where it stands nowhere in the program.
     pub fn of(program: &'p Program, state: &State) -> Option<Spot<'p>> {
-        let activation = state.top()?;
+        Spot::at(program, state, state.top()?)
+    }
+
+    /// Where an activation of a state stands, or goes on.
+    pub fn at(program: &'p Program, state: &State, activation: Activation) -> Option<Spot<'p>> {
         let (function, version) = state.owner(activation.call)?;
         let version = program.version(function.into(), version.into())?;
         let block = version.blocks.get(activation.block)?;

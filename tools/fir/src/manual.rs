@@ -1,0 +1,229 @@
+//! What each command does, at length.
+
+/// `fir check`
+pub const CHECK: &str = "\
+Puts the questions 1 to 7, 14, 8, 18, 9 and 10 to images. For an accepted one it
+prints, per version, `f.v R W U C`: how many registers its body reads before it
+assigns them, assigns, leaves empty at its end, and captures; then `accepted` and
+the number of versions. For a refused one it prints a line: the question that says
+no, the offset of the first record that fails, and why. On a text it begins with
+FILE:LINE:COLUMN, the place to look at. Of several files each gets one line that
+begins with its name, and there is a count at the end.
+
+The questions are those of the form in force, whose literals have 64 bits. With
+--form 32 they are those of the form before, which differ in its literals alone.
+
+FILE holds the text form where its name ends in .fir, and an image's bytes
+otherwise; `-` is standard input, a text or bytes by what it holds.
+
+With --json each file gets an object with `file` and `accepted`; an accepted image
+has `versions`, each with `version`, `read`, `assigned`, `emptied` and `captured`; a
+refused one `question`, `offset`, `words` and on a text `line` and `column`; a text
+that does not assemble the last three; a file that cannot be read `error`.
+
+example:
+  $ fir check wrong.fir
+  wrong.fir:6:5: refused by 8 at 37: SET needs an owned vector, r2 is a shared vector
+";
+
+/// `fir run`
+pub const RUN: &str = "\
+Runs version V of function F under a budget of N steps, 10,000,000 if none is
+given, 4,294,967,295 at most. An argument is an integer such as 7 or -7, or a
+vector such as [1,2,3] or [].
+
+The run states the level of --level: portal, staff or factory, or 0, 1 and 2; where
+none is given it is the highest, factory. Version F.V is of that level or a lower
+one, or 19 refuses the run; then no version above the level is ever entered, and
+at each higher level the run is the same.
+
+It prints how the run ended and after how many steps:
+  DONE 7        with an integer
+  DONE [1, 2]   with a vector
+  UNDEF         a result is out of range, an index outside, a name unset, ..
+  STEPS         the budget is used up
+  DEEP          a 33rd activation is needed
+  VECTORS       a 65th vector is needed
+  PROMISES      a 65th promise is needed
+and, but for DONE, where the run stands; on a text that line begins with
+FILE:LINE:COLUMN. A run that is refused gets a line that says why.
+
+With --then the run goes on under the image of another file once STEP steps are
+taken, counted from the start; several are tried in the order of their steps.
+The new image is put to its own questions and then to 15: every version with a
+live call has the same bytes in both. Where it is refused, a line says why, with
+the version and the first byte that differs, or the version that is missing, and
+the command ends with status 1; a controller would go on under the old image. An
+image whose step the run does not come to is named as not reached.
+
+With --stats it prints at the end what the steps were, under all images:
+  steps: 26            those that counted
+  calls: 3             that CALL and DISPATCH opened
+  DISPATCH steps: 2, looked at 5 of 8 versions
+The search of a DISPATCH ends at the first version that fits, or has looked at all
+of the function where none fits; 8 is how many versions the functions of the two
+have together. Versions that are passed over for their level are looked at too. A
+DISPATCH that is stopped by DEEP is no step.
+
+With --json there is an object for each change of the image, with `step`, `image`
+and `taken`, and one for the result, with `result` (DONE, UNDEF, STEPS, DEEP,
+VECTORS, PROMISES or refused), `steps`, the `value` of DONE, and else where the run
+stands: `offset`, `line` and `column` of a text, `version`, `block`, `text` and the
+`cause` of UNDEF. A refusal has `question`, `offset` and `words`. --stats adds
+`stats`, images that were not reached are in `not_reached`.
+
+A file, FILE or IMAGE, holds the text form where its name ends in .fir, and an
+image's bytes otherwise; `-` is standard input, a text or bytes by what it holds.
+";
+
+/// `fir trace`
+pub const TRACE: &str = "\
+Runs version V of function F as `fir run` does, at a level as there, but step by
+step, under a budget of N steps, 100,000 if none is given. It prints a line for
+each step: its number, the depth of calls and forces, the version and the block,
+the instruction or the end of the block, and what changed:
+  r1 = 5            a register of the step's own call
+  x1 = 5            a name of it
+  call 0: x1 = 5    one of another call
+  r1 = v0 [1, 2]    a register that holds vector 0
+  v0 = [1, 3]       the items of vector 0 are others now
+  r1 = p0           a register that holds promise 0
+  p0 is block 1 of call 0, p0 gave 5
+  r1 empty          a register that was emptied
+  r1 stays 5        nothing changed, and the register takes what it held
+  opens call 1 of 2.0, ends call 1 with 5
+  looked at 3 of 4  the versions that the search of a DISPATCH looked at, also
+                    those above its level, of those that the function has
+  forces p0 in block 1 of call 0, ends the force of p0 with 5
+  skips 3, does not skip
+Then it prints the result as `fir run` does. --then goes as there, with a line
+where the run goes on under another image.
+
+With --json each step is an object with `step`, `depth`, `version`, `block`,
+`offset`, `text`, `did` and on a text `line` and `column`; then come those of
+`fir run --json`.
+
+With --html it prints the result alone, and writes a page that shows the run step
+by step, with its source, calls, registers, names, vectors and promises. The page
+needs nothing besides itself; its keys are listed on it.
+
+A file, FILE or IMAGE, holds the text form where its name ends in .fir, and an
+image's bytes otherwise; `-` is standard input, a text or bytes by what it holds.
+";
+
+/// `fir debug`
+pub const DEBUG: &str = "\
+Goes through a run of version V of function F by commands, which are read from
+standard input, one on each line; an empty line repeats the last. Each step is one
+of the proved library. `back` begins the run anew and takes one step less.
+
+  step [N]       s  takes N steps, 1 if none is given
+  next           n  takes steps until the calls and forces that this one opens end
+  out            o  takes steps until the newest call or force has ended
+  to LINE           takes steps until the run stands at a line of the text
+  to F.V            takes steps until the run enters a version
+  run            r  takes steps until the run ends
+  back [N]       b  goes back by N steps
+  at N              goes to the state after N steps, from the start
+  stack          k  the calls and forces, with their registers and names
+  vectors        v  the vectors, and who holds them
+  promises       p  the promises, and what became of them
+  list           l  the text around the line where the run stands
+  help           h  these commands
+  quit           q  leaves, as the end of the input does
+
+FILE holds the text form where its name ends in .fir, and an image's bytes
+otherwise.
+";
+
+/// `fir lint`
+pub const LINT: &str = "\
+Says what an accepted image has and does not need:
+  unread     a register that nothing reads. Parameters count where CALLs alone
+             enter their version, for there the signature is free
+  overwritten
+             an instruction whose result is assigned again, or dropped at the
+             block's end, before anything reads it. Left out are registers that
+             another block of the version reads, and calls and forces, which may be
+             there for what they do
+  mark       a block or a DISPATCH marked reflective that need not be. Left out are
+             blocks 0 of a function that a quiet DISPATCH names, which may pass them
+             over for their mark, and promise blocks where a DISPATCH takes promises
+  unforced   a PROM whose promise nothing forces, peeks at or pokes, here or in a
+             version that it is given to
+  uncalled   a version that no run comes to. Runs enter the versions of function 0,
+             or those that --entry names; from there on count the versions that
+             CALL names, and that a DISPATCH may pick by its level and by all of its
+             signature but the arguments' kinds
+Each gets a line, which begins with FILE:LINE:COLUMN on a text, else with the file
+and the offset. An image that is refused gets the line of `fir check`.
+
+FILE holds the text form where its name ends in .fir, and an image's bytes
+otherwise; `-` is standard input, a text or bytes by what it holds.
+
+With --json each finding is an object with `file`, `lint`, `offset`, `words` and on a
+text `line` and `column`.
+";
+
+/// `fir move`
+pub const MOVE: &str = "\
+Moves stored images to the form in force, whose literals have 64 bits, or with
+--to 32 back to the form before. Only literals change, and there and back gives
+the same bytes; levels stay. An image is first put to the questions of the form that
+it comes from; then 16 asks that each literal fits 32 bits, and 17 that the moved
+image has at most 32,768 bytes. A refused image is not written.
+
+A single image is written to OUT, or into OUT under its own name where that is a
+folder; several are written into the folder OUT, which is made if it is missing.
+There is a line for each, and for several a count at the end; on a terminal it
+shows how far it is. An image that is refused, or cannot be read or written, does
+not stop the others.
+
+No image is written over: a command that would write to a file that it reads, or
+twice to the same, does nothing. Other files of these names are replaced. A file
+is written beside its place and then renamed, so none is ever there in part.
+
+FILE holds the text form where its name ends in .fir, and an image's bytes
+otherwise; `-` is standard input, a text or bytes by what it holds. What is written
+are bytes, so its name may not end in .fir.
+
+example:
+  $ fir move old/*.bin -o new
+  old/defrost.bin: moved to new/defrost.bin, 279 bytes
+  old/spread.bin: refused by 4 at 187: the image ends where 1 more block of 1.3 is due
+  1 moved, 1 refused
+";
+
+/// `fir asm`
+pub const ASM: &str = "\
+Assembles a text, whatever its name ends in, and writes the image's bytes to OUT
+or to standard output. `-` reads the text from standard input. The image is not
+checked: `fir check` does that.
+";
+
+/// `fir dis`
+pub const DIS: &str = "\
+Writes the text of an image, whatever its name ends in and whether or not it is
+accepted, to OUT or to standard output. `-` reads the image from standard input.
+`fir asm` makes the same bytes of the text.
+";
+
+/// `fir explain`
+pub const EXPLAIN: &str = "\
+Says what the question N asks, with scripts that it refuses and mended ones; without
+a number it lists the questions. The text is that of docs/LANGUAGE.md.
+
+example:
+  $ fir explain 14
+  14: no SKIP goes past the end of its block, or of a part that it stands in
+  ..
+";
+
+/// `fir completion`
+pub const COMPLETION: &str = "\
+Prints a script that makes a shell complete the commands of `fir`, their options,
+and what these take:
+  bash   source <(fir completion bash)
+  zsh    fir completion zsh > DIR/_fir, where DIR is in $fpath
+  fish   fir completion fish > ~/.config/fish/completions/fir.fish
+";

@@ -1,0 +1,94 @@
+//! `fir explain`: the section of each refusal, and their list.
+
+mod support;
+
+use support::fir;
+
+/// The refusals there are.
+const REFUSALS: std::ops::RangeInclusive<u8> = 1..=19;
+
+/// What `fir explain` prints of a refusal.
+#[track_caller]
+fn explained(number: u8) -> String {
+    let done = fir(&["explain", &number.to_string()], b"");
+    assert_eq!((done.status, done.errors.as_str()), (0, ""));
+    done.text()
+}
+
+#[test]
+fn each_refusal_has_its_own_section_with_a_wrong_script_and_a_mended_one() {
+    for number in REFUSALS {
+        let text = explained(number);
+        assert!(text.starts_with(&format!("{number}: ")), "{text}");
+        let wrong = format!("refused by {number} at ");
+        let (_, behind) = text.split_once(&wrong).expect("a wrong script");
+        let mended = ["Checked, accepted:", ", DONE ", " bytes:"];
+        assert!(mended.iter().any(|words| behind.contains(words)), "{text}");
+    }
+}
+
+#[test]
+fn a_section_ends_where_the_next_one_begins() {
+    for number in REFUSALS {
+        let text = explained(number);
+        let headings = text.lines().filter(|line| line.starts_with("##"));
+        assert_eq!(headings.count(), 0, "{text}");
+        assert!(text.ends_with("\n") && !text.ends_with("\n\n"), "{text}");
+    }
+}
+
+#[test]
+fn scripts_are_indented_and_comments_in_them_stay() {
+    let text = explained(14);
+    assert!(!text.contains("```"), "{text}");
+    let script = "\n    # The inner part is to end where the outer one does, but reaches one further.\n    version 0.0(r0: int, r1: int) -> int\n      level portal\n";
+    assert!(text.contains(script), "{text}");
+}
+
+#[test]
+fn without_a_number_all_are_listed_in_the_order_of_the_questions() {
+    let done = fir(&["explain"], b"");
+    assert_eq!((done.status, done.errors.as_str()), (0, ""));
+    let text = done.text();
+    let number = |line: &str| {
+        line.strip_prefix(' ')?
+            .split_whitespace()
+            .next()?
+            .parse()
+            .ok()
+    };
+    let numbers: Vec<u8> = text.lines().filter_map(number).collect();
+    let order = [
+        1, 2, 3, 4, 5, 6, 7, 14, 8, 18, 9, 10, 11, 19, 12, 13, 15, 16, 17,
+    ];
+    assert_eq!(numbers, order);
+    assert!(
+        text.contains("\nQuestions to an image:\n   1  an image has "),
+        "{text}"
+    );
+}
+
+#[test]
+fn other_words_are_bad_usage() {
+    for word in ["0", "20", "256", "-1", "8.0", "all", ""] {
+        let done = fir(&["explain", word], b"");
+        assert_eq!((done.status, done.output.len()), (2, 0), "{word}");
+        let reason = format!("no question has the number `{word}`");
+        assert!(done.errors.contains(&reason), "{}", done.errors);
+    }
+    let done = fir(&["explain", "8", "9"], b"");
+    assert_eq!(done.status, 2);
+    assert!(
+        done.errors.contains("`9` is one too many"),
+        "{}",
+        done.errors
+    );
+}
+
+#[test]
+fn the_help_names_it() {
+    assert!(fir(&["--help"], b"").text().contains("fir explain [N]"));
+    assert!(fir(&["explain", "--help"], b"")
+        .text()
+        .contains("fir explain [N]"));
+}

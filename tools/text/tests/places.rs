@@ -1,0 +1,62 @@
+//! Where in a text something is wrong, and where registers are declared.
+
+use text::{assemble, declaration};
+
+/// The line and the column of what is wrong in a text.
+#[track_caller]
+fn wrong(text: &str) -> (usize, usize) {
+    let error = assemble(text).expect_err("a text that is wrong");
+    (error.line, error.column)
+}
+
+#[test]
+fn what_is_wrong_is_named_by_line_and_column() {
+    assert_eq!(wrong("verson"), (1, 1));
+    assert_eq!(wrong("\n  \n\t  verson 0.0"), (3, 4));
+    assert_eq!(wrong("version 0.0(r0: itn) -> int"), (1, 17));
+    assert_eq!(wrong("version 0.0(r0: int) -> int more"), (1, 29));
+    assert_eq!(wrong("version 0.0(r0: int) ->"), (1, 24));
+    assert_eq!(wrong("version 0.0(r0: int) -> # é"), (1, 24));
+    assert_eq!(wrong("  r0 = lit 9223372036854775808"), (1, 12));
+    assert_eq!(wrong("  skip 3 r0"), (1, 10));
+    assert_eq!(wrong("  bytes 01 2"), (1, 12));
+}
+
+#[test]
+fn a_line_that_is_wrong_as_a_whole_is_named_at_its_first_word() {
+    assert_eq!(wrong("  registers r0: int"), (1, 3));
+    assert_eq!(wrong("version 0.0() -> int\n  block 1 quiet -> r0"), (2, 3));
+    assert_eq!(wrong(" version 0.0(r1: int) -> int"), (1, 2));
+}
+
+/// Two versions; the registers of the second stand on three lines.
+const TEXT: &str = "\
+version 0.0(r0: int, r1: vector) -> int # r2: int
+  block 0 quiet -> r0
+version 1.0(r0: int) -> int
+
+  registers r1: int,r2 : own vector
+  # registers r3: int
+  registers r3: any, r13: int
+  block 0 quiet -> r0
+  registers r4: int
+";
+
+#[test]
+fn a_register_is_found_where_its_version_declares_it() {
+    assert_eq!(declaration(TEXT, 1, 0), Some((1, 13)));
+    assert_eq!(declaration(TEXT, 1, 1), Some((1, 22)));
+    assert_eq!(declaration(TEXT, 3, 0), Some((3, 13)));
+    assert_eq!(declaration(TEXT, 3, 1), Some((5, 13)));
+    assert_eq!(declaration(TEXT, 3, 2), Some((5, 21)));
+    assert_eq!(declaration(TEXT, 3, 3), Some((7, 13)));
+    assert_eq!(declaration(TEXT, 3, 13), Some((7, 22)));
+}
+
+#[test]
+fn a_register_that_is_not_declared_is_nowhere() {
+    assert_eq!(declaration(TEXT, 1, 2), None, "a comment declares nothing");
+    assert_eq!(declaration(TEXT, 3, 4), None, "behind a block");
+    assert_eq!(declaration(TEXT, 0, 0), None);
+    assert_eq!(declaration(TEXT, 99, 0), None);
+}
