@@ -1,7 +1,7 @@
 //! `fir check`: images put to the questions of a form.
 
 use crate::command::Check;
-use crate::failure::{Failure, Status, Wrong};
+use crate::failure::{Failure, Status};
 use crate::json::Json;
 use crate::moving::form_of;
 use crate::refusal::{self, Refused};
@@ -146,7 +146,7 @@ impl Checked {
         fields.extend(match &self.found {
             Found::Accepted(report) => vec![("versions", versions(report))],
             Found::Refused(_, refused) => refused.json(),
-            Found::Failed(failure) => failure_json(failure),
+            Found::Failed(failure) => failure.json(),
         });
         Json::Object(fields)
     }
@@ -166,21 +166,4 @@ fn versions(report: &str) -> Json {
         Json::Object(fields.collect())
     };
     lines.map(version).collect()
-}
-
-/// The fields of a failure.
-fn failure_json(failure: &Failure) -> Vec<(&'static str, Json)> {
-    match failure {
-        Failure::Text(Wrong {
-            position, reason, ..
-        }) => {
-            let mut fields = Json::position(Some(*position));
-            fields.push(("words", reason.as_str().into()));
-            fields
-        }
-        Failure::File(reason) | Failure::Usage(_, reason) => {
-            vec![("error", reason.as_str().into())]
-        }
-        Failure::Closed => Vec::new(),
-    }
 }

@@ -54,8 +54,8 @@ pub enum Command {
     Assemble(Conversion),
     /// `fir dis`
     Disassemble(Conversion),
-    /// `fir explain`, of a question or of all.
-    Explain(Option<u8>),
+    /// `fir explain`, of a question or an end, or of all.
+    Explain(Option<&'static str>),
     /// `fir completion`
     Completion(Shell),
 }
@@ -236,8 +236,8 @@ fn parse_debug(words: Words) -> Result<Call, String> {
     Ok(call)
 }
 
-/// The question that is to be explained; none for all.
-fn parse_explain(mut words: Words) -> Result<Option<u8>, String> {
+/// What is to be explained; none for all.
+fn parse_explain(mut words: Words) -> Result<Option<&'static str>, String> {
     let word = words.next().map(|word| plain(&word)).transpose()?;
     words.finish()?;
     explain::parse(word.as_deref())

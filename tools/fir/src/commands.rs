@@ -35,7 +35,7 @@ pub fn execute(command: &Command, streams: &mut Streams) -> Result<Status, Failu
         Command::Move(asked) => moving::all(asked, streams),
         Command::Assemble(conversion) => assemble(conversion, streams),
         Command::Disassemble(conversion) => disassemble(conversion, streams),
-        Command::Explain(question) => print(&explain::text(*question), streams),
+        Command::Explain(subject) => print(&explain::text(*subject), streams),
         Command::Completion(shell) => print(&shell.script(), streams),
     }
 }

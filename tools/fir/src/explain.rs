@@ -1,51 +1,60 @@
-//! `fir explain`: what `docs/LANGUAGE.md` says of a refusal.
+//! `fir explain`: what `docs/LANGUAGE.md` says of a refusal, or of an end of a run.
 
 /// The document.
 const DOCUMENT: &str = include_str!("../../../docs/LANGUAGE.md");
 
 /// What opens a part of the document, as that of the questions to an image.
 const PART: &str = "## ";
-/// What opens the section of a refusal.
+/// What opens the section of a refusal or of an end.
 const SECTION: &str = "### ";
 /// What opens and closes a script.
 const FENCE: &str = "```";
+/// How wide the subjects are in the list.
+const SUBJECT_WIDTH: usize = 9;
 /// How far a script stands from the left.
 const INDENT: &str = "    ";
 
-/// What is printed above the list of refusals.
-const OPENING: &str =
-    "The questions, in the order in which they are put. `fir explain N` says more of one.\n";
+/// What is printed above the list of sections.
+const OPENING: &str = "What a budget says, and the questions in the order in which they are put.
+`fir explain N` says more of a question, `fir explain UNDEF` of UNDEF.
+";
 
-/// The question that a word names; all where there is no word.
-pub fn parse(word: Option<&str>) -> Result<Option<u8>, String> {
+/// The subject that a word names, in any case of letters; all where there is no word.
+pub fn parse(word: Option<&str>) -> Result<Option<&'static str>, String> {
     let Some(word) = word else {
         return Ok(None);
     };
-    let question = word.parse().ok();
-    let question = question.filter(|&question| section(question).is_some());
-    let wrong = || format!("no question has the number `{word}`; `fir explain` lists them");
-    question.map(Some).ok_or_else(wrong)
+    let mut subjects = DOCUMENT
+        .lines()
+        .filter_map(heading)
+        .map(|(subject, _)| subject);
+    let subject = subjects.find(|subject| subject.eq_ignore_ascii_case(word));
+    let wrong = || {
+        format!(
+            "`{word}` is no question's number and no word such as UNDEF; `fir explain` lists them"
+        )
+    };
+    subject.map(Some).ok_or_else(wrong)
 }
 
-/// What is printed of a question that the document has, or of all.
-pub fn text(question: Option<u8>) -> String {
-    let section = question.and_then(section);
+/// What is printed of a subject that the document has, or of all.
+pub fn text(subject: Option<&str>) -> String {
+    let section = subject.and_then(section);
     section.unwrap_or_else(list)
 }
 
-/// The number and the words of the heading of a refusal's section.
-fn heading(line: &str) -> Option<(u8, &str)> {
-    let (number, words) = line.strip_prefix(SECTION)?.split_once(": ")?;
-    Some((number.parse().ok()?, words))
+/// The subject and the words of the heading of a section: the number of a question, or
+/// how a run ends.
+fn heading(line: &str) -> Option<(&str, &str)> {
+    line.strip_prefix(SECTION)?.split_once(": ")
 }
 
-/// The section of a refusal, its scripts indented; none where no question has the
-/// number.
-fn section(question: u8) -> Option<String> {
-    let is_it = |line: &str| heading(line).is_some_and(|(number, _)| number == question);
+/// The section of a subject, its scripts indented; none where there is none.
+fn section(subject: &str) -> Option<String> {
+    let is_it = |line: &str| heading(line).is_some_and(|(there, _)| there == subject);
     let mut lines = DOCUMENT.lines().skip_while(|line| !is_it(line));
-    let (number, words) = heading(lines.next()?)?;
-    let mut section = format!("{number}: {words}\n");
+    let (subject, words) = heading(lines.next()?)?;
+    let mut section = format!("{subject}: {words}\n");
     let mut indent = "";
     for line in lines {
         if line.starts_with(FENCE) {
@@ -63,17 +72,17 @@ fn section(question: u8) -> Option<String> {
     Some(section)
 }
 
-/// A line for each refusal, under the part of the document that it stands in.
+/// A line for each section, under the part of the document that it stands in.
 fn list() -> String {
     let (mut list, mut part) = (OPENING.to_string(), None);
     for line in DOCUMENT.lines() {
         if let Some(words) = line.strip_prefix(PART) {
             part = Some(words);
-        } else if let Some((number, words)) = heading(line) {
+        } else if let Some((subject, words)) = heading(line) {
             if let Some(part) = part.take() {
                 list += &format!("\n{part}:\n");
             }
-            list += &format!("{number:>4}  {words}\n");
+            list += &format!("{subject:>SUBJECT_WIDTH$}  {words}\n");
         }
     }
     list
@@ -86,7 +95,11 @@ mod tests {
 
     #[test]
     fn headings_are_the_rules_in_the_words_of_refusals() {
-        let headings: Vec<(u8, &str)> = DOCUMENT.lines().filter_map(heading).collect();
+        let question = |line| {
+            let (subject, words): (&str, &str) = heading(line)?;
+            Some((subject.parse().ok()?, words))
+        };
+        let headings: Vec<(u8, &str)> = DOCUMENT.lines().filter_map(question).collect();
         for &(number, words) in &headings {
             assert_eq!(words, rule(number));
         }

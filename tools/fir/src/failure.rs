@@ -1,5 +1,6 @@
 //! Why a command came to no answer, and the exit status.
 
+use crate::json::Json;
 use crate::place::Position;
 use crate::streams::Streams;
 
@@ -72,5 +73,22 @@ impl Failure {
             Failure::Closed => return,
         };
         streams.complain(&line);
+    }
+
+    /// What is wrong, to stand in an object.
+    pub fn json(&self) -> Vec<(&'static str, Json)> {
+        match self {
+            Failure::Text(Wrong {
+                position, reason, ..
+            }) => {
+                let mut fields = Json::position(Some(*position));
+                fields.push(("words", reason.as_str().into()));
+                fields
+            }
+            Failure::File(reason) | Failure::Usage(_, reason) => {
+                vec![("error", reason.as_str().into())]
+            }
+            Failure::Closed => Vec::new(),
+        }
     }
 }

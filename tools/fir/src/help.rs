@@ -63,9 +63,9 @@ const ALL: &str = "  fir help COMMAND, fir COMMAND --help
   fir --version
       the tool's version
 
-FILE holds the text form where its name ends in .fir, and an image's bytes
-otherwise; `-` is standard input, a text or bytes by what it holds. A message on a
-text begins with FILE:LINE:COLUMN.
+FILE is a text or an image's bytes by what it holds, and always a text where its
+name ends in .fir; `-` is standard input. A message on a text begins with
+FILE:LINE:COLUMN.
 
 exit status:
   0  accepted; DONE; moved; assembled; nothing found by lint
@@ -226,8 +226,8 @@ pub const COMMANDS: [Topic; 10] = [
     },
     Topic {
         name: "explain",
-        given: "[N]",
-        summary: "what refusal N means, and how to mend it",
+        given: "[N|WORD]",
+        summary: "what refusal N means, or a word such as UNDEF, and how to mend it",
         options: &[],
         words: EXPLAIN,
         status: "0 explained, 2 bad usage",

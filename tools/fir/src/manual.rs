@@ -13,8 +13,8 @@ begins with its name, and there is a count at the end.
 The questions are those of the form in force, whose literals have 64 bits. With
 --form 32 they are those of the form before, which differ in its literals alone.
 
-FILE holds the text form where its name ends in .fir, and an image's bytes
-otherwise; `-` is standard input, a text or bytes by what it holds.
+FILE is a text or an image's bytes by what it holds, and always a text where its
+name ends in .fir; `-` is standard input.
 
 With --json each file gets an object with `file` and `accepted`; an accepted image
 has `versions`, each with `version`, `read`, `assigned`, `emptied` and `captured`; a
@@ -70,10 +70,11 @@ and `taken`, and one for the result, with `result` (DONE, UNDEF, STEPS, DEEP,
 VECTORS, PROMISES or refused), `steps`, the `value` of DONE, and else where the run
 stands: `offset`, `line` and `column` of a text, `version`, `block`, `text` and the
 `cause` of UNDEF. A refusal has `question`, `offset` and `words`. --stats adds
-`stats`, images that were not reached are in `not_reached`.
+`stats`, images that were not reached are in `not_reached`. Where a file has no image
+`result` is failed, with `file` and what `fir check --json` says of it.
 
-A file, FILE or IMAGE, holds the text form where its name ends in .fir, and an
-image's bytes otherwise; `-` is standard input, a text or bytes by what it holds.
+A file, FILE or IMAGE, is a text or an image's bytes by what it holds, and always a
+text where its name ends in .fir; `-` is standard input.
 ";
 
 /// `fir trace`
@@ -107,8 +108,8 @@ With --html it prints the result alone, and writes a page that shows the run ste
 by step, with its source, calls, registers, names, vectors and promises. The page
 needs nothing besides itself; its keys are listed on it.
 
-A file, FILE or IMAGE, holds the text form where its name ends in .fir, and an
-image's bytes otherwise; `-` is standard input, a text or bytes by what it holds.
+A file, FILE or IMAGE, is a text or an image's bytes by what it holds, and always a
+text where its name ends in .fir; `-` is standard input.
 ";
 
 /// `fir debug`
@@ -120,8 +121,9 @@ of the proved library. `back` begins the run anew and takes one step less.
   step [N]       s  takes N steps, 1 if none is given
   next           n  takes steps until the calls and forces that this one opens end
   out            o  takes steps until the newest call or force has ended
-  to LINE           takes steps until the run stands at a line of the text
-  to F.V            takes steps until the run enters a version
+  to LINE           takes steps, at least one, until the run stands at a line
+  to F.V            takes steps, at least one, until the run enters a version; a run
+                    that does not come to it stays where it is
   run            r  takes steps until the run ends
   back [N]       b  goes back by N steps
   at N              goes to the state after N steps, from the start
@@ -132,8 +134,8 @@ of the proved library. `back` begins the run anew and takes one step less.
   help           h  these commands
   quit           q  leaves, as the end of the input does
 
-FILE holds the text form where its name ends in .fir, and an image's bytes
-otherwise.
+FILE is a text or an image's bytes by what it holds, and always a text where its
+name ends in .fir.
 ";
 
 /// `fir lint`
@@ -158,11 +160,12 @@ Says what an accepted image has and does not need:
 Each gets a line, which begins with FILE:LINE:COLUMN on a text, else with the file
 and the offset. An image that is refused gets the line of `fir check`.
 
-FILE holds the text form where its name ends in .fir, and an image's bytes
-otherwise; `-` is standard input, a text or bytes by what it holds.
+FILE is a text or an image's bytes by what it holds, and always a text where its
+name ends in .fir; `-` is standard input.
 
 With --json each finding is an object with `file`, `lint`, `offset`, `words` and on a
-text `line` and `column`.
+text `line` and `column`. An image that is refused has the `lint` refused, and a file
+without an image the `lint` failed, each with what `fir check --json` says of it.
 ";
 
 /// `fir move`
@@ -183,9 +186,9 @@ No image is written over: a command that would write to a file that it reads, or
 twice to the same, does nothing. Other files of these names are replaced. A file
 is written beside its place and then renamed, so none is ever there in part.
 
-FILE holds the text form where its name ends in .fir, and an image's bytes
-otherwise; `-` is standard input, a text or bytes by what it holds. What is written
-are bytes, so its name may not end in .fir.
+FILE is a text or an image's bytes by what it holds, and always a text where its
+name ends in .fir; `-` is standard input. What is written are bytes, so its name may
+not end in .fir.
 
 example:
   $ fir move old/*.bin -o new
@@ -210,8 +213,9 @@ accepted, to OUT or to standard output. `-` reads the image from standard input.
 
 /// `fir explain`
 pub const EXPLAIN: &str = "\
-Says what the question N asks, with scripts that it refuses and mended ones; without
-a number it lists the questions. The text is that of docs/LANGUAGE.md.
+Says what the question N asks, with scripts that it refuses and mended ones; or what
+UNDEF, STEPS, DEEP, VECTORS or PROMISES means, the WORD in any case of letters.
+Without either it lists all. The text is that of docs/LANGUAGE.md.
 
 example:
   $ fir explain 14

@@ -9,7 +9,7 @@ use crate::refusal::{self, Refused};
 use crate::source::{self, Source};
 use crate::stats::Stats;
 use crate::streams::Streams;
-use crate::telling::{self, Ending, Format, Tried};
+use crate::telling::{self, Ending, Format, Tried, Unread};
 use crate::trace;
 use library::{Ran, Refusal, Run, FIR_ITEMS};
 use std::ffi::OsStr;
@@ -35,18 +35,19 @@ struct Next {
     step: u32,
 }
 
-impl Next {
-    /// Reads the images that a run is to go on under.
-    fn read_all(call: &Call, streams: &mut Streams) -> Result<Vec<Next>, Failure> {
-        let mut all = Vec::new();
-        for then in &call.then {
-            all.push(Next {
-                source: Source::read(&then.file, streams)?,
-                step: then.step,
-            });
-        }
-        Ok(all)
-    }
+/// The images of a run.
+struct Images {
+    first: Source,
+    /// Those that it is to go on under.
+    changes: Vec<Next>,
+}
+
+/// The image of a file, or why there is none.
+fn read(file: &OsStr, streams: &mut Streams) -> Result<Source, Unread> {
+    Source::read(file, streams).map_err(|failure| Unread {
+        name: source::name(file),
+        failure,
+    })
 }
 
 /// Asks that a page is not written over an image that is read.
@@ -80,37 +81,56 @@ pub fn run(
     format: Format,
     streams: &mut Streams,
 ) -> Result<Status, Failure> {
-    let source = Source::read(&call.file, streams)?;
-    let changes = Next::read_all(call, streams)?;
-    let run = match begin(&source, call) {
-        Ok(run) => run,
-        Err(refused) => {
-            let told = format.refused(&source, &refused, streams);
-            return answered(Status::No, told);
-        }
-    };
-    ask_page_apart(call, manner)?;
-    let page = matches!(manner, Manner::Page(_));
-    let mut going = Going {
-        recorder: page.then(|| Recorder::new(&source, run.state())),
-        run,
-        source: &source,
-        steps: 0,
-        manner,
-        format,
-        stats: Stats::default(),
-    };
-    for (index, next) in changes.iter().enumerate() {
-        going.go_to(next.step.min(call.budget), streams)?;
-        if going.steps < next.step {
-            return going.finish(&changes[index..], streams);
-        }
-        if let Err(refused) = going.change(&next.source, streams)? {
-            return going.leave(&refused, &next.source, streams);
-        }
+    match Images::read(call, streams) {
+        Ok(images) => images.run(call, manner, format, streams),
+        Err(unread) => format.failed(unread, streams),
     }
-    going.go_to(call.budget, streams)?;
-    going.finish(&[], streams)
+}
+
+impl Images {
+    /// Reads the images of a run.
+    fn read(call: &Call, streams: &mut Streams) -> Result<Images, Unread> {
+        let first = read(&call.file, streams)?;
+        let mut changes = Vec::new();
+        for then in &call.then {
+            changes.push(Next {
+                source: read(&then.file, streams)?,
+                step: then.step,
+            });
+        }
+        Ok(Images { first, changes })
+    }
+
+    /// Does the run; the exit status.
+    fn run(
+        &self,
+        call: &Call,
+        manner: Manner,
+        format: Format,
+        streams: &mut Streams,
+    ) -> Result<Status, Failure> {
+        let Images { first, changes } = self;
+        let run = match begin(first, call) {
+            Ok(run) => run,
+            Err(refused) => {
+                let told = format.refused(first, &refused, streams);
+                return answered(Status::No, told);
+            }
+        };
+        ask_page_apart(call, manner)?;
+        let mut going = Going::new(first, run, call, (manner, format));
+        for (index, next) in changes.iter().enumerate() {
+            going.go_to(next.step.min(call.budget), streams)?;
+            if going.steps < next.step {
+                return going.finish(&changes[index..], streams);
+            }
+            if let Err(refused) = going.change(&next.source, streams)? {
+                return going.leave(&refused, &next.source, streams);
+            }
+        }
+        going.go_to(call.budget, streams)?;
+        going.finish(&[], streams)
+    }
 }
 
 /// A run that has begun.
@@ -131,6 +151,25 @@ struct Going<'s> {
 }
 
 impl<'s> Going<'s> {
+    /// A run of an image before its first step.
+    fn new(
+        source: &'s Source,
+        run: Run<'s>,
+        call: &Call,
+        (manner, format): (Manner<'s>, Format),
+    ) -> Going<'s> {
+        let page = matches!(manner, Manner::Page(_));
+        Going {
+            recorder: page.then(|| Recorder::new(source, call, run.state())),
+            run,
+            source,
+            steps: 0,
+            manner,
+            format,
+            stats: Stats::default(),
+        }
+    }
+
     /// Takes steps until so many are taken in all, or the run has ended.
     fn go_to(&mut self, steps: u32, streams: &mut Streams) -> Result<(), Failure> {
         let (source, format) = (self.source, self.format);

@@ -15,6 +15,9 @@ const MOST_BYTES: usize = 16 << 20;
 /// The extension of texts.
 const TEXT: &str = "fir";
 
+/// What some editors write before a text; it is passed over.
+const BYTE_ORDER_MARK: &[u8] = "\u{feff}".as_bytes();
+
 /// An image, with its text if it came from one.
 #[derive(Clone, Debug)]
 pub struct Source {
@@ -64,12 +67,11 @@ impl Source {
         }
     }
 
-    /// The image of a file: from its text where the name ends in `.fir`, else from its
-    /// bytes; standard input is a text where it looks like one.
+    /// The image of a file or of standard input: from its text where the name ends in
+    /// `.fir` or the bytes look like a text, else from its bytes.
     pub fn read(file: &OsStr, streams: &mut Streams) -> Result<Source, Failure> {
         let (bytes, name) = (bytes_of(file, streams)?, name(file));
-        let is_text = is_text(Path::new(file)) || (file == "-" && looks_like_text(&bytes));
-        if is_text {
+        if is_text(Path::new(file)) || looks_like_text(&bytes) {
             Source::text(text_from(bytes, &name)?, &name)
         } else {
             Ok(Source::bytes(bytes, &name))
@@ -162,8 +164,12 @@ pub fn text_of(file: &OsStr, streams: &mut Streams) -> Result<String, Failure> {
     text_from(bytes_of(file, streams)?, &name(file))
 }
 
-/// The text that bytes make; `name` is what it is called in a failure.
-fn text_from(bytes: Vec<u8>, name: &str) -> Result<String, Failure> {
+/// The text that bytes make behind a byte order mark, if they begin with one; `name` is
+/// what it is called in a failure.
+fn text_from(mut bytes: Vec<u8>, name: &str) -> Result<String, Failure> {
+    if bytes.starts_with(BYTE_ORDER_MARK) {
+        bytes.drain(..BYTE_ORDER_MARK.len());
+    }
     String::from_utf8(bytes).map_err(|error| {
         let before = &error.as_bytes()[..error.utf8_error().valid_up_to()];
         let before = String::from_utf8_lossy(before);

@@ -4,6 +4,7 @@ use crate::failure::{Failure, Status};
 use crate::json::Json;
 use crate::number::many;
 use crate::refusal::Refused;
+use crate::running::answered;
 use crate::source::Source;
 use crate::stats::Stats;
 use crate::streams::Streams;
@@ -37,6 +38,14 @@ pub struct Ending<'r> {
     pub stats: Option<&'r Stats>,
 }
 
+/// A file that has no image: it cannot be read, or does not assemble.
+pub struct Unread {
+    /// What it is called.
+    pub name: String,
+    /// Why.
+    pub failure: Failure,
+}
+
 /// A change of the image that was tried.
 pub struct Tried<'r> {
     /// After how many steps.
@@ -66,6 +75,18 @@ impl Format {
                 Format::object(fields, streams)
             }
         }
+    }
+
+    /// Prints why a file has no image, if that is an object; else the failure is told
+    /// where all are. The exit status.
+    pub fn failed(self, unread: Unread, streams: &mut Streams) -> Result<Status, Failure> {
+        let Unread { name, failure } = unread;
+        if self == Format::Lines {
+            return Err(failure);
+        }
+        let mut fields = vec![("result", Json::from("failed")), ("file", name.into())];
+        fields.extend(failure.json());
+        answered(failure.status(), Format::object(fields, streams))
     }
 
     /// Prints a step and what it did.

@@ -49,14 +49,6 @@ fn check_prints_the_report_of_an_accepted_image() {
 }
 
 #[test]
-fn only_the_extension_makes_a_file_a_text() {
-    let named_otherwise = file("check", "identity.txt", IDENTITY.as_bytes());
-    let done = fir(&["check", &named_otherwise], b"");
-    assert!(done.text().starts_with("refused by 2 at 0: "), "{done:?}");
-    assert_eq!(done.status, 1);
-}
-
-#[test]
 fn a_text_that_does_not_assemble_is_a_no_with_its_line() {
     let text = file(
         "check",

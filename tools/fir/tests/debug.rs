@@ -124,9 +124,38 @@ fn to_goes_to_a_line_or_a_version() {
             "line 18 has no instruction and no block",
             "there is no version 3.0",
             "line 99 has no instruction and no block",
-            "DONE [10, 6] after 13 steps",
+            "line 17 is not come to again; it was last at step 6, `at 6` goes there",
         ]
     );
+}
+
+#[test]
+fn a_run_that_does_not_come_to_a_target_stays_where_it_was() {
+    assert_eq!(
+        printed(&["to 7", "to 7", "to 2.0", "to 0.0", "step", "run", "to 7"]),
+        [
+            "doubles.fir:7:5: after 11 steps, in 0.0, block 0: set r0[r1] = r2",
+            "line 7 is not come to again; the run stands there",
+            "version 2.0 is not entered again; it was last at step 5, `at 5` goes there",
+            "version 0.0 is not entered again; it was last at step 0, `at 0` goes there",
+            "    12   1  0.0   block 0  set r0[r1] = r2                      v0 = [10, 6]",
+            "doubles.fir:4:3: after 12 steps, in 0.0, block 0: end -> r0",
+            "DONE [10, 6] after 13 steps",
+            "line 7 is not come to again; it was last at step 11, `at 11` goes there",
+        ]
+    );
+}
+
+#[test]
+fn a_target_that_lies_behind_the_budget_is_not_come_to_within_it() {
+    let file = file("debug", "doubles.fir", DOUBLES.as_bytes());
+    let call = ["debug", &file, "0.0", "[5,6]", "--budget", "8"];
+    let text = fir(&call, b"to 7\nto 1.0\nto 1.0\n").text();
+    let lines: Vec<&str> = text.lines().skip(1).collect();
+    assert_eq!(lines[0], "line 7 is not come to within 8 steps");
+    assert!(lines[1].contains(": after 2 steps, in 1.0, "), "{text}");
+    let stays = "version 1.0 is not entered again within 8 steps; the run stands there";
+    assert_eq!(lines[2..], [stays]);
 }
 
 #[test]

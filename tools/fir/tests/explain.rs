@@ -63,9 +63,30 @@ fn without_a_number_all_are_listed_in_the_order_of_the_questions() {
     ];
     assert_eq!(numbers, order);
     assert!(
-        text.contains("\nQuestions to an image:\n   1  an image has "),
+        text.contains("\nQuestions to an image:\n        1  an image has "),
         "{text}"
     );
+}
+
+#[test]
+fn each_end_that_is_not_done_has_its_section_in_any_case_of_letters() {
+    let list = fir(&["explain"], b"").text();
+    for word in ["UNDEF", "STEPS", "DEEP", "VECTORS", "PROMISES"] {
+        let done = fir(&["explain", word], b"");
+        let text = done.text();
+        assert_eq!((done.status, done.errors.as_str()), (0, ""));
+        assert!(text.starts_with(&format!("{word}: ")), "{text}");
+        assert!(!text.contains("##"), "{text}");
+        assert_eq!(fir(&["explain", &word.to_lowercase()], b"").text(), text);
+        let heading = text
+            .lines()
+            .next()
+            .unwrap_or_default()
+            .replacen(": ", "  ", 1);
+        assert!(list.contains(&format!(" {heading}\n")), "{list}");
+    }
+    let undef = fir(&["explain", "Undef"], b"").text();
+    assert!(undef.contains("    r0 = div r0, r1\n"), "{undef}");
 }
 
 #[test]
@@ -73,7 +94,7 @@ fn other_words_are_bad_usage() {
     for word in ["0", "20", "256", "-1", "8.0", "all", ""] {
         let done = fir(&["explain", word], b"");
         assert_eq!((done.status, done.output.len()), (2, 0), "{word}");
-        let reason = format!("no question has the number `{word}`");
+        let reason = format!("`{word}` is no question's number and no word such as UNDEF");
         assert!(done.errors.contains(&reason), "{}", done.errors);
     }
     let done = fir(&["explain", "8", "9"], b"");
@@ -87,8 +108,10 @@ fn other_words_are_bad_usage() {
 
 #[test]
 fn the_help_names_it() {
-    assert!(fir(&["--help"], b"").text().contains("fir explain [N]"));
+    assert!(fir(&["--help"], b"")
+        .text()
+        .contains("fir explain [N|WORD]"));
     assert!(fir(&["explain", "--help"], b"")
         .text()
-        .contains("fir explain [N]"));
+        .contains("fir explain [N|WORD]"));
 }

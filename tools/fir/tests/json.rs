@@ -107,6 +107,36 @@ fn run_prints_where_it_stands_and_why_it_is_refused() {
 }
 
 #[test]
+fn a_file_without_an_image_is_an_object_of_run_trace_and_lint_too() {
+    let wrong = file("json", "unread.fir", b"\n verson\n");
+    let (good, later) = (
+        file("json", "good.fir", ADDING.as_bytes()),
+        format!("{wrong}@0"),
+    );
+    let call = ["0.0", "[5]", "1", "--json"];
+    let unread = |words: &[&str], begin: &str, status: u8| {
+        let done = fir(words, b"");
+        let text = done.text();
+        assert!(text.starts_with(begin), "{text}");
+        assert!(matches!(Value::of(text.trim_end()), Value::Object(_)));
+        assert_eq!((done.status, done.errors.as_str()), (status, ""));
+    };
+    let fields = |name: &str| format!(r#""file":"{wrong}",{name}"line":2,"column":2,"words":""#);
+    let failed = format!(r#"{{"result":"failed",{}"#, fields(""));
+    unread(&[&["run", &wrong], &call[..]].concat(), &failed, 1);
+    unread(&[&["trace", &wrong], &call[..]].concat(), &failed, 1);
+    let then = [&["run", &good], &call[..], &["--then", &later]].concat();
+    unread(&then, &failed, 1);
+    let failed = format!("{{{}", fields(r#""lint":"failed","#));
+    unread(&["lint", &wrong, "--json"], &failed, 1);
+    let error = r#""error":"missing: cannot be read: "#;
+    let failed = format!(r#"{{"result":"failed","file":"missing",{error}"#);
+    unread(&[&["run", "missing"], &call[..]].concat(), &failed, 2);
+    let failed = format!(r#"{{"file":"missing","lint":"failed",{error}"#);
+    unread(&["lint", "missing", "--json"], &failed, 2);
+}
+
+#[test]
 fn a_change_of_the_image_is_an_object() {
     let old = file("json", "old.fir", ADDING.as_bytes());
     let new = file(

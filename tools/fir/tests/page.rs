@@ -52,6 +52,25 @@ version 0.0(r0: int) -> int
 ";
 
 #[test]
+fn the_title_names_the_file_the_version_the_arguments_and_the_level() {
+    let file = file("page", "a<b>&c.fir", SCRIPT.as_bytes());
+    let shown = file.replace("a<b>&c", "a&lt;b&gt;&amp;c");
+    let titled = |test: &str, more: &[&str], title: &str| {
+        let (page, _) = page(test, &[&[&*file, "0.0", "-7"], more].concat());
+        for tag in ["title", "h1"] {
+            let element = format!("<{tag}>{title}</{tag}>");
+            assert!(page.contains(&element), "{element}");
+        }
+    };
+    let title = |level: &str| format!("{shown}: 0.0 -7 at level {level}");
+    titled("factory", &[], &title("factory"));
+    titled("staff", &["--level", "staff"], &title("staff"));
+    let then = format!("{file}@1");
+    let changed = format!("{}, then {shown}", title("factory"));
+    titled("changed", &["--then", &then], &changed);
+}
+
+#[test]
 fn the_page_holds_the_source_the_steps_and_the_result() {
     let file = file("page", "script.fir", SCRIPT.as_bytes());
     let (page, done) = page("whole", &[&file, "0.0", "7"]);

@@ -28,6 +28,34 @@ fn a_text_on_standard_input_is_taken_as_text() {
 }
 
 #[test]
+fn a_text_is_taken_as_text_whatever_its_name() {
+    for name in ["identity.txt", "identity", "identity.bin"] {
+        let text = file("names", name, IDENTITY.as_bytes());
+        let done = fir(&["run", &text, "0.0", "7"], b"");
+        assert_eq!(done.text(), "DONE 7 after 1 step\n", "{name}");
+    }
+    let image = fir(&["asm", "-"], IDENTITY.as_bytes()).output;
+    let image = file("names", "image.txt", &image);
+    let done = fir(&["run", &image, "0.0", "7"], b"");
+    assert_eq!(done.text(), "DONE 7 after 1 step\n");
+}
+
+#[test]
+fn a_byte_order_mark_before_a_text_is_passed_over() {
+    let marked = format!("\u{feff}{IDENTITY}");
+    for name in ["marked.fir", "marked.txt"] {
+        let text = file("names", name, marked.as_bytes());
+        let done = fir(&["check", &text], b"");
+        assert_eq!(done.text(), "0.0 1 0 0 0\naccepted 1\n", "{name}");
+    }
+    let image = fir(&["asm", "-"], marked.as_bytes()).output;
+    assert_eq!(image, fir(&["asm", "-"], IDENTITY.as_bytes()).output);
+    let done = fir(&["check", "-"], "\u{feff}verson".as_bytes());
+    let place = "standard input:1:1: ";
+    assert!(done.errors.starts_with(place), "{}", done.errors);
+}
+
+#[test]
 fn help_takes_a_command() {
     for command in ["check", "run", "completion"] {
         let help = fir(&["help", command], b"");

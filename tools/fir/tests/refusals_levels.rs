@@ -212,23 +212,23 @@ fn a_dispatch_that_finds_versions_above_alone_names_them() {
         (
             "portal",
             &["staff"][..],
-            ", and 1.0 is above the level of 0.0, portal",
+            "1.0 is of level staff, above portal",
         ),
         (
             "staff",
             &["factory", "factory"],
-            ", and 1.0, 1.1 are above the level of 0.0, staff",
+            "1.0 is of level factory, above staff; 1.1 is of level factory, above staff",
         ),
     ] {
         let done = fir(&["run", "-", "0.0", "7"], &dispatching(own, levels));
-        let cause = format!(": no version of function 1 fits{words}\n");
+        let cause = format!(": no version of function 1 fits: {words}\n");
         assert!(done.text().ends_with(&cause), "{}", done.text());
     }
     // Nothing is above, and nothing takes the integer.
     let text = identity("0.0", "staff") + "r0 = dispatch 1(r0: int) -> int quiet\n";
     let other = identity("1.0", "staff").replace("(r0: int)", "(r0: int, r1: int)");
     let done = fir(&["run", "-", "0.0", "7"], &exact(&(text + &other)));
-    let cause = ": no version of function 1 fits\n";
+    let cause = ": no version of function 1 fits: 1.0 has 2 parameters, and 1 argument is given\n";
     assert!(done.text().ends_with(cause), "{}", done.text());
 }
 

@@ -103,7 +103,7 @@ fn a_dispatch_without_a_fit_is_a_step_and_one_that_is_deep_is_none() {
         &fir(&["run", "-", "0.0", "4", "--stats"], &image(misfit)),
         UNDEF,
         "UNDEF after 1 step
-  at 23 in 0.0, block 0: r0 = dispatch 1() -> int quiet: no version of function 1 fits
+  at 23 in 0.0, block 0: r0 = dispatch 1() -> int quiet: no version of function 1 fits: 1.0 has 1 parameter, and 0 arguments are given; 1.1 has 1 parameter, and 0 arguments are given
   steps: 1
   calls: 0
   DISPATCH steps: 1, looked at 2 of 2 versions

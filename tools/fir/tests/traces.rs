@@ -159,9 +159,9 @@ fn dispatch_without_a_fit_has_looked_at_all() {
         &[
             "1 1 0.0 block 0 r0 = dispatch 1(r0: int) -> int quiet looked at 1 of 3, opens call 1 of 1.0 with r0 = 4",
             "2 2 1.0 block 0 end -> r0 ends call 1 with 4",
-            "3 1 0.0 block 0 r0 = dispatch 1(r0: int, r0: int) -> int quiet looked at 3 of 3, UNDEF: no version of function 1 fits",
+            "3 1 0.0 block 0 r0 = dispatch 1(r0: int, r0: int) -> int quiet looked at 3 of 3, UNDEF: no version of function 1 fits: 1.0 has 1 parameter, and 2 arguments are given; 1.1 has 1 parameter, and 2 arguments are given; 1.2 has 0 parameters, and 2 arguments are given",
             "UNDEF after 3 steps",
-            "at 34 in 0.0, block 0: r0 = dispatch 1(r0: int, r0: int) -> int quiet: no version of function 1 fits",
+            "at 34 in 0.0, block 0: r0 = dispatch 1(r0: int, r0: int) -> int quiet: no version of function 1 fits: 1.0 has 1 parameter, and 2 arguments are given; 1.1 has 1 parameter, and 2 arguments are given; 1.2 has 0 parameters, and 2 arguments are given",
         ],
     );
 }
@@ -273,7 +273,67 @@ fn each_cause_of_undef_is_named() {
     );
     undefined(
         "r4 = prom 1\nr0 = force r4\nblock 1 quiet -> r0\nr0 = dispatch 0() -> int quiet",
-        "no version of function 0 fits",
+        "no version of function 0 fits: 0.0 has 2 parameters, and 0 arguments are given",
+    );
+}
+
+/// Asserts why the versions of function 1 do not fit a quiet DISPATCH on the value 7.
+#[track_caller]
+fn unfit(versions: &str, reasons: &[&str]) {
+    let text = format!(
+        "version 0.0(r0: value) -> int
+           registers r1: int
+           level portal
+           block 0 quiet -> r1
+             r1 = dispatch 1(r0: value) -> int quiet
+         {versions}\n"
+    );
+    let done = fir(&["run", "-", "0.0", "7"], text.as_bytes());
+    let cause = format!(": no version of function 1 fits: {}\n", reasons.join("; "));
+    assert!(done.text().ends_with(&cause), "{}", done.text());
+}
+
+#[test]
+fn each_version_that_does_not_fit_a_dispatch_is_named_with_its_reason() {
+    unfit(
+        "version 1.0(r0: vector) -> int
+           registers r1: int
+           level staff
+           block 0 quiet -> r1
+             r1 = len r0
+         version 1.1(r0: int, r1: int) -> int
+           level portal
+           block 0 quiet -> r0
+         version 1.2(r0: borrow vector) -> int
+           registers r1: int
+           level portal
+           block 0 quiet -> r1
+             r1 = len r0",
+        &[
+            "1.0 is of level staff, above portal",
+            "1.1 has 2 parameters, and 1 argument is given",
+            "1.2 takes a borrowed vector as r0, and is given a value",
+        ],
+    );
+    unfit(
+        "version 1.0(r0: int) -> vector
+           registers r1: vector
+           level portal
+           block 0 quiet -> r1
+             r1 = vec [r0]
+         version 1.1(r0: int) -> int
+           level portal
+           block 0 reflective -> r0
+         version 1.2(r0: vector) -> int
+           registers r1: int
+           level portal
+           block 0 quiet -> r1
+             r1 = len r0",
+        &[
+            "1.0 returns a shared vector, and an integer is asked for",
+            "1.1 is reflective, and the DISPATCH is quiet",
+            "1.2 takes a shared vector as r0, and r0 holds 7",
+        ],
     );
 }
 

@@ -69,14 +69,9 @@ fn obey(session: &mut Session, order: Order, streams: &mut Streams) -> Result<()
         Order::Step(count) => session.step(count, streams)?,
         Order::Next => session.until_depth(session.depth()),
         Order::Out => session.until_depth(session.depth().saturating_sub(1)),
-        Order::ToLine(line) => {
-            if !session.until_line(line) {
-                return streams.line(&format!("line {line} has no instruction and no block"));
-            }
-        }
-        Order::ToVersion(function, version) => {
-            if !session.until_version(function, version) {
-                return streams.line(&format!("there is no version {function}.{version}"));
+        Order::To(target) => {
+            if let Err(why) = session.go_on_to(target) {
+                return streams.line(&why);
             }
         }
         Order::Run => session.finish(),

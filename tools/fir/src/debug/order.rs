@@ -3,6 +3,15 @@
 use super::UNKNOWN;
 use crate::manual;
 
+/// What `to` goes to.
+#[derive(Clone, Copy, PartialEq, Eq, Debug)]
+pub enum Target {
+    /// A line of the text.
+    Line(usize),
+    /// The beginning of a version.
+    Version(u8, u8),
+}
+
 /// A command.
 #[derive(Clone, Copy, PartialEq, Eq, Debug)]
 pub enum Order {
@@ -12,10 +21,8 @@ pub enum Order {
     Next,
     /// `out`
     Out,
-    /// `to LINE`
-    ToLine(usize),
-    /// `to F.V`
-    ToVersion(u8, u8),
+    /// `to LINE` or `to F.V`
+    To(Target),
     /// `run`
     Run,
     /// `back [N]`
@@ -50,7 +57,7 @@ impl Order {
             ("back" | "b", given) => count(given).map(Order::Back),
             ("at", Some(word)) => number(word).map(Order::At),
             ("at", None) => Err("`at` needs a number of steps".to_string()),
-            ("to", Some(word)) => target(word),
+            ("to", Some(word)) => target(word).map(Order::To),
             ("to", None) => {
                 Err("`to` needs a line such as 12, or a version such as 1.0".to_string())
             }
@@ -91,14 +98,14 @@ fn number(word: &str) -> Result<u32, String> {
 }
 
 /// A line such as 12, or a version such as 1.0.
-fn target(word: &str) -> Result<Order, String> {
+fn target(word: &str) -> Result<Target, String> {
     let wrong = || format!("`{word}` is no line such as 12, and no version such as 1.0");
     match word.split_once('.') {
-        None => word.parse().map(Order::ToLine).map_err(|_| wrong()),
+        None => word.parse().map(Target::Line).map_err(|_| wrong()),
         Some((function, version)) => {
             let numbers = function.parse().ok().zip(version.parse().ok());
             let (function, version) = numbers.ok_or_else(wrong)?;
-            Ok(Order::ToVersion(function, version))
+            Ok(Target::Version(function, version))
         }
     }
 }

@@ -1,5 +1,6 @@
 //! A run that is gone through: where it began, where it is, and how it is moved.
 
+use super::order::Target;
 use crate::failure::Failure;
 use crate::number::many;
 use crate::place::{beginning, place};
@@ -81,17 +82,92 @@ impl<'s> Session<'s> {
         while self.single() && self.depth() > depth {}
     }
 
-    /// Takes a step, and more until the run stands at a line; false where the text has
-    /// nothing that it could stand at there.
-    pub fn until_line(&mut self, line: usize) -> bool {
-        if !self
-            .offsets()
-            .any(|offset| self.source.line(offset) == Some(line))
-        {
-            return false;
+    /// Takes a step, and more until the run comes to a target. Where it does not, it stays
+    /// where it was; why it does not.
+    pub fn go_on_to(&mut self, target: Target) -> Result<(), String> {
+        self.ask_there_is(target)?;
+        let (run, steps) = (self.run.clone(), self.steps);
+        if self.seek(target) {
+            return Ok(());
         }
-        while self.single() && self.line() != Some(line) {}
-        true
+        let cut_short = self.state().status == FIR_STEPS;
+        (self.run, self.steps) = (run, steps);
+        Err(self.missed(target, cut_short))
+    }
+
+    /// Asks that the text has what the run is to come to.
+    fn ask_there_is(&self, target: Target) -> Result<(), String> {
+        match target {
+            Target::Line(line) => {
+                let mut lines = self.offsets().map(|offset| self.source.line(offset));
+                let there = lines.any(|there| there == Some(line));
+                let wrong = || format!("line {line} has no instruction and no block");
+                there.then_some(()).ok_or_else(wrong)
+            }
+            Target::Version(function, version) => {
+                let there = self.program.version(function.into(), version.into());
+                let wrong = || format!("there is no version {function}.{version}");
+                there.map(|_| ()).ok_or_else(wrong)
+            }
+        }
+    }
+
+    /// Takes a step, and more until the run comes to a target; whether it does.
+    fn seek(&mut self, target: Target) -> bool {
+        loop {
+            let calls = self.state().calls;
+            if !self.single() {
+                return false;
+            }
+            if self.came_to(target, calls) {
+                return true;
+            }
+        }
+    }
+
+    /// Has the run come to a target by a step before which so many calls were live?
+    fn came_to(&self, target: Target, calls: u8) -> bool {
+        match target {
+            Target::Line(line) => self.line() == Some(line),
+            Target::Version(function, version) => {
+                let newest = usize::from(self.state().calls).saturating_sub(1);
+                let opened = self.state().calls > calls;
+                opened && self.state().owner(newest) == Some((function, version))
+            }
+        }
+    }
+
+    /// The last step up to now that came to a target; 0 is the start.
+    fn last_at(&self, target: Target) -> Option<u32> {
+        let mut again = Session::new(self.source, self.start.clone(), self.steps);
+        let mut last = again.came_to(target, 0).then_some(0);
+        while again.seek(target) {
+            last = Some(again.steps);
+        }
+        last
+    }
+
+    /// Words for a target that the run does not come to, by its end or within the budget.
+    fn missed(&self, target: Target, cut_short: bool) -> String {
+        let name = match target {
+            Target::Line(line) => format!("line {line} is not come to"),
+            Target::Version(function, version) => {
+                format!("version {function}.{version} is not entered")
+            }
+        };
+        let within = match cut_short {
+            true => format!(" within {}", many(self.budget as usize, "step")),
+            false => String::new(),
+        };
+        match self.last_at(target) {
+            None => format!("{name}{within}"),
+            Some(step) if step == self.steps => {
+                format!("{name} again{within}; the run stands there")
+            }
+            Some(step) => {
+                format!("{name} again{within}; it was last at step {step}, `at {step}` goes there")
+            }
+        }
     }
 
     /// The offsets of all blocks and instructions.
@@ -105,24 +181,6 @@ impl<'s> Session<'s> {
             let instructions = block.instructions.iter().map(|placed| placed.offset);
             instructions.chain([block.offset])
         })
-    }
-
-    /// Takes a step, and more until one enters a version; false where there is none.
-    pub fn until_version(&mut self, function: u8, version: u8) -> bool {
-        let there = self.program.version(function.into(), version.into());
-        if there.is_none() {
-            return false;
-        }
-        loop {
-            let calls = self.state().calls;
-            let goes_on = self.single();
-            let opened = self.state().calls > calls;
-            let newest = usize::from(self.state().calls).saturating_sub(1);
-            let entered = opened && self.state().owner(newest) == Some((function, version));
-            if !goes_on || entered {
-                return true;
-            }
-        }
     }
 
     /// Takes steps until the run ends or the budget is used up.

@@ -11,13 +11,14 @@ use crate::json::Json;
 use crate::place::{beginning, version_name, Position};
 use crate::refusal::{self, Refused};
 use crate::running::answered;
-use crate::source::Source;
+use crate::source::{self, Source};
 use crate::streams::Streams;
 use library::{Entry, Verdict};
 use reach::Reach;
 use reference::program::{Program, Version};
 use reference::record::Placed;
 use reference::{Form, Instruction};
+use std::ffi::OsStr;
 
 /// Something that an image does not need.
 pub struct Finding {
@@ -71,18 +72,29 @@ impl Finding {
 pub fn all(asked: &Lint, streams: &mut Streams) -> Result<Status, Failure> {
     let mut status = Status::Yes;
     for file in &asked.files {
-        let found = Source::read(file, streams).and_then(|source| one(asked, &source, streams));
-        match found {
-            Ok(Status::Yes) => {}
-            Ok(found) => status = worse(status, found),
-            Err(Failure::Closed) => return Err(Failure::Closed),
+        let found = match Source::read(file, streams) {
+            Ok(source) => one(asked, &source, streams)?,
             Err(failure) => {
-                failure.tell(streams);
-                status = worse(status, failure.status());
+                match asked.json {
+                    true => streams.line(&failed_json(file, &failure).to_string())?,
+                    false => failure.tell(streams),
+                }
+                failure.status()
             }
-        }
+        };
+        status = worse(status, found);
     }
     Ok(status)
+}
+
+/// A file that has no image, as an object.
+fn failed_json(file: &OsStr, failure: &Failure) -> Json {
+    let mut fields = vec![
+        ("file", Json::from(source::name(file))),
+        ("lint", "failed".into()),
+    ];
+    fields.extend(failure.json());
+    Json::Object(fields)
 }
 
 /// The status of two files: what could not be read weighs more than what was found.

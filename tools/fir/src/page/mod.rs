@@ -5,16 +5,21 @@
 
 mod difference;
 
+use crate::command::Call;
 use crate::json::Json;
 use crate::source::Source;
 use crate::trace::{Spot, Step};
 use difference::{difference, Difference};
-use library::State;
+use library::{Entry, State};
 use reference::program::Program;
+use reference::Level;
 use std::collections::BTreeMap;
+use text::level_text;
 
-/// The page, with places for the style, the script and the run.
+/// The page, with places for the titles, the style, the script and the run.
 const PAGE: &str = include_str!("page.html");
+/// How many places the title has: that of the window, and the heading.
+const TITLES: usize = 2;
 const STYLE: &str = include_str!("page.css");
 const SCRIPT: &str = include_str!("page.js");
 
@@ -49,6 +54,8 @@ type Place = (usize, usize, String, usize, String);
 
 /// What a page shows of a run.
 pub struct Recorder {
+    /// The file, the version, the arguments and the level, and the files that follow.
+    title: String,
     shown: Vec<Shown>,
     start: Difference,
     /// The places that steps stood at, each once, with its number.
@@ -60,9 +67,10 @@ pub struct Recorder {
 
 impl Recorder {
     /// That of a run before its first step.
-    pub fn new(source: &Source, state: &State) -> Recorder {
+    pub fn new(source: &Source, call: &Call, state: &State) -> Recorder {
         let shown = Shown::new(source);
         let mut recorder = Recorder {
+            title: title(source, call),
             start: difference(&shown.program, &State::blank(), state),
             shown: vec![shown],
             places: BTreeMap::new(),
@@ -75,6 +83,7 @@ impl Recorder {
 
     /// Notes that the run goes on under another image.
     pub fn change(&mut self, source: &Source, state: &State) {
+        self.title += &format!(", then {}", source.name);
         self.shown.push(Shown::new(source));
         self.stand(state);
     }
@@ -131,8 +140,26 @@ impl Recorder {
         let (style, script) = (("/*STYLE*/", STYLE), ("/*SCRIPT*/", SCRIPT));
         let page = PAGE.replacen(style.0, style.1, 1);
         let page = page.replacen(script.0, script.1, 1);
-        page.replacen("/*RUN*/", &run.to_string(), 1)
+        let page = page.replacen("/*RUN*/", &run.to_string(), 1);
+        page.replacen("/*TITLE*/", &escaped(&self.title), TITLES)
     }
+}
+
+/// The title of a run: `pump.fir: 0.0 210 [200, 195] at level staff`.
+fn title(source: &Source, call: &Call) -> String {
+    let Entry { function, version } = call.entry;
+    let mut title = format!("{}: {function}.{version}", source.name);
+    for argument in &call.arguments {
+        title += &format!(" {argument}");
+    }
+    let level = level_text(Level::stated(call.level));
+    title + &format!(" at level {level}")
+}
+
+/// A text as it stands in a page.
+fn escaped(text: &str) -> String {
+    let text = text.replace('&', "&amp;");
+    text.replace('<', "&lt;").replace('>', "&gt;")
 }
 
 /// What differs, as pairs of a place and what it shows, `null` where it is gone.

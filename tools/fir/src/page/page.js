@@ -64,7 +64,7 @@ class Run {
   words(n) {
     const [number, , did] = this.data.steps[n - 1];
     const text = number === null ? '' : this.data.places[number][4];
-    return `${n}  ${text}  ${did || ''}`;
+    return did ? `${n}  ${text} → ${did}` : `${n}  ${text}`;
   }
 }
 Run.EVERY = 256;
@@ -90,9 +90,6 @@ class Page {
     this.get('number').max = run.last;
     this.get('of').textContent = `of ${run.last}`;
     this.get('result').textContent = `${run.data.result} after ${run.last} steps`;
-    const names = run.data.images.map((image) => image.name);
-    this.get('title').textContent = names.join(', then ');
-    document.title = names[0];
     this.listen();
     this.show(0);
   }

@@ -18,6 +18,8 @@ mod skips;
 mod types;
 pub mod vocabulary;
 
+pub use vocabulary::noun;
+
 use crate::command::Call;
 use crate::json::Json;
 use crate::place::{beginning, version_name, Position};

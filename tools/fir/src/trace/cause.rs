@@ -2,7 +2,7 @@
 
 use super::changes::value;
 use super::spot::Spot;
-use crate::place::version_name;
+use super::unfit::no_fit;
 use library::{Held, Opener, State, FIR_REGISTERS};
 use reference::{kinds, Instruction};
 
@@ -34,27 +34,8 @@ fn found(state: &State, spot: &Spot, instruction: &Instruction) -> Option<String
             let unset = state.look(call, FIR_REGISTERS + usize::from(x))? == Held::Nothing;
             unset.then(|| format!("x{x} of call {call} is not set"))
         }
-        Instruction::Dispatch { function, .. } => Some(no_fit(spot, function)),
+        Instruction::Dispatch { .. } => no_fit(state, spot, instruction),
         _ => None,
-    }
-}
-
-/// Words for a search that finds no version of a function, with those that are above the
-/// level of the DISPATCH's own version.
-fn no_fit(spot: &Spot, function: u8) -> String {
-    let own = spot.version;
-    let versions = spot.program.versions_of(function.into());
-    let above = versions.filter(|version| version.level > own.level);
-    let above: Vec<String> = above.map(version_name).collect();
-    let words = format!("no version of function {function} fits");
-    match above.len() {
-        0 => words,
-        count => {
-            let verb = if count == 1 { "is" } else { "are" };
-            let (above, level) = (above.join(", "), text::level_text(own.level));
-            let own = version_name(own);
-            format!("{words}, and {above} {verb} above the level of {own}, {level}")
-        }
     }
 }
 
@@ -66,7 +47,7 @@ fn forced(state: &State, place: usize) -> Option<String> {
 }
 
 /// What a register of the step's call holds.
-fn held(state: &State, spot: &Spot, register: u8) -> Option<Held> {
+pub fn held(state: &State, spot: &Spot, register: u8) -> Option<Held> {
     state.look(spot.activation.call, register.into())
 }
 

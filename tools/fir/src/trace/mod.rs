@@ -3,6 +3,7 @@
 mod cause;
 mod changes;
 mod spot;
+mod unfit;
 
 pub use changes::{cell_name, value, Holdings};
 pub use spot::Spot;
