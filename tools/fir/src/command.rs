@@ -171,7 +171,7 @@ fn parse_command(name: &str, words: Words) -> Result<Command, String> {
         "debug" => parse_debug(words).map(Command::Debug),
         "lint" => parse_lint(words).map(Command::Lint),
         "move" => parse_move(words).map(Command::Move),
-        "asm" => parse_conversion(words).map(Command::Assemble),
+        "asm" => parse_assembly(words).map(Command::Assemble),
         "dis" => parse_conversion(words).map(Command::Disassemble),
         "explain" => parse_explain(words).map(Command::Explain),
         _ => parse_completion(words).map(Command::Completion),
@@ -322,6 +322,15 @@ fn parse_then(text: &OsStr) -> Result<Then, String> {
     }
     let file = file.into();
     Ok(Then { file, step })
+}
+
+/// `fir asm`, which writes bytes.
+fn parse_assembly(words: Words) -> Result<Conversion, String> {
+    let conversion = parse_conversion(words)?;
+    if let Some(out) = &conversion.out {
+        source::ask_bytes(Path::new(out))?;
+    }
+    Ok(conversion)
 }
 
 /// A conversion.

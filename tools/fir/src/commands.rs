@@ -11,6 +11,7 @@ use crate::running::{self, Manner};
 use crate::source::{self, Source};
 use crate::streams::Streams;
 use crate::telling::Format;
+use crate::writing;
 use crate::DONE;
 
 /// Does what a command line asks for; the exit status.
@@ -57,8 +58,18 @@ fn format(json: bool) -> Format {
     }
 }
 
+/// Asks that a conversion does not write to the file that it reads.
+fn ask_apart(command: &'static str, conversion: &Conversion) -> Result<(), Failure> {
+    let Conversion { file, out } = conversion;
+    match out {
+        Some(out) => writing::ask_apart(command, [file.as_os_str()], out),
+        None => Ok(()),
+    }
+}
+
 /// `fir asm`
 fn assemble(conversion: &Conversion, streams: &mut Streams) -> Result<Status, Failure> {
+    ask_apart("asm", conversion)?;
     let text = source::text_of(&conversion.file, streams)?;
     let source = Source::text(text, &source::name(&conversion.file))?;
     source::put(conversion.out.as_ref(), &source.image, streams)?;
@@ -67,6 +78,7 @@ fn assemble(conversion: &Conversion, streams: &mut Streams) -> Result<Status, Fa
 
 /// `fir dis`
 fn disassemble(conversion: &Conversion, streams: &mut Streams) -> Result<Status, Failure> {
+    ask_apart("dis", conversion)?;
     let image = source::bytes_of(&conversion.file, streams)?;
     let text = text::disassemble(&image);
     source::put(conversion.out.as_ref(), text.as_bytes(), streams)?;

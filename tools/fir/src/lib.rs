@@ -30,6 +30,7 @@ mod stats;
 mod streams;
 mod telling;
 mod trace;
+mod writing;
 
 pub use streams::Streams;
 

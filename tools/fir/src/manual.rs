@@ -201,21 +201,23 @@ example:
 pub const ASM: &str = "\
 Assembles a text, whatever its name ends in, and writes the image's bytes to OUT
 or to standard output. `-` reads the text from standard input. The image is not
-checked: `fir check` does that.
+checked: `fir check` does that. OUT is another file than the text, and its name does
+not end in .fir.
 ";
 
 /// `fir dis`
 pub const DIS: &str = "\
 Writes the text of an image, whatever its name ends in and whether or not it is
-accepted, to OUT or to standard output. `-` reads the image from standard input.
-`fir asm` makes the same bytes of the text.
+accepted, to OUT, another file than the image, or to standard output. `-` reads the
+image from standard input. `fir asm` makes the same bytes of the text.
 ";
 
 /// `fir explain`
 pub const EXPLAIN: &str = "\
 Says what the question N asks, with scripts that it refuses and mended ones; or what
-UNDEF, STEPS, DEEP, VECTORS or PROMISES means, the WORD in any case of letters.
-Without either it lists all. The text is that of docs/LANGUAGE.md.
+UNDEF, STEPS, DEEP, VECTORS or PROMISES means, or what an instruction such as skip
+does, the WORD in any case of letters. Without either it lists all. The text is that
+of docs/LANGUAGE.md, of instructions that of docs/TEXT-FORM.md.
 
 example:
   $ fir explain 14

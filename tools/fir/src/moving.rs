@@ -6,13 +6,11 @@ use crate::number::many;
 use crate::refusal;
 use crate::source::{self, Source};
 use crate::streams::Streams;
+use crate::writing::{self, Files};
 use library::{Form, Refusal, FIR_IMAGE_BYTES};
-use std::collections::BTreeSet;
 use std::ffi::{OsStr, OsString};
-use std::fs::{self, File};
-use std::io::{self, Write};
+use std::fs;
 use std::path::{Path, PathBuf};
-use std::process;
 
 /// A form in the words of the reference.
 pub fn form_of(form: Form) -> reference::Form {
@@ -121,9 +119,12 @@ fn plan(asked: &Move) -> Result<Vec<Planned<'_>>, Failure> {
         })
         .collect();
     let planned = planned.map_err(wrong)?;
-    refuse_overwriting(&planned).map_err(wrong)?;
+    let mut files = Files::read(planned.iter().map(|each| each.file));
+    let mut outs = planned.iter().map(|each| &each.out);
+    outs.try_for_each(|out| files.write(out)).map_err(wrong)?;
     if asked.files.len() > 1 {
-        fs::create_dir_all(&asked.out).map_err(|error| cannot(Path::new(&asked.out), error))?;
+        let folder = Path::new(&asked.out);
+        fs::create_dir_all(folder).map_err(|error| writing::cannot(folder, error))?;
     }
     Ok(planned)
 }
@@ -136,34 +137,8 @@ fn out_of(file: &OsStr, out: &OsString, folder: bool) -> Result<PathBuf, String>
         let named = name.ok_or_else(|| format!("{} has no name in a folder", source::name(file)));
         path.push(named?);
     }
-    if source::is_text(&path) {
-        let path = path.display();
-        return Err(format!(
-            "`{path}` would hold an image's bytes, and .fir names texts"
-        ));
-    }
+    source::ask_bytes(&path)?;
     Ok(path)
-}
-
-/// Asks that no file is written that is read, and none twice.
-fn refuse_overwriting(planned: &[Planned]) -> Result<(), String> {
-    let read = planned
-        .iter()
-        .filter_map(|each| fs::canonicalize(each.file).ok());
-    let read: BTreeSet<PathBuf> = read.collect();
-    let mut written = BTreeSet::new();
-    for Planned { out, .. } in planned {
-        let path = out.display();
-        if fs::canonicalize(out).is_ok_and(|out| read.contains(&out)) {
-            return Err(format!(
-                "`{path}` would be written over, and is to be moved"
-            ));
-        }
-        if !written.insert(out) {
-            return Err(format!("`{path}` would be written twice"));
-        }
-    }
-    Ok(())
 }
 
 /// Moves an image, unless it is refused.
@@ -172,7 +147,7 @@ fn one(planned: &Planned, to: Form, streams: &mut Streams) -> Result<Done, Failu
     let name = source::name(planned.file);
     match moved(&source.image, to) {
         Ok(bytes) => {
-            write_whole(&planned.out, &bytes).map_err(|error| cannot(&planned.out, error))?;
+            writing::whole(&planned.out, &bytes)?;
             let (out, bytes) = (planned.out.display(), many(bytes.len(), "byte"));
             Ok(Done::Moved(format!("{name}: moved to {out}, {bytes}")))
         }
@@ -192,25 +167,4 @@ fn moved(image: &[u8], to: Form) -> Result<Vec<u8>, Refusal> {
     }?;
     bytes.truncate(length);
     Ok(bytes)
-}
-
-/// Writes a file beside its place, through to the disk, and renames it, so that it is
-/// never there in part.
-fn write_whole(path: &Path, bytes: &[u8]) -> io::Result<()> {
-    let mut name = OsString::from(".");
-    name.push(path.file_name().unwrap_or_default());
-    name.push(format!(".{}", process::id()));
-    let beside = path.with_file_name(name);
-    let mut file = File::create_new(&beside)?;
-    let written = file.write_all(bytes).and_then(|()| file.sync_all());
-    let written = written.and_then(|()| fs::rename(&beside, path));
-    if written.is_err() {
-        let _ = fs::remove_file(&beside);
-    }
-    written
-}
-
-/// The failure of a file that cannot be written.
-fn cannot(path: &Path, error: io::Error) -> Failure {
-    Failure::File(format!("{}: cannot be written: {error}", path.display()))
 }

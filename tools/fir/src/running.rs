@@ -11,9 +11,10 @@ use crate::stats::Stats;
 use crate::streams::Streams;
 use crate::telling::{self, Ending, Format, Tried, Unread};
 use crate::trace;
+use crate::writing;
 use library::{Ran, Refusal, Run, FIR_ITEMS};
-use std::ffi::OsStr;
-use std::fs;
+use std::ffi::{OsStr, OsString};
+use std::path::Path;
 
 /// How the steps of a run are taken.
 #[derive(Clone, Copy, PartialEq, Eq, Debug)]
@@ -50,20 +51,13 @@ fn read(file: &OsStr, streams: &mut Streams) -> Result<Source, Unread> {
     })
 }
 
-/// Asks that a page is not written over an image that is read.
+/// Asks that a page is not written to a file that is read.
 fn ask_page_apart(call: &Call, manner: Manner) -> Result<(), Failure> {
     let Manner::Page(page) = manner else {
         return Ok(());
     };
     let files = call.then.iter().map(|then| &then.file).chain([&call.file]);
-    let mut read = files.filter_map(|file| fs::canonicalize(file).ok());
-    match fs::canonicalize(page) {
-        Ok(page) if read.any(|file| file == page) => {
-            let reason = format!("`{}` would be written over", page.display());
-            Err(Failure::Usage(Some("trace"), reason))
-        }
-        _ => Ok(()),
-    }
+    writing::ask_apart("trace", files.map(OsString::as_os_str), page)
 }
 
 /// Begins a run that is asked for, of the image of its file.
@@ -81,6 +75,7 @@ pub fn run(
     format: Format,
     streams: &mut Streams,
 ) -> Result<Status, Failure> {
+    ask_page_apart(call, manner)?;
     match Images::read(call, streams) {
         Ok(images) => images.run(call, manner, format, streams),
         Err(unread) => format.failed(unread, streams),
@@ -117,7 +112,6 @@ impl Images {
                 return answered(Status::No, told);
             }
         };
-        ask_page_apart(call, manner)?;
         let mut going = Going::new(first, run, call, (manner, format));
         for (index, next) in changes.iter().enumerate() {
             going.go_to(next.step.min(call.budget), streams)?;
@@ -237,7 +231,7 @@ impl<'s> Going<'s> {
         let mut buffer = [0; FIR_ITEMS];
         let ending = self.ending(&[], &mut buffer);
         let told = told.and_then(|()| format.left(&ending, streams));
-        self.write_page(&refused.plain(), streams)?;
+        self.write_page(&refused.plain())?;
         answered(Status::No, told)
     }
 
@@ -249,16 +243,15 @@ impl<'s> Going<'s> {
         let status = telling::status(ending.answer);
         let result = telling::words_of(ending.answer, ending.buffer);
         let told = format.ended(&ending, streams);
-        self.write_page(&result, streams)?;
+        self.write_page(&result)?;
         answered(status, told)
     }
 
     /// Writes the page of the run, which came to this, if one is asked for.
-    fn write_page(self, result: &str, streams: &mut Streams) -> Result<(), Failure> {
+    fn write_page(self, result: &str) -> Result<(), Failure> {
         match (self.manner, self.recorder) {
             (Manner::Page(file), Some(recorder)) => {
-                let page = recorder.page(result);
-                source::put(Some(&file.to_os_string()), page.as_bytes(), streams)
+                writing::whole(Path::new(file), recorder.page(result).as_bytes())
             }
             _ => Ok(()),
         }

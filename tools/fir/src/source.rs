@@ -3,9 +3,10 @@
 use crate::failure::{Failure, Wrong};
 use crate::place::Position;
 use crate::streams::Streams;
+use crate::writing;
 use reference::record::HEAD;
 use std::ffi::{OsStr, OsString};
-use std::fs::{self, File};
+use std::fs::File;
 use std::io::{Read, Result as Reading};
 use std::path::Path;
 
@@ -128,6 +129,17 @@ pub fn is_text(file: &Path) -> bool {
     file.extension() == Some(OsStr::new(TEXT))
 }
 
+/// Asks that a file that bytes are written to is not called a text.
+pub fn ask_bytes(out: &Path) -> Result<(), String> {
+    if !is_text(out) {
+        return Ok(());
+    }
+    let out = out.display();
+    Err(format!(
+        "`{out}` would hold an image's bytes, and .fir names texts"
+    ))
+}
+
 /// What a file is called in a message.
 pub fn name(file: &OsStr) -> String {
     if file == "-" {
@@ -189,9 +201,6 @@ fn text_from(mut bytes: Vec<u8>, name: &str) -> Result<String, Failure> {
 pub fn put(out: Option<&OsString>, bytes: &[u8], streams: &mut Streams) -> Result<(), Failure> {
     match out {
         None => streams.write(bytes),
-        Some(file) => fs::write(file, bytes).map_err(|error| {
-            let name = file.to_string_lossy();
-            Failure::File(format!("{name}: cannot be written: {error}"))
-        }),
+        Some(file) => writing::whole(Path::new(file), bytes),
     }
 }

@@ -243,7 +243,7 @@ fn no_image_is_written_over() {
     let link = format!("{folder}/link");
     std::os::unix::fs::symlink(&a, &link).expect("a link is made");
     let around = format!("{left}/../left/image");
-    let over = "would be written over, and is to be moved";
+    let over = "would be written over, and is read";
     let twice = "would be written twice";
     for (images, out, path, reason) in [
         (vec![&a], &a, &a, over),
