@@ -18,7 +18,7 @@ use crate::DONE;
 pub fn execute(command: &Command, streams: &mut Streams) -> Result<Status, Failure> {
     match command {
         Command::Help(text) => print(text, streams),
-        Command::Version => print(VERSION, streams),
+        Command::Version => print(&version(), streams),
         Command::Check(asked) => checking::all(asked, streams),
         Command::Run { call, stats, json } => {
             let manner = match stats {
@@ -41,8 +41,12 @@ pub fn execute(command: &Command, streams: &mut Streams) -> Result<Status, Failu
     }
 }
 
-/// What `fir --version` prints.
-const VERSION: &str = concat!("fir ", env!("CARGO_PKG_VERSION"), "\n");
+/// What `fir --version` prints: its own version, and the numbers of its library.
+fn version() -> String {
+    let (own, built) = (env!("CARGO_PKG_VERSION"), library::version());
+    let (interface, layout) = (built.interface_number, built.state_layout);
+    format!("fir {own}\nlibrary: interface {interface}, layout of a state {layout}\n")
+}
 
 /// Prints a text.
 fn print(text: &str, streams: &mut Streams) -> Result<Status, Failure> {

@@ -1,5 +1,6 @@
 //! `fir completion`: scripts by which shells complete, made from the table of the help.
 
+use crate::explain;
 use crate::help::{Topic, COMMANDS};
 use crate::options::{Opt, Takes};
 
@@ -37,6 +38,9 @@ impl Shell {
 
 /// The words that a command is given in place of a file.
 fn choices(topic: &Topic) -> Option<String> {
+    if topic.name == "explain" {
+        return Some(explain::words().join(" "));
+    }
     let word = topic.given.split(' ').next()?;
     word.contains('|').then(|| word.replace('|', " "))
 }

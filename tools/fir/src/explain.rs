@@ -1,7 +1,13 @@
-//! `fir explain`: what `docs/LANGUAGE.md` says of a refusal, or of an end of a run.
+//! `fir explain`: what `docs/LANGUAGE.md` says of a refusal, or of an end of a run, and
+//! `docs/TEXT-FORM.md` of an instruction.
+
+use std::collections::BTreeSet;
 
 /// The document.
 const DOCUMENT: &str = include_str!("../../../docs/LANGUAGE.md");
+
+/// The document with the table of instructions.
+const TEXT_FORM: &str = include_str!("../../../docs/TEXT-FORM.md");
 
 /// What opens a part of the document, as that of the questions to an image.
 const PART: &str = "## ";
@@ -16,7 +22,8 @@ const INDENT: &str = "    ";
 
 /// What is printed above the list of sections.
 const OPENING: &str = "What a budget says, and the questions in the order in which they are put.
-`fir explain N` says more of a question, `fir explain UNDEF` of UNDEF.
+`fir explain N` says more of a question, `fir explain UNDEF` of UNDEF, `fir explain skip`
+of an instruction.
 ";
 
 /// The subject that a word names, in any case of letters; all where there is no word.
@@ -24,23 +31,81 @@ pub fn parse(word: Option<&str>) -> Result<Option<&'static str>, String> {
     let Some(word) = word else {
         return Ok(None);
     };
-    let mut subjects = DOCUMENT
-        .lines()
-        .filter_map(heading)
-        .map(|(subject, _)| subject);
-    let subject = subjects.find(|subject| subject.eq_ignore_ascii_case(word));
+    let words = instructions().flat_map(|instruction| instruction.words());
+    let mut known = subjects().chain(words);
+    let subject = known.find(|subject| subject.eq_ignore_ascii_case(word));
     let wrong = || {
         format!(
-            "`{word}` is no question's number and no word such as UNDEF; `fir explain` lists them"
+            "`{word}` is no question's number, no word such as UNDEF and no instruction's; `fir explain` lists them"
         )
     };
     subject.map(Some).ok_or_else(wrong)
 }
 
+/// What can be explained, in the order of the document.
+fn subjects() -> impl Iterator<Item = &'static str> {
+    let headings = DOCUMENT.lines().filter_map(heading);
+    headings.map(|(subject, _)| subject)
+}
+
+/// The words that can be explained.
+pub fn words() -> Vec<&'static str> {
+    let instructions: BTreeSet<&str> = instructions().flat_map(|row| row.words().last()).collect();
+    subjects().chain(instructions).collect()
+}
+
 /// What is printed of a subject that the document has, or of all.
 pub fn text(subject: Option<&str>) -> String {
-    let section = subject.and_then(section);
-    section.unwrap_or_else(list)
+    let told = subject.and_then(|subject| section(subject).or_else(|| rows(subject)));
+    told.unwrap_or_else(list)
+}
+
+/// A row of the table of instructions.
+#[derive(Clone, Copy)]
+struct Instruction {
+    /// An example.
+    example: &'static str,
+    /// Its kind and its name, such as `35 SKIP`.
+    kind: &'static str,
+    /// What it does.
+    does: &'static str,
+}
+
+impl Instruction {
+    /// Its name, and the word by which its example says what it is.
+    fn words(self) -> impl Iterator<Item = &'static str> {
+        let name = self.kind.split(' ').next_back();
+        let told = self.example.split_once(" = ");
+        let told = told.filter(|(before, _)| !before.contains(' '));
+        let first = told.map_or(self.example, |(_, behind)| behind);
+        name.into_iter().chain(first.split(' ').next())
+    }
+}
+
+/// The rows of the table of instructions.
+fn instructions() -> impl Iterator<Item = Instruction> {
+    TEXT_FORM.lines().filter_map(|line| {
+        let line = line.strip_prefix("| `")?.strip_suffix(" |")?;
+        let (example, rest) = line.split_once("` | ")?;
+        let (kind, does) = rest.split_once(" | ")?;
+        let number = kind.split(' ').next()?;
+        number.parse::<u16>().ok()?;
+        let kind = kind.contains(' ').then_some(kind)?;
+        Some(Instruction {
+            example,
+            kind,
+            does,
+        })
+    })
+}
+
+/// What is printed of an instruction: an example of each form, and what it does.
+fn rows(word: &str) -> Option<String> {
+    let is_it = |row: &Instruction| row.words().any(|there| there.eq_ignore_ascii_case(word));
+    let rows = instructions().filter(is_it);
+    let rows = rows.map(|row| format!("{}: {}\n{INDENT}{}\n", row.kind, row.example, row.does));
+    let rows: String = rows.collect();
+    (!rows.is_empty()).then_some(rows)
 }
 
 /// The subject and the words of the heading of a section: the number of a question, or
@@ -85,7 +150,8 @@ fn list() -> String {
             list += &format!("{subject:>SUBJECT_WIDTH$}  {words}\n");
         }
     }
-    list
+    let told = words().split_off(subjects().count());
+    list + &format!("\nInstructions:\n{INDENT}{}\n", told.join(" "))
 }
 
 #[cfg(test)]

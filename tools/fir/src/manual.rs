@@ -124,10 +124,13 @@ of the proved library. `back` begins the run anew and takes one step less.
   to LINE           takes steps, at least one, until the run stands at a line
   to F.V            takes steps, at least one, until the run enters a version; a run
                     that does not come to it stays where it is
+  watch rN|xN    w  takes steps until a register or a name of the call that is worked
+                    on holds something else, or that call has ended
   run            r  takes steps until the run ends
   back [N]       b  goes back by N steps
   at N              goes to the state after N steps, from the start
-  stack          k  the calls and forces, with their registers and names
+  stack          k  the calls and forces, with their registers and names; also by
+                    `where` and `registers`
   vectors        v  the vectors, and who holds them
   promises       p  the promises, and what became of them
   list           l  the text around the line where the run stands

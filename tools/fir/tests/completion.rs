@@ -99,6 +99,8 @@ fn bash_offers_commands_options_and_their_values() {
     assert_eq!(offered(&["fir", "run", "--bud"]), ["--budget"]);
     assert_eq!(offered(&["fir", "move", "a", "--to", "3"]), ["32"]);
     assert_eq!(offered(&["fir", "completion", "z"]), ["zsh"]);
+    assert_eq!(offered(&["fir", "explain", "U"]), ["UNDEF"]);
+    assert_eq!(offered(&["fir", "explain", "14"]), ["14"]);
 }
 
 #[test]

@@ -130,6 +130,35 @@ fn to_goes_to_a_line_or_a_version() {
 }
 
 #[test]
+fn watch_goes_to_what_changes_a_register_a_name_or_an_item() {
+    let lines = printed(&[
+        "watch r2", "at 0", "w r0", "at 1", "s", "w x0", "w r3", "w r3",
+    ]);
+    assert_eq!(
+        lines,
+        [
+            "doubles.fir:7:5: after 11 steps, in 0.0, block 0: set r0[r1] = r2",
+            "doubles.fir:5:5: after 0 steps, in 0.0, block 0: r1 = lit 0",
+            "doubles.fir:4:3: after 12 steps, in 0.0, block 0: end -> r0",
+            "doubles.fir:6:5: after 1 step, in 0.0, block 0: r2 = call 1.0(r0, r1)",
+            "     2   1  0.0   block 0  r2 = call 1.0(r0, r1)                opens call 1 of 1.0 with r0 = v0 [5, 6], r1 = 0",
+            "doubles.fir:12:5: after 2 steps, in 1.0, block 0: store x0 = r1",
+            "doubles.fir:13:5: after 3 steps, in 1.0, block 0: r2 = prom 1",
+            "doubles.fir:16:3: after 7 steps, in 1.0, block 1: end -> r3",
+            "doubles.fir:11:3: after 10 steps, in 1.0, block 0: end -> r3",
+        ]
+    );
+    assert_eq!(
+        printed(&["watch", "watch r16", "watch q1"]),
+        [
+            "`watch` needs a register such as r3, or a name such as x0",
+            "`r16` is no register such as r3, and no name such as x0",
+            "`q1` is no register such as r3, and no name such as x0",
+        ]
+    );
+}
+
+#[test]
 fn a_run_that_does_not_come_to_a_target_stays_where_it_was() {
     assert_eq!(
         printed(&["to 7", "to 7", "to 2.0", "to 0.0", "step", "run", "to 7"]),
@@ -241,6 +270,13 @@ fn list_shows_the_text_around_the_line() {
 }
 
 #[test]
+fn the_stack_has_the_names_that_people_type() {
+    let stack = printed(&["s 3", "stack"]);
+    assert_eq!(printed(&["s 3", "where"]), stack);
+    assert_eq!(printed(&["s 3", "registers"]), stack);
+}
+
+#[test]
 fn what_is_no_command_is_named_and_changes_nothing() {
     assert_eq!(
         printed(&[
@@ -264,7 +300,7 @@ fn help_lists_every_command() {
     let lines = printed(&["help"]);
     for command in [
         "step", "next", "out", "to LINE", "to F.V", "run", "back", "at N", "stack", "vectors",
-        "promises", "list", "help", "quit",
+        "promises", "list", "help", "quit", "watch",
     ] {
         let listed = lines
             .iter()

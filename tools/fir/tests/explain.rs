@@ -94,7 +94,7 @@ fn other_words_are_bad_usage() {
     for word in ["0", "20", "256", "-1", "8.0", "all", ""] {
         let done = fir(&["explain", word], b"");
         assert_eq!((done.status, done.output.len()), (2, 0), "{word}");
-        let reason = format!("`{word}` is no question's number and no word such as UNDEF");
+        let reason = format!("`{word}` is no question's number, no word such as UNDEF and");
         assert!(done.errors.contains(&reason), "{}", done.errors);
     }
     let done = fir(&["explain", "8", "9"], b"");
@@ -114,4 +114,27 @@ fn the_help_names_it() {
     assert!(fir(&["explain", "--help"], b"")
         .text()
         .contains("fir explain [N|WORD]"));
+}
+
+#[test]
+fn each_instruction_is_explained_by_its_word() {
+    let list = fir(&["explain"], b"").text();
+    let words = list.split("\nInstructions:\n").nth(1);
+    let words: Vec<&str> = words.expect("they are listed").split_whitespace().collect();
+    let kinds = (17..=36).map(|kind| (kind, format!("\n{kind} ")));
+    let mut told = String::from("\n");
+    for word in &words {
+        let done = fir(&["explain", word], b"");
+        assert_eq!((done.status, done.errors.as_str()), (0, ""), "{word}");
+        assert!(done.text().contains(word), "{word}");
+        told += &done.text();
+    }
+    for (kind, begins) in kinds {
+        assert!(told.contains(&begins), "{kind}");
+    }
+    let skip = "35 SKIP: skip 3 unless r1\n    where the integer in r1 is 0, the next 3 \
+                instructions of the block are passed over\n";
+    for word in ["skip", "SKIP", "Skip"] {
+        assert_eq!(fir(&["explain", word], b"").text(), skip);
+    }
 }

@@ -193,8 +193,10 @@ fn versions_that_no_run_comes_to_are_named() {
                 version 2.0(r0: int) -> int\n  block 0 quiet -> r0\n\
                 version 2.1(r0: int, r1: int) -> int\n  block 0 quiet -> r0\n    r0 = add r0, r1\n";
     let last = "15:1: uncalled: no run comes to version 2.1";
-    assert_eq!(found("reach.fir", text, &[]), [last]);
-    assert_eq!(found("reach.fir", text, &["--entry=0.0"]).len(), 4);
+    let taken = "; runs enter function 0, or what --entry names";
+    assert_eq!(found("reach.fir", text, &[]), [format!("{last}{taken}")]);
+    let named = found("reach.fir", text, &["--entry=0.0"]);
+    assert_eq!((named.len(), named[3].as_str()), (4, last));
     assert_eq!(
         found("reach.fir", text, &["--entry", "0.0", "--entry", "2.1"]).len(),
         3

@@ -111,7 +111,12 @@ fn an_option_takes_its_value_behind_it_or_behind_an_equals_sign() {
 #[test]
 fn the_version_is_printed() {
     let done = fir(&["--version"], b"");
-    let version = format!("fir {}\n", env!("CARGO_PKG_VERSION"));
+    let version = format!(
+        "fir {}\nlibrary: interface {}, layout of a state {}\n",
+        env!("CARGO_PKG_VERSION"),
+        library::FIR_INTERFACE,
+        library::FIR_STATE_LAYOUT
+    );
     assert_eq!((done.text(), done.status), (version, 0));
 }
 
@@ -196,7 +201,19 @@ fn a_text_that_does_not_assemble_is_named_with_the_column() {
             "2:3: this is block 0",
         ),
         ("\tregisters r0: int\n", "1:2: registers stand right after"),
-        ("version 0.0(r1: int) -> int\n", "1:1: expected r0 here"),
+        ("version 0.0(r1: int) -> int\n", "1:13: expected r0 here"),
+        (
+            "version 0.0(r0: int, r0: int) -> int\n",
+            "1:22: expected r1 here, found `r0`",
+        ),
+        (
+            "version 0.0(r0: int) -> int\n  registers r1: int, r1: int\n",
+            "2:22: expected r2 here, found `r1`",
+        ),
+        (
+            "version 0.0(r0: int) -> int\n  registers r2: int\n",
+            "2:13: expected r1 here, found `r2`",
+        ),
         (
             "version 0.0() -> int\n block 0 quiet -> r0\n  r0 = add r0 r0 # é\n",
             "3:15: expected `,`",

@@ -146,9 +146,24 @@ fn question_4_names_a_count_that_is_too_great() {
         ),
         "refused by 4 at 0: VERSION 0.0 has 9 parameters, and 8 are the most",
     );
-    says(
+    for text in [
         "version 0.0(r0: int) -> int",
-        "refused by 4 at 0: VERSION 0.0 has 0 blocks, and 1 to 8 are allowed",
+        "version 0.0(r0: int) -> int\nr0 = lit 1",
+    ] {
+        says(
+            text,
+            "refused by 4 at 0: VERSION 0.0 has no block, and 1 to 8 are allowed; instructions \
+             stand behind a line such as `block 0 quiet -> r0`",
+        );
+    }
+    says(
+        &format!(
+            "version 0.0(r0: int) -> int{}",
+            (0..9)
+                .map(|n| format!("\nblock {n} quiet -> r0"))
+                .collect::<String>()
+        ),
+        "refused by 4 at 0: VERSION 0.0 has 9 blocks, and 8 are the most",
     );
     let many: Vec<String> = (0..65)
         .map(|n| {

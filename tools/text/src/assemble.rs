@@ -1,10 +1,9 @@
 //! From text to image.
 
-use crate::cursor::Reason;
 use crate::error::Error;
 use crate::item::{implied_counts, Item};
-use crate::line::{in_order, Line};
-use reference::{Record, Register, Type};
+use crate::line::{in_order, Declared, Line, Misplaced};
+use reference::Record;
 
 /// An image, and the line of the text that each of its records came from.
 #[derive(Clone, PartialEq, Eq, Debug)]
@@ -33,7 +32,7 @@ pub fn assemble_lined(text: &str) -> Result<Lined, Error> {
         let start = first_column(line);
         if let Some(line) = Line::parse(line).map_err(wrong)? {
             let added = assembly.add(number, line);
-            added.map_err(|reason| wrong((start, reason)))?;
+            added.map_err(|(column, reason)| wrong((column.unwrap_or(start), reason)))?;
         }
     }
     assembly.lined()
@@ -56,17 +55,17 @@ struct Assembly {
 
 impl Assembly {
     /// Adds what a line says.
-    fn add(&mut self, number: usize, line: Line) -> Result<(), Reason> {
+    fn add(&mut self, number: usize, line: Line) -> Result<(), Misplaced> {
         let (item, count) = match line {
             Line::Version(head, blocks) => {
                 self.blocks = 0;
                 (Item::Record(Record::Version(head)), blocks)
             }
-            Line::Registers(typed) => return self.add_registers(typed),
+            Line::Registers(declared) => return self.add_registers(declared),
             Line::Level(level) => (Item::Record(Record::Level(level)), None),
             Line::Block(written, head, count) => {
                 if written != self.blocks {
-                    return Err(format!("this is block {}", self.blocks));
+                    return Err((None, format!("this is block {}", self.blocks)));
                 }
                 self.blocks += 1;
                 (Item::Record(Record::Block(head)), count)
@@ -83,11 +82,12 @@ impl Assembly {
     }
 
     /// Adds registers to the version, which is the last item.
-    fn add_registers(&mut self, typed: Vec<(Register, Type)>) -> Result<(), Reason> {
+    fn add_registers(&mut self, declared: Vec<Declared>) -> Result<(), Misplaced> {
         let Some(Item::Record(Record::Version(head))) = self.items.last_mut() else {
-            return Err("registers stand right after their version".to_string());
+            let reason = "registers stand right after their version".to_string();
+            return Err((None, reason));
         };
-        let types = in_order(head.types.len(), typed)?;
+        let types = in_order(head.types.len(), declared)?;
         head.types.extend(types);
         Ok(())
     }

@@ -12,9 +12,8 @@ pub type Reason = String;
 pub struct Cursor<'a> {
     line: &'a str,
     rest: &'a str,
-    /// How much of the line was left where something else was expected last; at
-    /// first, all that is no space.
-    wrong: Cell<&'a str>,
+    /// The column where something else was expected last; at first, that of the first word.
+    wrong: Cell<usize>,
 }
 
 impl<'a> Cursor<'a> {
@@ -22,14 +21,29 @@ impl<'a> Cursor<'a> {
     pub fn new(line: &'a str) -> Cursor<'a> {
         let code = line.split('#').next().unwrap_or_default();
         let rest = code.trim();
-        let wrong = Cell::new(rest);
-        Cursor { line, rest, wrong }
+        let cursor = Cursor {
+            line,
+            rest,
+            wrong: Cell::new(1),
+        };
+        cursor.wrong_at(cursor.column());
+        cursor
+    }
+
+    /// The column of what stands here, the first being 1.
+    pub fn column(&self) -> usize {
+        let before = self.rest.as_ptr() as usize - self.line.as_ptr() as usize;
+        1 + self.line[..before].chars().count()
     }
 
     /// The column of what was not expected, the first being 1.
     pub fn wrong_column(&self) -> usize {
-        let before = self.wrong.get().as_ptr() as usize - self.line.as_ptr() as usize;
-        1 + self.line[..before].chars().count()
+        self.wrong.get()
+    }
+
+    /// Notes that what stands in a column was not expected.
+    pub fn wrong_at(&self, column: usize) {
+        self.wrong.set(column);
     }
 
     /// Is nothing left?
@@ -48,12 +62,22 @@ impl<'a> Cursor<'a> {
 
     /// The reason of a line that has something else here.
     pub fn expected(&self, what: &str) -> Reason {
-        self.wrong.set(self.rest);
+        self.wrong_at(self.column());
         let found = self.rest.split_whitespace().next();
         match found {
             Some(found) => format!("expected {what}, found `{found}`"),
             None => format!("expected {what}, found the end of the line"),
         }
+    }
+
+    /// The same where a word is due; one with capital letters gets a hint, since none has any.
+    pub fn expected_word(&self, what: &str) -> Reason {
+        let capital = |sign: char| sign.is_ascii_uppercase();
+        let hint = match self.peek_word().contains(capital) {
+            true => "; words are written in small letters",
+            false => "",
+        };
+        self.expected(what) + hint
     }
 
     /// The letters and digits that stand here.
@@ -116,6 +140,9 @@ impl<'a> Cursor<'a> {
         let digits = self.rest.strip_prefix('-').unwrap_or(self.rest);
         let digits = digits.chars().take_while(char::is_ascii_alphanumeric);
         let length = digits.count() + usize::from(self.rest.starts_with('-'));
+        if self.rest[length..].starts_with('.') {
+            return Err(self.expected("an integer, which has no fraction"));
+        }
         let literal = Integer::from_str(&self.rest[..length]);
         let literal = literal.map_err(|_| {
             let (least, greatest) = (Integer::MIN, Integer::MAX);
@@ -182,7 +209,7 @@ impl<'a> Cursor<'a> {
         let ownership = named.clone().position(|words| self.take_words(words));
         let ownership = ownership.map_or(0, |position| position + 1);
         let kind = KINDS.iter().position(|words| self.take_words(words));
-        let kind = kind.ok_or_else(|| self.expected("a type such as int or own vector"))?;
+        let kind = kind.ok_or_else(|| self.expected_word("a type such as int or own vector"))?;
         Ok(Type::new(Kind(kind as u8), Ownership(ownership as u8)))
     }
 
@@ -198,7 +225,12 @@ impl<'a> Cursor<'a> {
         let level = LEVELS.iter().position(|word| self.take_word(word));
         match level {
             Some(level) => Ok(Level(level as u8)),
-            None => self.lettered("", "portal, staff or factory").map(Level),
+            None => {
+                let number = self.number();
+                number
+                    .map_err(|_| self.expected_word("portal, staff or factory"))
+                    .map(Level)
+            }
         }
     }
 
@@ -208,7 +240,7 @@ impl<'a> Cursor<'a> {
             return self.number().map(Mark);
         }
         let mark = MARKS.iter().position(|word| self.take_word(word));
-        let mark = mark.ok_or_else(|| self.expected("quiet or reflective"))?;
+        let mark = mark.ok_or_else(|| self.expected_word("quiet or reflective"))?;
         Ok(Mark(mark as u8))
     }
 

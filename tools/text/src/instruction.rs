@@ -74,7 +74,10 @@ pub fn parse(line: &mut Cursor) -> Result<Instruction, Reason> {
 /// The instructions that have a d, after `d =`.
 fn parse_with_destination(line: &mut Cursor, d: Register) -> Result<Instruction, Reason> {
     use Instruction as I;
-    let unknown = line.expected("an instruction");
+    let unknown = match line.at_register() {
+        true => line.expected("an instruction such as move or add"),
+        false => line.expected_word("an instruction"),
+    };
     match line.word() {
         "lit" => line.literal().map(|value| I::Lit { d, value }),
         "move" => line.register().map(|a| I::Move { d, a }),
@@ -104,7 +107,7 @@ fn parse_with_destination(line: &mut Cursor, d: Register) -> Result<Instruction,
 
 /// SET, STORE, POKE and SKIP.
 fn parse_without_destination(line: &mut Cursor) -> Result<Instruction, Reason> {
-    let unknown = line.expected("version, registers, level, block, bytes or an instruction");
+    let unknown = line.expected_word("version, registers, level, block, bytes or an instruction");
     match line.word() {
         "set" => {
             let ((a, i), e) = parse_assignment(line, parse_item)?;

@@ -5,12 +5,19 @@ use crate::instruction;
 use reference::record::{BlockRecord, VersionRecord};
 use reference::{Instruction, Level, Register, Type};
 
+/// A register with its type, and the column that it stands in.
+pub struct Declared {
+    register: Register,
+    ty: Type,
+    column: usize,
+}
+
 /// A line, its counts left open unless written out.
 pub enum Line {
     /// A VERSION with the registers written in it, and its `blocks`.
     Version(VersionRecord, Option<u8>),
     /// Further registers of the version.
-    Registers(Vec<(Register, Type)>),
+    Registers(Vec<Declared>),
     /// A LEVEL.
     Level(Level),
     /// A BLOCK with the number written in it, and its `count`.
@@ -58,44 +65,64 @@ fn parse_version(line: &mut Cursor) -> Result<Line, Reason> {
     let function = line.number()?;
     line.sign(".")?;
     let version = line.number()?;
-    let typed = line.list("(", ")", Cursor::typed)?;
+    let declared = line.list("(", ")", parse_declared)?;
     line.sign("->")?;
     let returns = line.ty()?;
-    let parameters = parse_key(line, "parameters")?.unwrap_or(typed.len() as u8);
+    let parameters = parse_key(line, "parameters")?.unwrap_or(declared.len() as u8);
     let blocks = parse_key(line, "blocks")?;
+    let types = in_order(0, declared).map_err(|(column, reason)| {
+        column.into_iter().for_each(|column| line.wrong_at(column));
+        reason
+    })?;
     let head = VersionRecord {
         function,
         version,
         parameters,
         returns,
         blocks: 0,
-        types: in_order(0, typed)?,
+        types,
     };
     Ok(Line::Version(head, blocks))
 }
 
+/// A register with its type.
+fn parse_declared(line: &mut Cursor) -> Result<Declared, Reason> {
+    let column = line.column();
+    let (register, ty) = line.typed()?;
+    Ok(Declared {
+        register,
+        ty,
+        column,
+    })
+}
+
+/// What is wrong in a line, and its column; none for the first word.
+pub type Misplaced = (Option<usize>, Reason);
+
 /// The types of registers that are numbered from `first` on.
-pub fn in_order(first: usize, typed: Vec<(Register, Type)>) -> Result<Vec<Type>, Reason> {
+pub fn in_order(first: usize, declared: Vec<Declared>) -> Result<Vec<Type>, Misplaced> {
     let mut types = Vec::new();
-    for (expected, (register, ty)) in (first..).zip(typed) {
-        if usize::from(register) != expected {
-            return Err(format!("expected r{expected} here, found `r{register}`"));
+    for (expected, each) in (first..).zip(declared) {
+        if usize::from(each.register) != expected {
+            let reason = format!("expected r{expected} here, found `r{}`", each.register);
+            return Err((Some(each.column), reason));
         }
-        types.push(ty);
+        types.push(each.ty);
     }
     if first + types.len() > usize::from(u8::MAX) {
-        return Err("a version declares at most 255 registers".to_string());
+        let reason = "a version declares at most 255 registers".to_string();
+        return Err((None, reason));
     }
     Ok(types)
 }
 
 /// A `registers` line after its word.
-fn parse_registers(line: &mut Cursor) -> Result<Vec<(Register, Type)>, Reason> {
-    let mut typed = vec![line.typed()?];
+fn parse_registers(line: &mut Cursor) -> Result<Vec<Declared>, Reason> {
+    let mut declared = vec![parse_declared(line)?];
     while line.take(",") {
-        typed.push(line.typed()?);
+        declared.push(parse_declared(line)?);
     }
-    Ok(typed)
+    Ok(declared)
 }
 
 /// A `block` line after its word.

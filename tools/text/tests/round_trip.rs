@@ -319,6 +319,48 @@ fn wrong_lines_are_named_with_their_reason() {
             &format!("line 1: expected {integers}, found `{beyond}`"),
         );
     }
+    for fraction in ["21.5", "-0.5"] {
+        wrong(
+            &format!("r0 = lit {fraction}"),
+            &format!("line 1: expected an integer, which has no fraction, found `{fraction}`"),
+        );
+    }
+    for (text, line) in [
+        (
+            "r0 = Less r1, r2",
+            "line 1: expected an instruction, found `Less`; words are written in small letters",
+        ),
+        (
+            "Block 0 quiet -> r0",
+            "line 1: expected version, registers, level, block, bytes or an instruction, \
+             found `Block`; words are written in small letters",
+        ),
+        (
+            "version 0.0(r0: Int) -> int",
+            "line 1: expected a type such as int or own vector, found `Int)`; words are written \
+             in small letters",
+        ),
+        (
+            "level Portal",
+            "line 1: expected portal, staff or factory, found `Portal`; words are written in \
+             small letters",
+        ),
+        (
+            "block 0 QUIET -> r0",
+            "line 1: expected quiet or reflective, found `QUIET`; words are written in small \
+             letters",
+        ),
+        (
+            "bytes FG",
+            "line 1: expected two hexadecimal digits, found `FG`",
+        ),
+    ] {
+        wrong(text, line);
+    }
+    wrong(
+        "r0 = r1 + r2",
+        "line 1: expected an instruction such as move or add, found `r1`",
+    );
     wrong(
         "r0 = move r1 r2",
         "line 1: expected the end of the line, found `r2`",

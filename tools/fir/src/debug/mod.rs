@@ -74,6 +74,7 @@ fn obey(session: &mut Session, order: Order, streams: &mut Streams) -> Result<()
                 return streams.line(&why);
             }
         }
+        Order::Watch(place) => session.until_changed(place),
         Order::Run => session.finish(),
         Order::Back(count) => {
             if !session.back(count) {

@@ -2,6 +2,8 @@
 
 use super::UNKNOWN;
 use crate::manual;
+use crate::trace::cell_name;
+use library::CELLS;
 
 /// What `to` goes to.
 #[derive(Clone, Copy, PartialEq, Eq, Debug)]
@@ -23,6 +25,8 @@ pub enum Order {
     Out,
     /// `to LINE` or `to F.V`
     To(Target),
+    /// `watch rN` or `watch xN`, by its place
+    Watch(usize),
     /// `run`
     Run,
     /// `back [N]`
@@ -61,6 +65,10 @@ impl Order {
             ("to", None) => {
                 Err("`to` needs a line such as 12, or a version such as 1.0".to_string())
             }
+            ("watch" | "w", Some(word)) => cell(word).map(Order::Watch),
+            ("watch" | "w", None) => {
+                Err("`watch` needs a register such as r3, or a name such as x0".to_string())
+            }
             (name, Some(word)) => match plain(name) {
                 Some(_) => Err(format!("`{word}` is one too many")),
                 None => Err(format!("`{name}` {UNKNOWN}")),
@@ -76,7 +84,7 @@ fn plain(name: &str) -> Option<Order> {
         "next" | "n" => Order::Next,
         "out" | "o" => Order::Out,
         "run" | "r" => Order::Run,
-        "stack" | "k" => Order::Stack,
+        "stack" | "k" | "where" | "registers" => Order::Stack,
         "vectors" | "v" => Order::Vectors,
         "promises" | "p" => Order::Promises,
         "list" | "l" => Order::List,
@@ -95,6 +103,12 @@ fn count(given: Option<&str>) -> Result<u32, String> {
 fn number(word: &str) -> Result<u32, String> {
     let number = word.parse();
     number.map_err(|_| format!("`{word}` is no number of steps"))
+}
+
+/// The place of a register such as r3, or of a name such as x0.
+fn cell(word: &str) -> Result<usize, String> {
+    let place = (0..CELLS).find(|&place| cell_name(place) == word);
+    place.ok_or_else(|| format!("`{word}` is no register such as r3, and no name such as x0"))
 }
 
 /// A line such as 12, or a version such as 1.0.

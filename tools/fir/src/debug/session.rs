@@ -82,6 +82,20 @@ impl<'s> Session<'s> {
         while self.single() && self.depth() > depth {}
     }
 
+    /// Takes a step, and more until a register or a name of the call that is worked on
+    /// holds something else, or that call has ended.
+    pub fn until_changed(&mut self, place: usize) {
+        let Some(call) = self.state().top().map(|top| top.call) else {
+            return;
+        };
+        let held = |state: &State| {
+            let held = state.look(call, place)?;
+            Some(trace::value(state, held))
+        };
+        let before = held(self.state());
+        while self.single() && held(self.state()) == before {}
+    }
+
     /// Takes a step, and more until the run comes to a target. Where it does not, it stays
     /// where it was; why it does not.
     pub fn go_on_to(&mut self, target: Target) -> Result<(), String> {

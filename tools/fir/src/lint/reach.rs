@@ -10,6 +10,8 @@ pub struct Reach<'p> {
     program: &'p Program,
     /// Those that runs enter.
     entries: Vec<bool>,
+    /// Were they named, so that function 0 was not taken for granted?
+    named: bool,
     /// Those that runs come to, the entries among them.
     reached: Vec<bool>,
 }
@@ -25,6 +27,7 @@ impl<'p> Reach<'p> {
                 false => named.any(|entry| (entry.function, entry.version) == numbers),
             }
         };
+        let named = !entries.is_empty();
         let heads = program.versions.iter().map(|version| &version.head);
         let entries: Vec<bool> = heads
             .map(|head| enters(head.function, head.version))
@@ -33,6 +36,7 @@ impl<'p> Reach<'p> {
             program,
             reached: vec![false; entries.len()],
             entries,
+            named,
         };
         for index in 0..reach.entries.len() {
             if reach.entries[index] {
@@ -71,8 +75,12 @@ impl<'p> Reach<'p> {
     pub fn uncalled(&self) -> Vec<Finding> {
         let versions = self.program.versions.iter().zip(&self.reached);
         let uncalled = versions.filter(|(_, reached)| !**reached);
+        let from = match self.named {
+            true => "",
+            false => "; runs enter function 0, or what --entry names",
+        };
         let finding = |version| {
-            let words = format!("no run comes to {}", named(version));
+            let words = format!("no run comes to {}{from}", named(version));
             Finding::at("uncalled", version.offset, words)
         };
         uncalled.map(|(version, _)| finding(version)).collect()

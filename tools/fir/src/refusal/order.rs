@@ -141,8 +141,12 @@ fn version_out_of_bounds(head: &VersionRecord) -> Option<String> {
     } else if parameters > registers {
         let parameters = many(parameters, "parameter");
         format!("has {parameters}, but {}", many(registers, "register"))
-    } else if !(1..=BLOCKS).contains(&blocks) {
-        format!("has {blocks} blocks, and 1 to {BLOCKS} are allowed")
+    } else if blocks == 0 {
+        format!(
+            "has no block, and 1 to {BLOCKS} are allowed; instructions stand behind a line such as `block 0 quiet -> r0`"
+        )
+    } else if blocks > BLOCKS {
+        format!("has {blocks} blocks, and {BLOCKS} are the most")
     } else {
         return None;
     };

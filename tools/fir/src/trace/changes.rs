@@ -113,12 +113,12 @@ fn cell_changes<'s>(
 ) -> impl Iterator<Item = String> + 's {
     (0..CELLS).filter_map(move |place| {
         let (old, new) = (before.look(call, place)?, after.look(call, place)?);
-        let name = cell_name(place);
-        let words = match new {
-            Held::Nothing => format!("{prefix}{name} empty"),
-            _ => format!("{prefix}{name} = {}", value(after, new)),
+        let name = || cell_name(place);
+        let words = || match new {
+            Held::Nothing => format!("{prefix}{} empty", name()),
+            _ => format!("{prefix}{} = {}", name(), value(after, new)),
         };
-        (old != new).then_some(words)
+        (old != new).then(words)
     })
 }
 
@@ -160,11 +160,11 @@ fn pool_changes(before: &State, after: &State) -> Vec<String> {
         let promise = after.promise(place)?;
         let changed = !old.promises[place] || before.promise(place) != Some(promise);
         let (block, call) = (promise.block, promise.call);
-        let words = match promise.cache {
+        let words = || match promise.cache {
             Some(given) => format!("p{place} gave {given}"),
             None => format!("p{place} is block {block} of call {call}"),
         };
-        (changed && new.promises[place]).then_some(words)
+        (changed && new.promises[place]).then(words)
     });
     vectors.chain(promises).collect()
 }
