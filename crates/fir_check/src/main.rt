@@ -1,12 +1,20 @@
 //! `check`: reads an image from standard input and prints what the checker says of it.
 use checker::Reported;
 use checker::report;
+ghost use Prim.Native.Nat.{_<_, _≤_};
+ghost use lib.ListN.{length};
 
 /// One byte more than an image may have, so that a longer input is refused by question 1.
 const ROOM: usize = 32769;
 
 /// Places for the text: it has at most 64 lines of 17 bytes and one of 12, or one of 20.
 const TEXT: usize = 4096;
+
+/// How many reads of an image may fail.
+const FAILURES: usize = 1000;
+
+/// More bytes than there can be: the input cannot be read.
+const FAILED: usize = 18446744073709551615;
 
 /// How often more input is read at most.
 const READS: usize = 18446744073709551615;
@@ -26,14 +34,48 @@ fn read_on(n: usize, space: &mut [u8]) {
     }
 }
 
+/// Reads on behind the `n` bytes that `image` holds, until it is full or standard input has ended, and gives how many it holds then.
+/// A read that fails, as one that a signal interrupts, is tried again; where too many fail, the answer is `FAILED`.
+fn read_to_end(n: usize, image: &mut [u8]) -> usize
+    requires { ⌜ n ≤ length (now image) ⌝ }
+    ensures { λ r. ⌜ (r < 18446744073709551615 → r ≤ length (now (image .exit))) ⌝ }
+{
+    let mut held = n;
+    let mut failures: usize = 0;
+    let mut next = [0u8; 1];
+    while held < image.len() {
+        let got = libc::read(0, &mut next);
+        if got == 0 {
+            return held;
+        }
+        if got > 0 {
+            image[held] = next[0];
+            held += 1;
+        } else {
+            if failures == FAILURES {
+                return FAILED;
+            }
+            failures += 1;
+        }
+    }
+    held
+}
+
 fn main() {
     let mut image = [0u8; ROOM];
-    let n = io::read_full(0, &mut image);
+    let first = io::read_full(0, &mut image);
+    let n = read_to_end(first, &mut image);
+    if n > ROOM {
+        io::write_all(2, b"check: standard input cannot be read\n");
+        return;
+    }
     let mut text = [0u8; TEXT];
     match report::report(&image[..n], &mut text) {
         Reported::Written(size) => {
             read_on(n, &mut image);
-            io::write_all(1, &text[..size]);
+            if !io::write_all(1, &text[..size]) {
+                io::write_all(2, b"check: standard output cannot be written\n");
+            }
         }
         Reported::Short => {}
     }

@@ -5,10 +5,13 @@ use differential::edges::{identities, EVERY_INSTRUCTION};
 use generator::{accepted, accepted_of, damaged, Theme};
 use reference::bounds::{MAX_IMAGE, VERSIONS};
 use reference::{report, verdict, Verdict};
-use std::fs::{self, File};
+use std::fs::{self, File, OpenOptions};
 use std::io::{ErrorKind, Write};
-use std::path::Path;
+use std::os::fd::OwnedFd;
+use std::os::unix::net::UnixStream;
+use std::path::{Path, PathBuf};
 use std::process::{Child, Command, Stdio};
+use std::sync::atomic::{AtomicUsize, Ordering};
 use std::thread;
 use std::time::Duration;
 
@@ -185,4 +188,105 @@ fn input_from_a_file_is_read() {
         let file = File::open(&path).expect("the file is there");
         ends_with(start(file.into()), &report(&image));
     }
+}
+
+/// Asserts that the program prints no verdict, and says why.
+#[track_caller]
+fn says_nothing(program: Child) {
+    let output = program.wait_with_output().expect("the program ends");
+    assert_eq!(output.stdout.escape_ascii().to_string(), "");
+    let complaint = String::from_utf8_lossy(&output.stderr).into_owned();
+    assert_eq!(complaint, "check: standard input cannot be read\n");
+}
+
+/// A folder, whose bytes cannot be read.
+fn folder() -> Stdio {
+    let folder = File::open(env!("CARGO_MANIFEST_DIR"));
+    folder.expect("a folder is opened").into()
+}
+
+#[test]
+fn an_input_whose_reading_fails_gets_no_verdict() {
+    says_nothing(start(folder()));
+    // What came before the failure is an accepted image of one version; another was to follow.
+    let (mut near, far) = UnixStream::pair().expect("a pair of sockets");
+    far.set_nonblocking(true).expect("it need not wait");
+    near.write_all(&IDENTITY).expect("it is sent");
+    says_nothing(start(OwnedFd::from(far).into()));
+}
+
+/// A library that makes reads fail now and then.
+fn interruptions() -> PathBuf {
+    let source = Path::new(env!("CARGO_MANIFEST_DIR")).join("tests/interrupted.c");
+    let library = Path::new(env!("CARGO_TARGET_TMPDIR")).join("interrupted.so");
+    let mut compiler = Command::new("cc");
+    let compiler = compiler.args(["-shared", "-fPIC", "-o"]).arg(&library);
+    let compiled = compiler.arg(source).status();
+    assert!(compiled.is_ok_and(|status| status.success()));
+    library
+}
+
+#[test]
+fn reads_that_are_interrupted_are_tried_again() {
+    let library = interruptions();
+    for image in [IDENTITY.to_vec(), image(EVERY_INSTRUCTION), vec![]] {
+        let path = Path::new(env!("CARGO_TARGET_TMPDIR")).join("interrupted");
+        fs::write(&path, &image).expect("the file is written");
+        let mut program = Command::new(PROGRAM);
+        let program = program.env("LD_PRELOAD", &library);
+        let program = program.stdin(File::open(&path).expect("the file is there"));
+        let program = program.stdout(Stdio::piped()).stderr(Stdio::piped());
+        ends_with(
+            program.spawn().expect("the program starts"),
+            &report(&image),
+        );
+    }
+}
+
+/// The script `check` with the program beside it, as makers have it.
+fn script(input: Stdio, output: Stdio) -> Child {
+    let top = Path::new(env!("CARGO_MANIFEST_DIR")).join("../..");
+    let folder = Path::new(env!("CARGO_TARGET_TMPDIR")).join("beside");
+    fs::create_dir_all(&folder).expect("a folder is made");
+    let number = SCRIPTS.fetch_add(1, Ordering::Relaxed);
+    let folder = folder.join(number.to_string());
+    let _ = fs::remove_dir_all(&folder);
+    fs::create_dir(&folder).expect("a folder is made");
+    fs::copy(top.join("check"), folder.join("check")).expect("the script is copied");
+    fs::copy(PROGRAM, folder.join("fir_check")).expect("the program is copied");
+    let mut script = Command::new(folder.join("check"));
+    let script = script.stdin(input).stdout(output).stderr(Stdio::piped());
+    script.spawn().expect("the script starts")
+}
+
+/// How many copies of the script were made.
+static SCRIPTS: AtomicUsize = AtomicUsize::new(0);
+
+#[test]
+fn the_status_of_the_script_is_0_with_a_verdict_and_2_without_one() {
+    for image in [&IDENTITY[..], &IDENTITY[..22], &[]] {
+        let mut program = script(Stdio::piped(), Stdio::piped());
+        assert!(send(&mut program, image, image.len().max(1)));
+        ends_with(program, &report(image));
+    }
+    let silent = script(folder(), Stdio::piped());
+    let output = silent.wait_with_output().expect("the script ends");
+    assert_eq!((output.status.code(), output.stdout.len()), (Some(2), 0));
+    assert_eq!(output.stderr, b"check: standard input cannot be read\n");
+    let full = OpenOptions::new().write(true).open("/dev/full");
+    let full = full.expect("a device that is always full");
+    let unheard = script(Stdio::null(), full.into());
+    let output = unheard.wait_with_output().expect("the script ends");
+    assert_eq!(output.status.code(), Some(2));
+    assert!(!output.stderr.is_empty());
+}
+
+#[test]
+fn an_output_that_cannot_be_written_is_said() {
+    let full = OpenOptions::new().write(true).open("/dev/full");
+    let mut program = Command::new(PROGRAM);
+    let program = program.stdin(Stdio::null()).stderr(Stdio::piped());
+    let program = program.stdout(full.expect("a device that is always full"));
+    let output = program.output().expect("the program ends");
+    assert_eq!(output.stderr, b"check: standard output cannot be written\n");
 }

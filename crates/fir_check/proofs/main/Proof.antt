@@ -1,16 +1,19 @@
--- `fir_check::main`: the written text lies within the buffer.
+-- `fir_check::main`: the image lies within its room, and the written text within the buffer.
 use Prim.Native.Nat.{_≤_}
 use Rattle.checker.proofs.Puts.{written-fits}
 use Rattle.writer.proofs.Placed.{placed-length}
 use lib.Seq.{length-take-le}
 use lib.ListN.{length}
 use mathlib.Core.Path.{sym, ap, _∙_}
+use native.Mathlib.Omega.{arith}
 use borrow.Author.Needs.{needs}
 use Rattle.fir_check.proofs.main.Statement.{statement}
 use Rattle.fir_check.proofs.main.Tie as tie
 use Rattle.fir_check.proofs.main.Reads as reads
 use Rattle.fir_check.proofs.main.Lts as lts
 use Rattle.checker.proofs.report.report.Reads as report-reads
+use Rattle.fir_check.proofs.read_on.Reads as read-on-reads
+use Rattle.fir_check.proofs.read_to_end.Reads as read-to-end-reads
 use Rattle.io.proofs.read_full.Reads as read-full-reads
 use Rattle.io.proofs.write_all.Reads as write-all-reads
 
@@ -20,11 +23,29 @@ slice-aggregate-read-full c = search needs
 read-full-requires : tie.Need-read-full-requires
 read-full-requires c κs = search needs
 
+slice-aggregate-read-to-end : tie.Need-slice-aggregate-read-to-end
+slice-aggregate-read-to-end c = search needs
+
+read-to-end-requires : tie.Need-read-to-end-requires
+read-to-end-requires c κs = search needs
+
+slice-aggregate-write-all : tie.Need-slice-aggregate-write-all
+slice-aggregate-write-all c = search needs
+
+write-all-requires : tie.Need-write-all-requires
+write-all-requires c κs = search needs
+
+returns : tie.Need-returns
+returns c = search needs
+
 array-share-prefix-image : tie.Need-array-share-prefix-image
 array-share-prefix-image c = search needs
 
 slice-aggregate-report : tie.Need-slice-aggregate-report
-slice-aggregate-report c = search needs
+slice-aggregate-report c =
+    let h = c .before .if1 .left in
+    let w : c .before .before .before .read-to-end .result ≤ length (c .before .before .before .read-to-end .last .1 .0) = (c .before .before .before .read-to-end) .ensures (omega arith) in
+    sym (length-take-le _ _ w)
 
 slice-aggregate-report-2 : tie.Need-slice-aggregate-report-2
 slice-aggregate-report-2 c = search needs
@@ -46,23 +67,32 @@ array-share-prefix-text c =
     let w = written-fits _ _ _ (sym ((c .before .before .before .before .before .before .before .report) .ensures .says) ∙ (c .before .before .before .before .size) .given .1) in
     rw (ap length ((c .before .before .before .before .before .before .before .report) .ensures .writes) ∙ placed-length _ _ _) w
 
-slice-aggregate-write-all : tie.Need-slice-aggregate-write-all
-slice-aggregate-write-all c =
+slice-aggregate-write-all-2 : tie.Need-slice-aggregate-write-all-2
+slice-aggregate-write-all-2 c =
     let w = written-fits _ _ _ (sym ((c .before .before .before .before .before .before .before .before .report) .ensures .says) ∙ (c .before .before .before .before .before .size) .given .1) in
     let h : (c .before .before .before .before .before .size) .given .0 .0 ≤ length ((c .before .before .before .before .before .before .before .before .report) .last .1 .0) = rw (ap length ((c .before .before .before .before .before .before .before .before .report) .ensures .writes) ∙ placed-length _ _ _) w in
     sym (length-take-le _ _ h)
 
-write-all-requires : tie.Need-write-all-requires
-write-all-requires c κs = search needs
+write-all-requires-2 : tie.Need-write-all-requires-2
+write-all-requires-2 c κs = search needs
+
+slice-aggregate-write-all-3 : tie.Need-slice-aggregate-write-all-3
+slice-aggregate-write-all-3 c = search needs
+
+write-all-requires-3 : tie.Need-write-all-requires-3
+write-all-requires-3 c κs = search needs
 
 enum-told : tie.Need-enum-told
 enum-told c = search needs
 
-returns : tie.Need-returns
-returns c = search needs
-
 returns-2 : tie.Need-returns-2
 returns-2 c = search needs
+
+returns-3 : tie.Need-returns-3
+returns-3 c = search needs
+
+returns-4 : tie.Need-returns-4
+returns-4 c = search needs
 
 pub main-spec : {M : Type 1} → statement M
 main-spec =
@@ -70,6 +100,11 @@ main-spec =
     (tie.spec
     slice-aggregate-read-full
     read-full-requires
+    slice-aggregate-read-to-end
+    read-to-end-requires
+    slice-aggregate-write-all
+    write-all-requires
+    returns
     array-share-prefix-image
     slice-aggregate-report
     slice-aggregate-report-2
@@ -78,8 +113,11 @@ main-spec =
     slice-aggregate-read-on
     read-on-requires
     array-share-prefix-text
-    slice-aggregate-write-all
-    write-all-requires
+    slice-aggregate-write-all-2
+    write-all-requires-2
+    slice-aggregate-write-all-3
+    write-all-requires-3
     enum-told
-    returns
-    returns-2)
+    returns-2
+    returns-3
+    returns-4)
