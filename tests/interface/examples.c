@@ -104,6 +104,21 @@ static void stepped(void)
     same("the second item", (size_t)items[1], 40);
 }
 
+/* A run of a version without parameters, and that one with a parameter is refused without words. */
+static void without_words(void)
+{
+    tried.length = 0;
+    RECORD(&tried, VERSION, 0, 0, 0, 1, 2, 1, 2);
+    RECORD(&tried, LEVEL, FIR_PORTAL);
+    RECORD(&tried, BLOCK, 0, 0, 1);
+    RECORD(&tried, LIT, 0, 9, 0, 0, 0, 0, 0, 0, 0);
+    same("a beginning without words", begin_without_words(tried.bytes, tried.length, items, &state).question, FIR_ACCEPTED);
+    run_by_slices(tried.bytes, tried.length, &state, items);
+    same("the literal", (size_t)state.value, 9);
+    calling(&tried, FIR_PORTAL, FIR_PORTAL);
+    same("a missing word", begin_without_words(tried.bytes, tried.length, items, &state).question, FIR_REFUSED_ARGUMENTS);
+}
+
 static void positions(void)
 {
     FILE *file = opened();
@@ -125,6 +140,7 @@ int main(void)
     texts();
     stored();
     stepped();
+    without_words();
     positions();
     printf("examples: %u passed\n", tests);
     return 0;

@@ -1,0 +1,154 @@
+/* What each function of the interface costs: microseconds of the processor's time for a call, the median of some rounds of many calls,
+ * with an image of one version and with one of 64, each of 48 instructions. A run stands in the middle of its first version. */
+#include <stdio.h>
+#include <stdlib.h>
+#include <time.h>
+
+#include "images.h"
+
+#define ROUNDS 5
+#define ROUND (CLOCKS_PER_SEC / 100) /* the least time of a round */
+#define INSTRUCTIONS 48
+#define MIDWAY 24 /* steps of a run that takes 49 */
+#define IMAGES 2
+
+static image images[IMAGES];
+static image narrow_images[IMAGES];
+static fir_state midways[IMAGES];
+static const image *tried;
+static const image *narrow_tried;
+static const fir_state *midway;
+static fir_state state;
+static int64_t buffer[FIR_ITEMS];
+static const int64_t words[] = {-1, 40};
+static uint8_t text[FIR_REPORT_BYTES];
+static uint8_t out[FIR_IMAGE_BYTES];
+static volatile uint64_t seen; /* of each answer, so that no call is left out */
+
+static void nothing(void) { seen++; }
+static void check(void) { seen += fir_check(tried->bytes, tried->length).detail; }
+static void report(void) { seen += fir_report(tried->bytes, tried->length, text, sizeof text); }
+static void change(void) { seen += fir_change(tried->bytes, tried->length, tried->bytes, tried->length, midway).question; }
+static void look(void) { seen += (uint64_t)fir_look(midway, 0, 1).number; }
+static void search(void) { seen += fir_search(tried->bytes, tried->length, midway).versions; }
+static void where(void) { seen += fir_where(tried->bytes, tried->length, midway).offset; }
+static void question_text(void) { seen += fir_question_text(FIR_REFUSED_BOUNDS, text, sizeof text); }
+static void narrow(void) { seen += fir_narrow(tried->bytes, tried->length, out, sizeof out).detail; }
+static void widen(void) { seen += fir_widen(narrow_tried->bytes, narrow_tried->length, out, sizeof out).detail; }
+
+static void begin(void)
+{
+    seen += fir_begin(tried->bytes, tried->length, FIR_PORTAL, 0, 0, words, 2, buffer, FIR_ITEMS, &state).question;
+}
+
+static void run(void)
+{
+    seen += fir_run(tried->bytes, tried->length, FIR_PORTAL, 0, 0, words, 2, 1, buffer, FIR_ITEMS, &state).steps;
+}
+
+/* The state brought back to the middle of the run: what a step and a budget cost besides. */
+static void bring_back(void) { memcpy(&state, midway, sizeof state); }
+
+static void step(void)
+{
+    bring_back();
+    seen += fir_step(tried->bytes, tried->length, &state).code;
+}
+
+static void budget(void)
+{
+    bring_back();
+    seen += fir_budget(tried->bytes, tried->length, &state, 1, buffer, FIR_ITEMS).steps;
+}
+
+/* Versions that are each a literal and sums of it and r0. */
+static void sums(image *to, unsigned versions)
+{
+    unsigned v, i;
+    to->length = 0;
+    for (v = 0; v < versions; v++) {
+        RECORD(to, VERSION, (uint8_t)(v / FIR_VERSIONS), (uint8_t)(v % FIR_VERSIONS), 1, 3, 2, 1, 2, 2, 2);
+        RECORD(to, LEVEL, FIR_PORTAL);
+        RECORD(to, BLOCK, 0, 2, INSTRUCTIONS);
+        RECORD(to, LIT, 1, 1, 0, 0, 0, 0, 0, 0, 0);
+        for (i = 1; i < INSTRUCTIONS; i++)
+            RECORD(to, ARITH, 2, 0, 0, 1);
+    }
+}
+
+static int later(const void *one, const void *other)
+{
+    const double a = *(const double *)one, b = *(const double *)other;
+    return (a > b) - (a < b);
+}
+
+/* The processor's time for so many calls. */
+static clock_t time_of(void (*function)(void), unsigned long calls)
+{
+    const clock_t from = clock();
+    for (; calls > 0; calls--)
+        function();
+    return clock() - from;
+}
+
+/* Microseconds of a call. */
+static double cost(void (*function)(void))
+{
+    double rounds[ROUNDS];
+    unsigned long calls = 1;
+    int i;
+    while (time_of(function, calls) < ROUND)
+        calls *= 2;
+    for (i = 0; i < ROUNDS; i++)
+        rounds[i] = (double)time_of(function, calls) / CLOCKS_PER_SEC * 1e6 / (double)calls;
+    qsort(rounds, ROUNDS, sizeof *rounds, later);
+    return rounds[ROUNDS / 2];
+}
+
+/* Makes the images, and brings a run of each to its middle. */
+static int prepare(void)
+{
+    int i;
+    sums(&images[0], 1);
+    sums(&images[1], FIR_PLACES);
+    for (i = 0; i < IMAGES; i++) {
+        const image *image = &images[i];
+        const fir_verdict moved = fir_narrow(image->bytes, image->length, narrow_images[i].bytes, FIR_IMAGE_BYTES);
+        narrow_images[i].length = moved.detail;
+        fir_run(image->bytes, image->length, FIR_PORTAL, 0, 0, words, 2, MIDWAY, buffer, FIR_ITEMS, &midways[i]);
+        if (moved.question != FIR_ACCEPTED || midways[i].status != FIR_STEPS || midways[i].calls != 1)
+            return 0;
+    }
+    return 1;
+}
+
+int main(void)
+{
+    static const struct {
+        const char *name;
+        void (*function)(void);
+        void (*besides)(void);
+    } calls[] = {{"fir_check", check, nothing}, {"fir_report", report, nothing}, {"fir_begin", begin, nothing},
+                 {"fir_run, 1 step", run, nothing}, {"fir_change", change, nothing}, {"fir_widen", widen, nothing},
+                 {"fir_narrow", narrow, nothing}, {"fir_step", step, bring_back}, {"fir_budget, 1 step", budget, bring_back},
+                 {"fir_where", where, nothing}, {"fir_search", search, nothing}, {"fir_look", look, nothing},
+                 {"fir_question_text", question_text, nothing}};
+    size_t i, k;
+    if (!prepare()) {
+        printf("costs: an image is refused\n");
+        return 1;
+    }
+    printf("costs: microseconds of a call, with an image of %lu bytes and with one of %lu\n", (unsigned long)images[0].length,
+           (unsigned long)images[1].length);
+    for (i = 0; i < sizeof calls / sizeof *calls; i++) {
+        printf("costs: %-18s", calls[i].name);
+        for (k = 0; k < IMAGES; k++) {
+            tried = &images[k];
+            narrow_tried = &narrow_images[k];
+            midway = &midways[k];
+            printf(" %8.2f", cost(calls[i].function) - cost(calls[i].besides));
+        }
+        printf("\n");
+    }
+    return 0;
+}
