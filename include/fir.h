@@ -1,5 +1,6 @@
 /*
  * fir.h: the interface of the Hegbaluwe engine, for C99 and C++.
+ * SPDX-License-Identifier: Apache-2.0
  *
  * The library checks FIR images and runs them. It keeps nothing between two calls: it has no global state, allocates
  * nothing and calls nothing back. The caller lends all memory and keeps the state of a run between calls.
@@ -19,8 +20,15 @@
  * Threads: every function may be called from several threads at once, each with its own states, texts and buffers. What calls
  * only read they may share: an image, and a state behind a pointer to const.
  *
- * Linking: the archive is for x86-64 and its calling convention of System V. It needs two functions of the C library, memcpy
- * and memset, and nothing else.
+ * Linking: the archive that `rt staticlib` makes is for x86-64 and its calling convention of System V; tools/dist makes it for
+ * aarch64, ARMv7 and riscv64 too. It needs two functions of the C library, memcpy and memset, on ARMv7 and riscv64 also memmove, on
+ * ARMv7 also libgcc, and nothing else.
+ *
+ * Costs: a call that is lent an image reads all of it. fir_check, fir_begin, fir_run, fir_change, fir_widen and fir_narrow put it to
+ * its questions: 3 to 5 microseconds for an image of 414 bytes, 200 to 310 for one of 26,496, measured on one core of a busy x86-64;
+ * fir_report 5 and 1,030. fir_step, fir_budget, fir_search and fir_where find its versions anew: 0.3 to 0.6 and 10, beside the steps
+ * taken. So one budget costs less than as many single steps. fir_look and fir_question_text are lent no image and cost below 0.01.
+ * tests/interface/costs.c measures all of these.
  *
  * The examples below are compiled and run by the tests, as they stand, behind <stdio.h> and this header.
  */
@@ -206,7 +214,8 @@ typedef struct fir_answer {
 /* Numbers alone: it may be copied, stored and compared as bytes. Write it by the functions below only; its fields are here
  * so that it can be declared and read. What lies above a count means nothing. The 4 bytes of padding before `value` mean
  * nothing either: no call writes them, so where states are compared as bytes, clear each once before its first use, and
- * copy them by memcpy.
+ * copy them by memcpy. Then two boxes that do the same run have the same bytes, however it is divided into steps and budgets
+ * and whatever the memory held before: that is tested; what is proved is that the two stand for the same state.
  *
  * A stored state is these fir_state_size() bytes, kept anywhere and read back at any time, by another program too whose
  * library has the same FIR_STATE_LAYOUT. There are no bytes that cannot be loaded: all of them stand for some state. So damage
@@ -327,7 +336,18 @@ fir_verdict fir_narrow(const uint8_t *image, size_t image_length, uint8_t *out, 
 /* Begins a run of a version of a function at a level and writes its state. The image is put to its questions first, so that no
  * fir_check need come before it. Argument words are -1 and an integer, or 0 to 16
  * and that many integers, for each parameter; a head word counts with all of its 64 bits, as a level does. The buffer is
- * asked for its length only. Where the run is refused, the state is as it was. */
+ * asked for its length only. Where the run is refused, the state is as it was.
+ *
+ * A version without parameters is lent no words: the length is 0, and the pointer, to anything, is still not NULL.
+ *
+ * Example:
+ *
+ *     static fir_entry begin_without_words(const uint8_t *image, size_t image_length, const int64_t *buffer, fir_state *state)
+ *     {
+ *         const int64_t none = 0;
+ *         return fir_begin(image, image_length, FIR_PORTAL, 0, 0, &none, 0, buffer, FIR_ITEMS, state);
+ *     }
+ */
 fir_entry fir_begin(const uint8_t *image, size_t image_length, size_t level, size_t function, size_t version,
                     const int64_t *words, size_t words_length, const int64_t *buffer, size_t buffer_length,
                     fir_state *state);
@@ -350,8 +370,8 @@ fir_entry fir_begin(const uint8_t *image, size_t image_length, size_t level, siz
 fir_said fir_step(const uint8_t *image, size_t image_length, fir_state *state);
 
 /* Takes at most `budget` steps. A vector that the run is DONE with is written to the buffer from place 0 on; all else in
- * the buffer stays. Budgets add up: it makes no difference into how many a run is divided. It refuses by 13 alone: the image
- * is not put to its questions again.
+ * the buffer stays. Budgets add up: it makes no difference into how many a run is divided, but for time, since each call of a
+ * step or a budget looks through the whole image once. It refuses by 13 alone: the image is not put to its questions again.
  *
  * Example:
  *
