@@ -58,6 +58,7 @@ static void byte_order(void)
 
 int main(void)
 {
+    const size_t size = sizeof(size_t); /* 8, or 4 where pointers have 32 bits */
     same("fir_state_size", fir_state_size(), sizeof(fir_state));
     same("fir_state_alignment", fir_state_alignment(), ALIGNMENT(fir_state));
     same("sizeof fir_state", sizeof(fir_state), 17040);
@@ -75,8 +76,8 @@ int main(void)
     AT(fir_state, status, 17026);
     AT(fir_state, length, 17027);
     AT(fir_state, value, 17032);
-    same("sizeof fir_verdict", sizeof(fir_verdict), 16);
-    AT(fir_verdict, question, 8);
+    same("sizeof fir_verdict", sizeof(fir_verdict), 2 * size);
+    AT(fir_verdict, question, size);
     same("sizeof fir_entry", sizeof(fir_entry), 4);
     AT(fir_entry, question, 2);
     same("sizeof fir_said", sizeof(fir_said), 16);
@@ -95,13 +96,13 @@ int main(void)
     AT(fir_searched, dispatch, 0);
     AT(fir_searched, looked, 1);
     AT(fir_searched, versions, 2);
-    same("sizeof fir_position", sizeof(fir_position), 16);
+    same("sizeof fir_position", sizeof(fir_position), size + 8);
     AT(fir_position, offset, 0);
-    AT(fir_position, kind, 8);
-    AT(fir_position, function, 9);
-    AT(fir_position, version, 10);
-    AT(fir_position, block, 11);
-    AT(fir_position, instruction, 12);
+    AT(fir_position, kind, size);
+    AT(fir_position, function, size + 1);
+    AT(fir_position, version, size + 2);
+    AT(fir_position, block, size + 3);
+    AT(fir_position, instruction, size + 4);
     same("sizeof fir_versions", sizeof(fir_versions), 8);
     AT(fir_versions, interface_number, 0);
     AT(fir_versions, state_layout, 4);

@@ -1,14 +1,28 @@
 #!/usr/bin/env bash
 # Tries the C interface: its header as C99 and as C++ and the examples in it, the symbols of the archive, the layout of what
-# crosses it, the stack that each function takes, what a search and a position answer, texts, an image moved there and back,
-# levels, calls from several threads, and the examples controller, update and stored, whose output stands beside them. Needs
-# a C and a C++ compiler with nm, and valgrind. Its last line is `interface: N passed, 0 failed`; where something fails, it
+# crosses it, the bytes of states, the stack that each function takes, what a search and a position answer, texts, an image moved there and back,
+# levels, calls from several threads, and the examples controller, update, stored and standby, whose output stands beside them; and
+# prints what each call costs. Needs a C and a C++ compiler with nm, and valgrind. Its last line is `interface: N passed, 0 failed`; where something fails, it
 # says what and its status is 1.
+#
+# With the name of another machine, as tools/dist/target.sh gives it, the library for that machine is tried: by its compiler, under
+# qemu, and without C++ and valgrind.
 set -euo pipefail
 cd "$(dirname "$0")/../.."
 
+target=${1-}
 library=target/staticlib/libabi.a
 out=target/interface
+cc="cc"
+nm="nm"
+run=()
+if [ -n "$target" ]; then
+    library=target/$target/libfir.a
+    out=target/$target/interface
+    cc=$target-gcc
+    nm=$target-nm
+    run=("qemu-${target%%-*}" -L "/usr/$target")
+fi
 strict=(-Wall -Wextra -Werror -pedantic -Iinclude)
 passed=0
 
@@ -23,31 +37,38 @@ ok() {
 }
 
 mkdir -p "$out"
-rt staticlib abi >"$out/library.txt" 2>&1 || { cat "$out/library.txt"; fail "the library is not built"; }
-
-echo '#include "fir.h"' >"$out/empty.cc"
-c++ -x c++ -std=c++98 -Wall -Wextra -Werror -Iinclude -c "$out/empty.cc" -o "$out/empty_cc.o" || fail "the header as C++98"
-ok "the header is C++98"
-c++ -x c++ -std=c++17 "${strict[@]}" -c "$out/empty.cc" -o "$out/empty_cc.o" || fail "the header as C++17"
-ok "the header is C++17"
+[ -z "$target" ] || [ -f "$library" ] || fail "$library is missing; tools/dist/target.sh $target makes it"
+if [ -z "$target" ]; then
+    rt staticlib abi >"$out/library.txt" 2>&1 || { cat "$out/library.txt"; fail "the library is not built"; }
+    echo '#include "fir.h"' >"$out/empty.cc"
+    c++ -x c++ -std=c++98 -Wall -Wextra -Werror -Iinclude -c "$out/empty.cc" -o "$out/empty_cc.o" || fail "the header as C++98"
+    ok "the header is C++98"
+    c++ -x c++ -std=c++17 "${strict[@]}" -c "$out/empty.cc" -o "$out/empty_cc.o" || fail "the header as C++17"
+    ok "the header is C++17"
+fi
 
 # The symbols of the archive that nm prints with an option, those of some letters alone, in order.
 symbols() {
-    nm "$1" "$library" | awk -v letters="$2" 'NF > 1 && $(NF - 1) ~ letters { print $NF }' | sort | paste -sd ' '
+    "$nm" "$1" "$library" | awk -v letters="$2" 'NF > 1 && $(NF - 1) ~ letters { print $NF }' | sort | paste -sd ' '
 }
 
 declared=$(sed -n 's/^[a-z][a-z0-9_]* \(fir_[a-z_]*\)(.*/\1/p' include/fir.h | sort | paste -sd ' ')
 [ "$(symbols --defined-only '^T$')" = "$declared" ] || fail "the archive has other functions than the header declares"
 ok "the archive has the functions that the header declares"
-[ "$(symbols --undefined-only '^U$')" = "memcpy memset" ] || fail "the archive needs $(symbols --undefined-only '^U$')"
-ok "the archive needs memcpy and memset alone"
+case $target in
+"" | aarch64-*) needs="memcpy memset" ;;
+riscv64-*) needs="memcpy memmove memset" ;;
+*) needs="__aeabi_uldivmod memcpy memmove memset" ;; # the first is libgcc's
+esac
+[ "$(symbols --undefined-only '^U$')" = "$needs" ] || fail "the archive needs $(symbols --undefined-only '^U$')"
+ok "the archive needs $needs alone"
 [ -z "$(symbols --defined-only '^[bBcCdD]$')" ] || fail "the archive has variables"
 ok "the archive has no variable"
 
 awk -f tests/interface/examples.awk include/fir.h >"$out/examples.inc"
-for host in layout stack search where texts moves levels threads examples; do
-    cc -std=c99 -O2 "${strict[@]}" -I"$out" "tests/interface/$host.c" "$library" -lpthread -o "$out/$host" || fail "$host does not compile"
-    "$out/$host" || fail "$host"
+for host in layout bytes stack search where texts moves levels threads costs examples; do
+    "$cc" -std=c99 -O2 "${strict[@]}" -I"$out" "tests/interface/$host.c" "$library" -lpthread -o "$out/$host" || fail "$host does not compile"
+    "${run[@]}" "$out/$host" || fail "$host"
     ok "$host"
 done
 
@@ -55,10 +76,11 @@ done
 # does its runs, each under the command that it is given, if any.
 example() {
     local name=$1
-    cc -std=c99 -O2 "${strict[@]}" "examples/$name.c" "$library" -o "$out/$name" || fail "the $name does not compile"
-    "$name" >"$out/$name.txt"
+    "$cc" -std=c99 -O2 "${strict[@]}" "examples/$name.c" "$library" -o "$out/$name" || fail "the $name does not compile"
+    "$name" "${run[@]}" >"$out/$name.txt"
     diff "examples/$name.txt" "$out/$name.txt" || fail "the $name prints something else"
     ok "the $name prints what is stored"
+    [ -z "$target" ] || return 0
     "$name" valgrind -q --error-exitcode=99 >"$out/$name.txt" 2>"$out/valgrind.txt" || fail "valgrind"
     diff "examples/$name.txt" "$out/$name.txt" || fail "the $name under valgrind: $(head -n 5 "$out/valgrind.txt")"
     [ ! -s "$out/valgrind.txt" ] || fail "valgrind says: $(head -n 5 "$out/valgrind.txt")"
@@ -85,8 +107,13 @@ stored() {
     with_status "$@" "$out/stored"
 }
 
+standby() {
+    with_status "$@" "$out/standby"
+}
+
 example controller
 example update
 example stored
+example standby
 
 echo "interface: $passed passed, 0 failed"

@@ -35,6 +35,8 @@ compare() {
 (cd fir && sha256sum --quiet -c SHA256SUMS) || fail "the checksums differ"
 identity='\013\0\001\0\0\0\001\001\002\001\002\005\0\003\0\0\007\0\002\0\0\0\0'
 prints $'0.0 1 0 0 0\naccepted 1' sh -c "printf '$identity' | fir/bin/check"
+fir/bin/check <fir >said.txt 2>/dev/null && fail "check has a verdict on a folder"
+[ ! -s said.txt ] || fail "check prints $(cat said.txt) of a folder"
 prints "DONE 1 after 24 steps" fir/bin/fir run fir/examples/defrost.fir 0.0 15 -75 55
 
 for source in fir/examples/*.c; do
@@ -49,7 +51,7 @@ for source in fir/examples/*.c; do
 done
 
 if command -v pkg-config >/dev/null; then
-    sed -n '/^## Build a host$/,/^## Is/s/^    //p' fir/README.md >lines.sh
+    sed -n '/^## Build a host$/,/^## Other/s/^    //p' fir/README.md >lines.sh
     (cd fir && bash -e ../lines.sh)
     compare fir/controller controller "the lines of the README"
 fi

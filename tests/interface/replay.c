@@ -1,0 +1,232 @@
+/* Plays recorded cases, as the program `recorded` of tests/generator writes them, from standard input, and prints a sum over all that
+ * the library answers and leaves: numbers, verdicts and texts, moves, states, buffers, positions and searches. On two machines the same cases
+ * print the same. */
+#include <stdio.h>
+#include <stdlib.h>
+#include <string.h>
+
+#include "fir.h"
+
+#define IMAGE (2 * FIR_IMAGE_BYTES) /* an image that is refused may be longer than one that is not */
+#define WORDS 256
+#define PLACES 64
+#define SHOWN 1000 /* cases after which the sum is printed */
+
+typedef struct image {
+    size_t length;
+    uint8_t bytes[IMAGE];
+} image;
+
+static image images[2];
+static uint8_t out[FIR_IMAGE_BYTES];
+static uint8_t text[FIR_REPORT_BYTES];
+static int64_t words[WORDS];
+static int64_t buffer[PLACES];
+static fir_state state;
+static uint64_t sum = 14695981039346656037u; /* FNV-1a */
+static unsigned long steps;
+
+static void add_bytes(const void *bytes, size_t length)
+{
+    const uint8_t *byte = bytes;
+    size_t i;
+    for (i = 0; i < length; i++)
+        sum = (sum ^ byte[i]) * 1099511628211u;
+}
+
+static void add(uint64_t number)
+{
+    int i;
+    for (i = 0; i < 8; i++, number >>= 8)
+        sum = (sum ^ (number & 255)) * 1099511628211u;
+}
+
+static void fail(const char *what)
+{
+    fprintf(stderr, "replay: %s\n", what);
+    exit(1);
+}
+
+/* A number of 8 bytes; 0 at the end of the input, where it may stand. */
+static int read_number(uint64_t *number)
+{
+    uint8_t bytes[8];
+    size_t got = fread(bytes, 1, sizeof bytes, stdin);
+    int i;
+    if (got == 0)
+        return 0;
+    if (got != sizeof bytes)
+        fail("the input is cut");
+    for (*number = 0, i = 7; i >= 0; i--)
+        *number = *number << 8 | bytes[i];
+    return 1;
+}
+
+static uint64_t number(void)
+{
+    uint64_t number;
+    if (!read_number(&number))
+        fail("the input is cut");
+    return number;
+}
+
+static void read_image(image *to, uint64_t length)
+{
+    if (length > IMAGE)
+        fail("an image is too long");
+    to->length = (size_t)length;
+    if (fread(to->bytes, 1, to->length, stdin) != to->length)
+        fail("the input is cut");
+}
+
+static void add_verdict(fir_verdict verdict)
+{
+    add(verdict.question);
+    add(verdict.detail);
+}
+
+/* What is asked of nothing: numbers and words. */
+static void ask(void)
+{
+    const fir_versions built = fir_version();
+    unsigned number;
+    add(built.interface_number);
+    add(built.state_layout);
+    add(fir_state_size());
+    for (number = 0; number <= UINT8_MAX; number++) {
+        memset(text, 0, sizeof text);
+        add(fir_question_text((uint8_t)number, text, sizeof text));
+        add_bytes(text, sizeof text);
+    }
+}
+
+/* What is asked of an image alone, in both forms. */
+static void judge(const image *image)
+{
+    uint8_t form;
+    fir_verdict moved;
+    add_verdict(fir_check(image->bytes, image->length));
+    for (form = FIR_FORM_64; form <= FIR_FORM_32; form++) {
+        add_verdict(fir_check_in(image->bytes, image->length, form));
+        memset(text, 0, sizeof text);
+        add(fir_report_in(image->bytes, image->length, form, text, sizeof text));
+        add_bytes(text, sizeof text);
+    }
+    memset(out, 0, sizeof out);
+    moved = fir_narrow(image->bytes, image->length, out, sizeof out);
+    add_verdict(moved);
+    add_bytes(out, sizeof out);
+    if (moved.question == FIR_ACCEPTED) {
+        moved = fir_widen(out, moved.detail, images[1].bytes, FIR_IMAGE_BYTES);
+        add_verdict(moved);
+        add_bytes(images[1].bytes, moved.detail);
+    }
+}
+
+/* What can be asked of the state. */
+static void look(const image *image)
+{
+    fir_position at = fir_where(image->bytes, image->length, &state);
+    fir_searched searched = fir_search(image->bytes, image->length, &state);
+    size_t place;
+    add_bytes(&state, sizeof state);
+    add(at.kind);
+    add(at.offset);
+    add(at.function * 256u + at.version);
+    add(at.block * 256u + at.instruction);
+    add(searched.dispatch * 65536u + searched.looked * 256u + searched.versions);
+    for (place = 0; place <= FIR_REGISTERS + FIR_NAMES; place++) {
+        fir_value value = fir_look(&state, state.calls > 0 ? state.calls - 1u : 0, place);
+        add((uint64_t)value.number);
+        add(value.kind * 256u + value.place);
+    }
+}
+
+static void add_answer(fir_answer answer)
+{
+    steps += answer.steps;
+    add(answer.steps);
+    add((uint64_t)answer.value);
+    add(answer.offset);
+    add(answer.code * 65536u + answer.length * 256u + answer.question);
+    add_bytes(buffer, sizeof buffer);
+}
+
+/* One thing done with the run. */
+static void act(image **in_force, image **other)
+{
+    fir_said said;
+    fir_entry entry;
+    uint64_t budget;
+    image *changed;
+    switch (number()) {
+    case 0:
+        said = fir_step((*in_force)->bytes, (*in_force)->length, &state);
+        add((uint64_t)said.value);
+        add(said.code * 256u + said.length);
+        break;
+    case 1:
+        budget = number();
+        add_answer(fir_budget((*in_force)->bytes, (*in_force)->length, &state, (uint32_t)budget, buffer, (size_t)number()));
+        break;
+    default:
+        read_image(*other, number());
+        entry = fir_change((*in_force)->bytes, (*in_force)->length, (*other)->bytes, (*other)->length, &state);
+        add(entry.question * 65536u + entry.offset);
+        if (entry.question == FIR_ACCEPTED) {
+            changed = *in_force;
+            *in_force = *other;
+            *other = changed;
+        }
+    }
+    look(*in_force);
+}
+
+static void play(uint64_t length)
+{
+    image *in_force = &images[0], *other = &images[1];
+    uint64_t level, function, version, count, i;
+    fir_entry entry;
+    read_image(in_force, length);
+    level = number();
+    function = number();
+    version = number();
+    count = number();
+    if (count > WORDS)
+        fail("too many words");
+    for (i = 0; i < count; i++)
+        words[i] = (int64_t)number();
+    judge(in_force);
+    memset(&state, 0, sizeof state);
+    memset(buffer, 0, sizeof buffer);
+    entry = fir_begin(in_force->bytes, in_force->length, (size_t)level, (size_t)function, (size_t)version, words, (size_t)count,
+                      buffer, FIR_ITEMS, &state);
+    add(entry.question * 65536u + entry.offset);
+    look(in_force);
+    for (i = number(); i > 0; i--)
+        act(&in_force, &other);
+    add_answer(fir_run(in_force->bytes, in_force->length, (size_t)level, (size_t)function, (size_t)version, words, (size_t)count,
+                       500, buffer, PLACES, &state));
+    look(in_force);
+}
+
+static void show(unsigned long cases)
+{
+    printf("replay: %lu cases, %lu steps, %08lx%08lx\n", cases, steps, (unsigned long)(sum >> 32),
+           (unsigned long)(sum & 0xffffffffu));
+}
+
+int main(void)
+{
+    unsigned long cases = 0;
+    uint64_t length;
+    ask();
+    while (read_number(&length)) {
+        play(length);
+        if (++cases % SHOWN == 0)
+            show(cases);
+    }
+    if (cases % SHOWN != 0)
+        show(cases);
+    return cases == 0;
+}
