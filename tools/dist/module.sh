@@ -2,7 +2,8 @@
 # Proves and builds the library as `rt staticlib abi` does, and keeps the LLVM module that it is compiled from, as
 # target/staticlib/abi.bc. A folder of links stands in for the kit; only its clang is another one, which copies the module that it
 # is handed and then calls the kit's. That the module is the library's is seen afterwards: compiled once more by the kit's own
-# clang, it gives the archive's object byte for byte; target/staticlib/abi.sha256 has the checksums of both. It needs the kit alone, of which nothing is changed or copied.
+# clang, it gives the archive's object byte for byte; target/staticlib/abi.sha256 has the checksums of both. It needs the kit alone, of
+# which nothing is changed or copied.
 set -euo pipefail
 cd "$(dirname "$0")/../.."
 
