@@ -20,13 +20,17 @@ fn what_is_wrong_is_named_by_line_and_column() {
     assert_eq!(wrong("  r0 = lit 9223372036854775808"), (1, 12));
     assert_eq!(wrong("  skip 3 r0"), (1, 10));
     assert_eq!(wrong("  bytes 01 2"), (1, 12));
+    assert_eq!(wrong(" version 0.0(r1: int) -> int"), (1, 14));
+    assert_eq!(
+        wrong("version 0.0() -> int\n registers r0: int, r0: int"),
+        (2, 21)
+    );
 }
 
 #[test]
 fn a_line_that_is_wrong_as_a_whole_is_named_at_its_first_word() {
     assert_eq!(wrong("  registers r0: int"), (1, 3));
     assert_eq!(wrong("version 0.0() -> int\n  block 1 quiet -> r0"), (2, 3));
-    assert_eq!(wrong(" version 0.0(r1: int) -> int"), (1, 2));
 }
 
 /// Two versions; the registers of the second stand on three lines.
