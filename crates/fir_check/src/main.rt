@@ -1,8 +1,9 @@
 //! `check`: reads an image from standard input and prints what the checker says of it.
 use checker::Reported;
 use checker::report;
-ghost use Prim.Native.Nat.{_<_, _≤_};
+ghost use Prim.Native.Nat.{_≤_};
 ghost use lib.ListN.{length};
+ghost use Rattle.fir_check.specs.Inputs.{Fits};
 
 /// One byte more than an image may have, so that a longer input is refused by question 1.
 const ROOM: usize = 32769;
@@ -13,11 +14,14 @@ const TEXT: usize = 4096;
 /// How many reads of an image may fail.
 const FAILURES: usize = 1000;
 
-/// More bytes than there can be: the input cannot be read.
-const FAILED: usize = 18446744073709551615;
-
 /// How often more input is read at most.
 const READS: usize = 18446744073709551615;
+
+/// Standard input as it was read: whole, or as much of it as there is room for, with so many bytes; or it cannot be read.
+enum Input {
+    Whole(usize),
+    Failed,
+}
 
 /// Where `space` is full with the `n` bytes read, reads standard input to its end by way of it, so that whoever writes can end.
 fn read_on(n: usize, space: &mut [u8]) {
@@ -34,11 +38,11 @@ fn read_on(n: usize, space: &mut [u8]) {
     }
 }
 
-/// Reads on behind the `n` bytes that `image` holds, until it is full or standard input has ended, and gives how many it holds then.
-/// A read that fails, as one that a signal interrupts, is tried again; where too many fail, the answer is `FAILED`.
-fn read_to_end(n: usize, image: &mut [u8]) -> usize
+/// Reads on behind the `n` bytes that `image` holds, until it is full or standard input has ended. A read that fails, as one that a
+/// signal interrupts, is tried again, but not without end.
+fn read_to_end(n: usize, image: &mut [u8]) -> Input
     requires { ⌜ n ≤ length (now image) ⌝ }
-    ensures { λ r. ⌜ (r < 18446744073709551615 → r ≤ length (now (image .exit))) ⌝ }
+    ensures { λ r. ⌜ Fits r (length (now (image .exit))) ⌝ }
 {
     let mut held = n;
     let mut failures: usize = 0;
@@ -46,29 +50,28 @@ fn read_to_end(n: usize, image: &mut [u8]) -> usize
     while held < image.len() {
         let got = libc::read(0, &mut next);
         if got == 0 {
-            return held;
+            return Input::Whole(held);
         }
         if got > 0 {
             image[held] = next[0];
             held += 1;
         } else {
             if failures == FAILURES {
-                return FAILED;
+                return Input::Failed;
             }
             failures += 1;
         }
     }
-    held
+    Input::Whole(held)
 }
 
 fn main() {
     let mut image = [0u8; ROOM];
     let first = io::read_full(0, &mut image);
-    let n = read_to_end(first, &mut image);
-    if n > ROOM {
+    let Input::Whole(n) = read_to_end(first, &mut image) else {
         io::write_all(2, b"check: standard input cannot be read\n");
         return;
-    }
+    };
     let mut text = [0u8; TEXT];
     match report::report(&image[..n], &mut text) {
         Reported::Written(size) => {

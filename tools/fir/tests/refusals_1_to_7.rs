@@ -137,15 +137,7 @@ fn question_4_names_what_is_out_of_bounds_in_a_version() {
 }
 
 #[test]
-fn question_4_names_a_count_that_is_too_great() {
-    let nine: Vec<String> = (0..9).map(|r| format!("r{r}: int")).collect();
-    says(
-        &format!(
-            "version 0.0({}) -> int\nblock 0 quiet -> r0",
-            nine.join(", ")
-        ),
-        "refused by 4 at 0: VERSION 0.0 has 9 parameters, and 8 are the most",
-    );
+fn question_4_names_a_version_without_a_block_or_with_too_many() {
     for text in [
         "version 0.0(r0: int) -> int",
         "version 0.0(r0: int) -> int\nr0 = lit 1",
@@ -156,14 +148,24 @@ fn question_4_names_a_count_that_is_too_great() {
              stand behind a line such as `block 0 quiet -> r0`",
         );
     }
+    let nine: String = (0..9)
+        .map(|block| format!("block {block} quiet -> r0\n"))
+        .collect();
+    says(
+        &format!("version 0.0(r0: int) -> int\n{nine}"),
+        "refused by 4 at 0: VERSION 0.0 has 9 blocks, and 8 are the most",
+    );
+}
+
+#[test]
+fn question_4_names_a_count_that_is_too_great() {
+    let nine: Vec<String> = (0..9).map(|r| format!("r{r}: int")).collect();
     says(
         &format!(
-            "version 0.0(r0: int) -> int{}",
-            (0..9)
-                .map(|n| format!("\nblock {n} quiet -> r0"))
-                .collect::<String>()
+            "version 0.0({}) -> int\nblock 0 quiet -> r0",
+            nine.join(", ")
         ),
-        "refused by 4 at 0: VERSION 0.0 has 9 blocks, and 8 are the most",
+        "refused by 4 at 0: VERSION 0.0 has 9 parameters, and 8 are the most",
     );
     let many: Vec<String> = (0..65)
         .map(|n| {

@@ -295,36 +295,7 @@ fn bytes_lines_do_not_count_as_instructions() {
 }
 
 #[test]
-fn wrong_lines_are_named_with_their_reason() {
-    wrong(
-        "\nr0 = hop r1",
-        "line 2: expected an instruction, found `hop`",
-    );
-    wrong(
-        "r0 = move x1",
-        "line 1: expected a register such as r0, found `x1`",
-    );
-    wrong(
-        "r0 = move",
-        "line 1: expected a register such as r0, found the end of the line",
-    );
-    wrong(
-        "r0 = move r256",
-        "line 1: expected a register such as r0, found `r256`",
-    );
-    for beyond in ["9223372036854775808", "-9223372036854775809", "x"] {
-        let integers = "an integer of -9223372036854775808 to 9223372036854775807";
-        wrong(
-            &format!("r0 = lit {beyond}"),
-            &format!("line 1: expected {integers}, found `{beyond}`"),
-        );
-    }
-    for fraction in ["21.5", "-0.5"] {
-        wrong(
-            &format!("r0 = lit {fraction}"),
-            &format!("line 1: expected an integer, which has no fraction, found `{fraction}`"),
-        );
-    }
+fn words_with_capital_letters_get_a_hint() {
     for (text, line) in [
         (
             "r0 = Less r1, r2",
@@ -356,6 +327,39 @@ fn wrong_lines_are_named_with_their_reason() {
         ),
     ] {
         wrong(text, line);
+    }
+}
+
+#[test]
+fn wrong_lines_are_named_with_their_reason() {
+    wrong(
+        "\nr0 = hop r1",
+        "line 2: expected an instruction, found `hop`",
+    );
+    wrong(
+        "r0 = move x1",
+        "line 1: expected a register such as r0, found `x1`",
+    );
+    wrong(
+        "r0 = move",
+        "line 1: expected a register such as r0, found the end of the line",
+    );
+    wrong(
+        "r0 = move r256",
+        "line 1: expected a register such as r0, found `r256`",
+    );
+    for beyond in ["9223372036854775808", "-9223372036854775809", "x"] {
+        let integers = "an integer of -9223372036854775808 to 9223372036854775807";
+        wrong(
+            &format!("r0 = lit {beyond}"),
+            &format!("line 1: expected {integers}, found `{beyond}`"),
+        );
+    }
+    for fraction in ["21.5", "-0.5"] {
+        wrong(
+            &format!("r0 = lit {fraction}"),
+            &format!("line 1: expected an integer, which has no fraction, found `{fraction}`"),
+        );
     }
     wrong(
         "r0 = r1 + r2",

@@ -3,7 +3,8 @@ use mathlib.Core.Path.{_≡_, _∙_, refl}
 use Prim.Native.Nat.{_+_, _≤_, _-_}
 use native.Mathlib.Omega.{arith}
 use borrow.Author.Needs.{needs}
-use lib.ListN.{getD, length, length-set, set}
+use lib.ListN.{getD, length, length-set}
+use Rattle.fir_check.specs.Inputs.{Fits}
 use Rattle.fir_check.proofs.read_to_end.Statement.{statement}
 use Rattle.fir_check.proofs.read_to_end.Tie as tie
 use Rattle.fir_check.proofs.read_to_end.Reads as reads
@@ -29,7 +30,8 @@ same-length : tie.Need-same-length Inv-loop μ-loop
 same-length c = search needs
 
 returns : tie.Need-returns Inv-loop μ-loop
-returns c _ = c .before .before .before .before .before .loop .inv .3
+unfolding Fits
+returns c = c .before .before .before .before .before .loop .inv .3
 
 array-read-image : tie.Need-array-read-image Inv-loop μ-loop
 array-read-image c = search needs
@@ -43,20 +45,21 @@ add-held c = search needs
 loop-less : tie.Need-loop-less Inv-loop μ-loop
 loop-less c =
     let h = c .before .before .before .before .before .loop-test .taken in
-    let s : length (set (c .before .before .before .before .before .before .loop .image) (c .before .before .before .before .before .before .loop .held) (getD (c .before .before .before .read .last .1 .0) 0 0)) ≡ length (c .before .before .before .before .before .before .loop .image) = length-set (c .before .before .before .before .before .before .loop .image) (c .before .before .before .before .before .before .loop .held) (getD (c .before .before .before .read .last .1 .0) 0 0) in
+    let s = length-set (c .before .before .before .before .before .before .loop .image) (c .before .before .before .before .before .before .loop .held) (getD (c .before .before .before .read .last .1 .0) 0 0) in
     omega arith
 
 loop-again : tie.Need-loop-again Inv-loop μ-loop
 loop-again c =
     let h = c .before .before .before .before .before .loop-test .taken in
-    let s : length (set (c .before .before .before .before .before .before .loop .image) (c .before .before .before .before .before .before .loop .held) (getD (c .before .before .before .read .last .1 .0) 0 0)) ≡ length (c .before .before .before .before .before .before .loop .image) = length-set (c .before .before .before .before .before .before .loop .image) (c .before .before .before .before .before .before .loop .held) (getD (c .before .before .before .read .last .1 .0) 0 0) in
+    let s = length-set (c .before .before .before .before .before .before .loop .image) (c .before .before .before .before .before .before .loop .held) (getD (c .before .before .before .read .last .1 .0) 0 0) in
     (s ∙ c .before .before .before .before .before .before .loop .inv .0, search needs, c .before .before .before .before .before .before .loop .inv .2, omega arith)
 
 same-length-2 : tie.Need-same-length-2 Inv-loop μ-loop
 same-length-2 c = search needs
 
 returns-2 : tie.Need-returns-2 Inv-loop μ-loop
-returns-2 c h = omega arith
+unfolding Fits
+returns-2 c = tt
 
 add-failures : tie.Need-add-failures Inv-loop μ-loop
 add-failures c = search needs
@@ -77,7 +80,8 @@ same-length-3 : tie.Need-same-length-3 Inv-loop μ-loop
 same-length-3 c = search needs
 
 returns-3 : tie.Need-returns-3 Inv-loop μ-loop
-returns-3 c _ = c .before .loop .inv .3
+unfolding Fits
+returns-3 c = c .before .loop .inv .3
 
 pub read-to-end-spec : {M : Type 1} → statement M
 read-to-end-spec =
