@@ -25,10 +25,10 @@
  * ARMv7 also libgcc, and nothing else.
  *
  * Costs: a call that is lent an image reads all of it. fir_check, fir_begin, fir_run, fir_change, fir_widen and fir_narrow put it to
- * its questions: 3 to 5 microseconds for an image of 414 bytes, 200 to 310 for one of 26,496, measured on one core of a busy x86-64;
- * fir_report 5 and 1,030. fir_step, fir_budget, fir_search and fir_where find its versions anew: 0.3 to 0.6 and 10, beside the steps
- * taken. So one budget costs less than as many single steps. fir_look and fir_question_text are lent no image and cost below 0.01.
- * tests/interface/costs.c measures all of these.
+ * its questions: 3 to 7 microseconds for an image of 414 bytes, 170 to 310 for one of 26,496, measured on one core of a busy x86-64;
+ * fir_report 5 to 6, and 1,030 to 1,080. fir_step, fir_budget, fir_search and fir_where find its versions anew: 0.3 to 0.6 and 10,
+ * beside the steps taken. So one budget costs less than as many single steps. fir_look and fir_question_text are lent no image and
+ * cost below 0.01. tests/interface/costs.c measures all of these.
  *
  * The examples below are compiled and run by the tests, as they stand, behind <stdio.h> and this header.
  */
