@@ -12,7 +12,7 @@ ghost use Rattle.machine.specs.Searches.{searchOf};
 ghost use Rattle.moves.specs.Moves.{bufferAfter, moveOf};
 ghost use Rattle.snapshots.specs.Held.{held};
 ghost use Rattle.whereabouts.specs.Where.{whereOf};
-ghost use Rattle.words.specs.Words.{questionText, writtenOf};
+ghost use Rattle.words.specs.Words.{answerText, questionText, writtenOf};
 ghost use Rattle.abi.specs.Answers.{changedNumbers, entryNumbers, formOf, movedNumbers, saidNumbers, searchNumbers, stateAlignment, stateSize, verdictNumbers, versionNumbers, whereNumbers};
 ghost use Rattle.abi.specs.Exits.{Answers, Began};
 ghost use Rattle.abi.specs.Looks.{lookOf};
@@ -48,6 +48,14 @@ pub extern "C" fn fir_question_text(question: u8, text: &mut [u8]) -> usize
     ensures { λ r. ⌜ (r ≡ writtenOf (questionText question) (length (now (text .entry)))) × (now (text .exit) ≡ placed (now (text .entry)) 0 (questionText question)) ⌝ }
 {
     words::question_text(question, text)
+}
+
+/// Writes what the code of an answer to a step or a budget says, as `fir_question_text` does; 0 for a number that is no code.
+#[no_mangle]
+pub extern "C" fn fir_answer_text(code: u8, text: &mut [u8]) -> usize
+    ensures { λ r. ⌜ (r ≡ writtenOf (answerText code) (length (now (text .entry)))) × (now (text .exit) ≡ placed (now (text .entry)) 0 (answerText code)) ⌝ }
+{
+    words::answer_text(code, text)
 }
 
 /// The size of a state in bytes.

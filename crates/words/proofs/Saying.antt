@@ -9,7 +9,7 @@ use lib.ListN.{length, take, drop}
 use borrow.Author.Tests.{le-leb, lt-leb, ne-eqb}
 use Rattle.layout.specs.Records.{choose}
 use Rattle.writer.specs.Text.{placed}
-use Rattle.words.specs.Words.{questionText, writtenOf}
+use Rattle.words.specs.Words.{writtenOf}
 
 pub too-long : (t out : List ℕ) → length out < length t → (0 ≡ writtenOf t (length out)) × (out ≡ placed out 0 t)
 unfolding writtenOf placed
@@ -32,10 +32,10 @@ pub no-row : {A : Type 0} (n : ℕ) (x : A) → choose n x [] ≡ x
 unfolding choose
 no-row n x = refl
 
--- a number that is none says nothing
-pub nothing : (n : ℕ) (out : List ℕ) → questionText n ≡ [] → (0 ≡ writtenOf (questionText n) (length out)) × (out ≡ placed out 0 (questionText n))
+-- a number that has no row says nothing
+pub nothing : (t out : List ℕ) → t ≡ [] → (0 ≡ writtenOf t (length out)) × (out ≡ placed out 0 t)
 unfolding writtenOf placed
-nothing n out e = rw e (written (leb 0 (length out)), put (leb 0 (length out)))
+nothing t out e = rw e (written (leb 0 (length out)), put (leb 0 (length out)))
   where
     written : (b : Bool) → _≡_ {A = ℕ} 0 (cond b 0 0)
     written true = refl

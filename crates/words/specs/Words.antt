@@ -1,4 +1,4 @@
--- Words for the number of a question that refuses, as the C interface gives them.
+-- Words for the number of a question that refuses, and for the code of an answer, as the C interface gives them.
 use mathlib.Core.List.{List, [], _∷_}
 use mathlib.Core.Bool.{cond}
 use Prim.Native.Nat.{ℕ}
@@ -34,3 +34,16 @@ questionText n = choose n [] (
     (17, text "the moved image has more than 32768 bytes or does not fit the buffer") ∷
     (18, text "a CALL goes to a version of a higher level") ∷
     (19, text "the entry is above the level of the run") ∷ [])
+
+-- what the code of an answer to a step or a budget says
+unfoldable pub answerText : ℕ → List ℕ
+answerText n = choose n [] (
+    (0, text "the run goes on") ∷
+    (1, text "DONE with an integer") ∷
+    (2, text "DONE with a vector") ∷
+    (3, text "UNDEF: an operation has no result") ∷
+    (4, text "DEEP: a 33rd activation is needed") ∷
+    (5, text "VECTORS: a 65th vector is needed") ∷
+    (6, text "PROMISES: a 65th promise is needed") ∷
+    (7, text "stuck: the state is none of a run of this image") ∷
+    (8, text "refused") ∷ [])

@@ -1,8 +1,8 @@
-//! Words for the number of a question that refuses.
+//! Words for the number of a question that refuses, and for the code of an answer.
 ghost use mathlib.Core.Path.{_≡_};
 ghost use lib.ListN.{length};
 ghost use Rattle.writer.specs.Text.{placed};
-ghost use Rattle.words.specs.Words.{questionText, writtenOf};
+ghost use Rattle.words.specs.Words.{answerText, questionText, writtenOf};
 
 /// Writes a text from the place 0 on, and gives its length; a buffer that is too short is left as it was, and the answer is 0.
 fn say(out: &mut [u8], t: &[u8]) -> usize
@@ -71,6 +71,24 @@ pub fn question_text(question: u8, out: &mut [u8]) -> usize
         ),
         18 => say(out, b"a CALL goes to a version of a higher level"),
         19 => say(out, b"the entry is above the level of the run"),
+        _ => 0,
+    }
+}
+
+/// Writes what the code of an answer to a step or a budget says, as `say`; 0 and nothing for a number that is none.
+pub fn answer_text(code: u8, out: &mut [u8]) -> usize
+    ensures { λ r. ⌜ (r ≡ writtenOf (answerText code) (length (now (out .entry)))) × (now (out .exit) ≡ placed (now (out .entry)) 0 (answerText code)) ⌝ }
+{
+    match code {
+        0 => say(out, b"the run goes on"),
+        1 => say(out, b"DONE with an integer"),
+        2 => say(out, b"DONE with a vector"),
+        3 => say(out, b"UNDEF: an operation has no result"),
+        4 => say(out, b"DEEP: a 33rd activation is needed"),
+        5 => say(out, b"VECTORS: a 65th vector is needed"),
+        6 => say(out, b"PROMISES: a 65th promise is needed"),
+        7 => say(out, b"stuck: the state is none of a run of this image"),
+        8 => say(out, b"refused"),
         _ => 0,
     }
 }

@@ -1,19 +1,13 @@
 -- `words::question_text`: each number by its row, any other by none.
-use Rattle.words.proofs.Saying.{next-row, no-row, nothing}
 use mathlib.Core.Path.{_∙_}
 use mathlib.Core.List.{[]}
-use Rattle.words.proofs.Saying.{next-row, nothing}
-use Rattle.writer.specs.Text.{text}
-use borrow.Author.Tests.{ne-eqb}
-use Rattle.words.proofs.Saying.{nothing}
 use Rattle.layout.specs.Records.{choose}
+use Rattle.writer.specs.Text.{text}
 use Rattle.words.specs.Words.{questionText}
 use borrow.Author.Needs.{needs}
+use Rattle.words.proofs.Saying.{next-row, no-row, nothing}
 use Rattle.words.proofs.question_text.Statement.{statement}
 use Rattle.words.proofs.question_text.Tie as tie
-use Rattle.words.proofs.question_text.Reads as reads
-use Rattle.words.proofs.question_text.Lts as lts
-use Rattle.words.proofs.say.Reads as say-reads
 
 slice-aggregate-say : tie.Need-slice-aggregate-say
 slice-aggregate-say c = search needs
@@ -298,27 +292,28 @@ returns-20 c =
 returns-21 : tie.Need-returns-21
 unfolding questionText
 returns-21 c =
-    nothing ((c .before .before) .args .question) _ (next-row ((c .before .before) .args .question) [] _ _ ((c .match) .rest .0 .0 .0 .0 .0 .0 .0 .0 .0 .0 .0 .0 .0 .0 .0 .0 .0 .0 .0 .1)
-    ∙ next-row ((c .before .before) .args .question) [] _ _ ((c .match) .rest .0 .0 .0 .0 .0 .0 .0 .0 .0 .0 .0 .0 .0 .0 .0 .0 .0 .0 .1)
-    ∙ next-row ((c .before .before) .args .question) [] _ _ ((c .match) .rest .0 .0 .0 .0 .0 .0 .0 .0 .0 .0 .0 .0 .0 .0 .0 .0 .0 .1)
-    ∙ next-row ((c .before .before) .args .question) [] _ _ ((c .match) .rest .0 .0 .0 .0 .0 .0 .0 .0 .0 .0 .0 .0 .0 .0 .0 .0 .1)
-    ∙ next-row ((c .before .before) .args .question) [] _ _ ((c .match) .rest .0 .0 .0 .0 .0 .0 .0 .0 .0 .0 .0 .0 .0 .0 .0 .1)
-    ∙ next-row ((c .before .before) .args .question) [] _ _ ((c .match) .rest .0 .0 .0 .0 .0 .0 .0 .0 .0 .0 .0 .0 .0 .0 .1)
-    ∙ next-row ((c .before .before) .args .question) [] _ _ ((c .match) .rest .0 .0 .0 .0 .0 .0 .0 .0 .0 .0 .0 .0 .0 .1)
-    ∙ next-row ((c .before .before) .args .question) [] _ _ ((c .match) .rest .0 .0 .0 .0 .0 .0 .0 .0 .0 .0 .0 .0 .1)
-    ∙ next-row ((c .before .before) .args .question) [] _ _ ((c .match) .rest .0 .0 .0 .0 .0 .0 .0 .0 .0 .0 .0 .1)
-    ∙ next-row ((c .before .before) .args .question) [] _ _ ((c .match) .rest .0 .0 .0 .0 .0 .0 .0 .0 .0 .0 .1)
-    ∙ next-row ((c .before .before) .args .question) [] _ _ ((c .match) .rest .0 .0 .0 .0 .0 .0 .0 .0 .0 .1)
-    ∙ next-row ((c .before .before) .args .question) [] _ _ ((c .match) .rest .0 .0 .0 .0 .0 .0 .0 .0 .1)
-    ∙ next-row ((c .before .before) .args .question) [] _ _ ((c .match) .rest .0 .0 .0 .0 .0 .0 .0 .1)
-    ∙ next-row ((c .before .before) .args .question) [] _ _ ((c .match) .rest .0 .0 .0 .0 .0 .0 .1)
-    ∙ next-row ((c .before .before) .args .question) [] _ _ ((c .match) .rest .0 .0 .0 .0 .0 .1)
-    ∙ next-row ((c .before .before) .args .question) [] _ _ ((c .match) .rest .0 .0 .0 .0 .1)
-    ∙ next-row ((c .before .before) .args .question) [] _ _ ((c .match) .rest .0 .0 .0 .1)
-    ∙ next-row ((c .before .before) .args .question) [] _ _ ((c .match) .rest .0 .0 .1)
-    ∙ next-row ((c .before .before) .args .question) [] _ _ ((c .match) .rest .0 .1)
-    ∙ next-row ((c .before .before) .args .question) [] _ _ ((c .match) .rest .1)
-    ∙ no-row ((c .before .before) .args .question) [])
+    let q = (c .before .before) .args .question in
+    nothing (questionText q) _ (next-row q [] _ _ ((c .match) .rest .0 .0 .0 .0 .0 .0 .0 .0 .0 .0 .0 .0 .0 .0 .0 .0 .0 .0 .0 .1)
+    ∙ next-row q [] _ _ ((c .match) .rest .0 .0 .0 .0 .0 .0 .0 .0 .0 .0 .0 .0 .0 .0 .0 .0 .0 .0 .1)
+    ∙ next-row q [] _ _ ((c .match) .rest .0 .0 .0 .0 .0 .0 .0 .0 .0 .0 .0 .0 .0 .0 .0 .0 .0 .1)
+    ∙ next-row q [] _ _ ((c .match) .rest .0 .0 .0 .0 .0 .0 .0 .0 .0 .0 .0 .0 .0 .0 .0 .0 .1)
+    ∙ next-row q [] _ _ ((c .match) .rest .0 .0 .0 .0 .0 .0 .0 .0 .0 .0 .0 .0 .0 .0 .0 .1)
+    ∙ next-row q [] _ _ ((c .match) .rest .0 .0 .0 .0 .0 .0 .0 .0 .0 .0 .0 .0 .0 .0 .1)
+    ∙ next-row q [] _ _ ((c .match) .rest .0 .0 .0 .0 .0 .0 .0 .0 .0 .0 .0 .0 .0 .1)
+    ∙ next-row q [] _ _ ((c .match) .rest .0 .0 .0 .0 .0 .0 .0 .0 .0 .0 .0 .0 .1)
+    ∙ next-row q [] _ _ ((c .match) .rest .0 .0 .0 .0 .0 .0 .0 .0 .0 .0 .0 .1)
+    ∙ next-row q [] _ _ ((c .match) .rest .0 .0 .0 .0 .0 .0 .0 .0 .0 .0 .1)
+    ∙ next-row q [] _ _ ((c .match) .rest .0 .0 .0 .0 .0 .0 .0 .0 .0 .1)
+    ∙ next-row q [] _ _ ((c .match) .rest .0 .0 .0 .0 .0 .0 .0 .0 .1)
+    ∙ next-row q [] _ _ ((c .match) .rest .0 .0 .0 .0 .0 .0 .0 .1)
+    ∙ next-row q [] _ _ ((c .match) .rest .0 .0 .0 .0 .0 .0 .1)
+    ∙ next-row q [] _ _ ((c .match) .rest .0 .0 .0 .0 .0 .1)
+    ∙ next-row q [] _ _ ((c .match) .rest .0 .0 .0 .0 .1)
+    ∙ next-row q [] _ _ ((c .match) .rest .0 .0 .0 .1)
+    ∙ next-row q [] _ _ ((c .match) .rest .0 .0 .1)
+    ∙ next-row q [] _ _ ((c .match) .rest .0 .1)
+    ∙ next-row q [] _ _ ((c .match) .rest .1)
+    ∙ no-row q [])
 
 pub question-text-spec : {M : Type 1} → statement M
 question-text-spec =
