@@ -59,11 +59,16 @@ static int refused(const char *what, uint8_t question, size_t offset)
     return 1;
 }
 
-/* What stopped the run, and the record of the image that it stands at. */
-static int stopped(const uint8_t *image, size_t length, const char *what)
+/* What ended the run otherwise than with positions, and the record of the image that it stands at, if any. */
+static int ended(const uint8_t *image, size_t length, uint8_t code)
 {
+    uint8_t words[FIR_ANSWER_TEXT_BYTES];
+    size_t words_length = fir_answer_text(code, words, sizeof words);
     fir_position at = fir_where(image, length, &state);
-    printf("%s, in %u.%u at %lu\n", what, at.function, at.version, (unsigned long)at.offset);
+    printf("%.*s", (int)words_length, (const char *)words);
+    if (at.kind != FIR_NOWHERE)
+        printf(", in %u.%u at %lu", at.function, at.version, (unsigned long)at.offset);
+    printf("\n");
     return 1;
 }
 
@@ -104,23 +109,10 @@ static int control(const uint8_t *image, size_t length)
             printf("valves at %lld %lld %lld, measured %lld\n", (long long)valves[0], (long long)valves[1], (long long)valves[2],
                    (long long)measured);
             break;
-        case FIR_INTEGER:
-            printf("no positions, but the integer %lld\n", (long long)answer.value);
-            return 1;
-        case FIR_UNDEF:
-            return stopped(image, length, "undefined");
-        case FIR_DEEP:
-            return stopped(image, length, "too many calls at once");
-        case FIR_VECTORS:
-            return stopped(image, length, "too many vectors");
-        case FIR_PROMISES:
-            return stopped(image, length, "too many promises");
-        case FIR_STUCK:
-            printf("the state is none of a run of this image\n");
-            return 1;
         case FIR_REFUSED:
-        default:
             return refused("budget", answer.question, answer.offset);
+        default:
+            return ended(image, length, answer.code);
         }
         entry = begin(image, length, 215, measured, valves);
         if (entry.question != FIR_ACCEPTED)

@@ -27,8 +27,8 @@
  * Costs: a call that is lent an image reads all of it. fir_check, fir_begin, fir_run, fir_change, fir_widen and fir_narrow put it to
  * its questions: 3 to 7 microseconds for an image of 414 bytes, 170 to 310 for one of 26,496, measured on one core of a busy x86-64;
  * fir_report 5 to 6, and 1,030 to 1,080. fir_step, fir_budget, fir_search and fir_where find its versions anew: 0.3 to 0.6 and 10,
- * beside the steps taken. So one budget costs less than as many single steps. fir_look and fir_question_text are lent no image and
- * cost below 0.01. tests/interface/costs.c measures all of these.
+ * beside the steps taken. So one budget costs less than as many single steps. fir_look, fir_question_text and fir_answer_text are lent no
+ * image and cost below 0.01. tests/interface/costs.c measures all of these.
  *
  * The examples below are compiled and run by the tests, as they stand, behind <stdio.h> and this header.
  */
@@ -187,6 +187,23 @@ typedef struct fir_entry {
 #define FIR_PROMISES 6  /* PROMISES: a 65th promise is needed */
 #define FIR_STUCK 7     /* the state is none of a begun run that this image is in force for; what it stands for stays */
 #define FIR_REFUSED 8   /* refused by `question` at `offset`; state and buffer are as they were */
+
+#define FIR_ANSWER_TEXT_BYTES 64 /* room for the words of every answer */
+
+/* Writes in words what an answer of this code says, without a 0 behind it, and gives the length. A buffer that is too short is
+ * left as it was, and the answer is 0; so it is for a number that is no code. The words are for people and may change; a
+ * program goes by the numbers.
+ *
+ * Example:
+ *
+ *     static void say_answer(FILE *to, fir_answer answer)
+ *     {
+ *         uint8_t text[FIR_ANSWER_TEXT_BYTES];
+ *         fwrite(text, 1, fir_answer_text(answer.code, text, sizeof text), to);
+ *         fprintf(to, ", steps taken: %lu\n", (unsigned long)answer.steps);
+ *     }
+ */
+size_t fir_answer_text(uint8_t code, uint8_t *text, size_t text_length);
 
 /* A run that has ended gives its end again: each further step says the same code, value and length, and each further budget,
  * of 0 steps too, answers them with 0 steps and writes the items of a vector to its buffer as before. The state stays. Only

@@ -33,6 +33,7 @@ static void look(void) { seen += (uint64_t)fir_look(midway, 0, 1).number; }
 static void search(void) { seen += fir_search(tried->bytes, tried->length, midway).versions; }
 static void where(void) { seen += fir_where(tried->bytes, tried->length, midway).offset; }
 static void question_text(void) { seen += fir_question_text(FIR_REFUSED_BOUNDS, text, sizeof text); }
+static void answer_text(void) { seen += fir_answer_text(FIR_STUCK, text, sizeof text); }
 static void narrow(void) { seen += fir_narrow(tried->bytes, tried->length, out, sizeof out).detail; }
 static void widen(void) { seen += fir_widen(narrow_tried->bytes, narrow_tried->length, out, sizeof out).detail; }
 
@@ -132,7 +133,7 @@ int main(void)
                  {"fir_run, 1 step", run, nothing}, {"fir_change", change, nothing}, {"fir_widen", widen, nothing},
                  {"fir_narrow", narrow, nothing}, {"fir_step", step, bring_back}, {"fir_budget, 1 step", budget, bring_back},
                  {"fir_where", where, nothing}, {"fir_search", search, nothing}, {"fir_look", look, nothing},
-                 {"fir_question_text", question_text, nothing}};
+                 {"fir_question_text", question_text, nothing}, {"fir_answer_text", answer_text, nothing}};
     size_t i, k;
     if (!prepare()) {
         printf("costs: an image is refused\n");

@@ -64,6 +64,10 @@ static void texts(void)
     printed(file, "refused by 13 at 0: the result buffer has fewer than 16 places\n");
     calling(&tried, FIR_PORTAL, FIR_PORTAL);
     file = opened();
+    say_answer(file, fir_run(tried.bytes, tried.length, FIR_PORTAL, 0, 0, words, 2, 2, items, FIR_ITEMS, &state));
+    say_answer(file, fir_budget(tried.bytes, tried.length, &state, 100, items, FIR_ITEMS));
+    printed(file, "the run goes on, steps taken: 2\nDONE with an integer, steps taken: 1\n");
+    file = opened();
     print_report(file, tried.bytes, tried.length);
     printed(file, "0.0 1 1 0 0\n0.1 1 0 0 0\naccepted 2\n");
 }

@@ -1,6 +1,6 @@
 /* Plays recorded cases, as the program `recorded` of tests/generator writes them, from standard input, and prints a sum over all that
- * the library answers and leaves: numbers, verdicts and texts, moves, states, buffers, positions and searches. On two machines the same cases
- * print the same. */
+ * the library answers and leaves: numbers, verdicts and texts, moves, states, buffers, positions and searches. On two machines the
+ * same cases print the same. */
 #include <stdio.h>
 #include <stdlib.h>
 #include <string.h>
@@ -96,6 +96,8 @@ static void ask(void)
     for (number = 0; number <= UINT8_MAX; number++) {
         memset(text, 0, sizeof text);
         add(fir_question_text((uint8_t)number, text, sizeof text));
+        add_bytes(text, sizeof text);
+        add(fir_answer_text((uint8_t)number, text, sizeof text));
         add_bytes(text, sizeof text);
     }
 }

@@ -62,6 +62,7 @@ static void where(void)
 }
 
 static void question_text(void) { fir_question_text(FIR_REFUSED_BOUNDS, text, sizeof text); }
+static void answer_text(void) { fir_answer_text(FIR_STUCK, text, sizeof text); }
 
 /* Runs that are refused by 11, 19 where the entry is for the factory, 12 and 13, changes that are refused by 1 and by 15, and moves that are by 3 and by 17. */
 static void refusals(void)
@@ -110,7 +111,7 @@ int main(void)
                  {"fir_budget", budget}, {"fir_run", run}, {"fir_change", change}, {"fir_look", look},
                  {"fir_search", search}, {"fir_check_in", check_in}, {"fir_report_in", report_in}, {"fir_widen", widen},
                  {"fir_narrow", narrow}, {"fir_where", where}, {"fir_question_text", question_text},
-                 {"refusals", refusals}};
+                 {"fir_answer_text", answer_text}, {"refusals", refusals}};
     size_t least;
     size_t deepest[sizeof calls / sizeof *calls] = {0};
     size_t i, kind;

@@ -1,5 +1,5 @@
-/* Texts: the words of each question and the reports of images, with buffers that are long enough, exactly so, and one place
- * short; and that FIR_QUESTION_TEXT_BYTES and FIR_REPORT_BYTES are room for all of them. */
+/* Texts: the words of each question and of each answer, and the reports of images, with buffers that are long enough, exactly so, and one place
+ * short; and that FIR_QUESTION_TEXT_BYTES, FIR_ANSWER_TEXT_BYTES and FIR_REPORT_BYTES are room for all of them. */
 #include <stdio.h>
 #include <stdlib.h>
 
@@ -7,6 +7,7 @@
 
 enum {
     QUESTIONS = 20, /* 0, accepted, to 19 */
+    CODES = FIR_REFUSED + 1,
     NUMBERS = 256,
     MARGIN = 8,
     UNTOUCHED = 0xa5,
@@ -47,6 +48,16 @@ static size_t question_text(unsigned question, size_t places)
     return length;
 }
 
+/* The same of an answer's words. */
+static size_t answer_text(unsigned code, size_t places)
+{
+    size_t length;
+    memset(text, UNTOUCHED, sizeof text);
+    length = fir_answer_text((uint8_t)code, text + MARGIN, places);
+    stays(length);
+    return length;
+}
+
 /* The same of the report of the image. */
 static size_t report(size_t places)
 {
@@ -72,6 +83,31 @@ static void questions(void)
     }
     same("the length of 13", question_text(FIR_REFUSED_BUFFER, FIR_QUESTION_TEXT_BYTES), strlen(buffer));
     same("the words of 13", memcmp(text + MARGIN, buffer, strlen(buffer)) != 0, 0);
+}
+
+static void answers(void)
+{
+    static const char *const words[CODES] = {
+        "the run goes on",
+        "DONE with an integer",
+        "DONE with a vector",
+        "UNDEF: an operation has no result",
+        "DEEP: a 33rd activation is needed",
+        "VECTORS: a 65th vector is needed",
+        "PROMISES: a 65th promise is needed",
+        "stuck: the state is none of a run of this image",
+        "refused",
+    };
+    unsigned code;
+    for (code = 0; code < CODES; code++) {
+        const size_t length = strlen(words[code]);
+        same("the length of an answer's words", answer_text(code, FIR_ANSWER_TEXT_BYTES), length);
+        same("an answer's words", memcmp(text + MARGIN, words[code], length) != 0, 0);
+        same("the length with no place left", answer_text(code, length), length);
+        same("the length with a place too few", answer_text(code, length - 1), 0);
+    }
+    for (; code < NUMBERS; code++)
+        same("whether another number has words", answer_text(code, FIR_ANSWER_TEXT_BYTES), 0);
 }
 
 /* A version whose line is as long as any of its function: 16 registers assigned and 15 captured. Without literals it reads a
@@ -130,6 +166,7 @@ static void reports(void)
 int main(void)
 {
     questions();
+    answers();
     reports();
     printf("texts: %u passed\n", tests);
     return 0;

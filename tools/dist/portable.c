@@ -28,6 +28,7 @@ typedef struct wide_position {
 
 void fir_version_at(fir_versions *to);
 uint64_t fir_question_text_at(uint8_t question, const slice *text);
+uint64_t fir_answer_text_at(uint8_t code, const slice *text);
 uint64_t fir_state_size_at(void);
 uint64_t fir_state_alignment_at(void);
 void fir_check_at(wide_verdict *to, const slice *image);
@@ -75,6 +76,12 @@ size_t fir_question_text(uint8_t question, uint8_t *text, size_t text_length)
 {
     const slice there = lent(text, text_length);
     return (size_t)fir_question_text_at(question, &there);
+}
+
+size_t fir_answer_text(uint8_t code, uint8_t *text, size_t text_length)
+{
+    const slice there = lent(text, text_length);
+    return (size_t)fir_answer_text_at(code, &there);
 }
 
 size_t fir_state_size(void)

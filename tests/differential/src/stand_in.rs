@@ -6,7 +6,7 @@
 #![allow(unsafe_code)] // The library's functions are named and called as in C.
 
 use crate::snapshot::{state_of, untouched, EMPTY, FILLING, INTEGER, PROMISED, VECTOR};
-use crate::words::question_words;
+use crate::words::{answer_words, question_words};
 use library::State as Snapshot;
 use library::{
     FirAnswer, FirEntry, FirPosition, FirSaid, FirSearched, FirValue, FirVerdict, FirVersions,
@@ -184,6 +184,11 @@ extern "C" fn fir_version() -> FirVersions {
 #[no_mangle]
 unsafe extern "C" fn fir_question_text(question: u8, text: *mut u8, places: usize) -> usize {
     put_text(question_words(question), text, places)
+}
+
+#[no_mangle]
+unsafe extern "C" fn fir_answer_text(code: u8, text: *mut u8, places: usize) -> usize {
+    put_text(answer_words(code), text, places)
 }
 
 #[no_mangle]

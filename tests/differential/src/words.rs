@@ -1,8 +1,8 @@
-//! The words of the questions, beside those of the proved library.
+//! The words of the questions and of the answers, beside those of the proved library.
 
 /// What a refusal by each question says, by its number; what 0 says of an image that
 /// none refuses.
-const WORDS: [&str; 20] = [
+const QUESTIONS: [&str; 20] = [
     "accepted",
     "the image is empty or has more than 32768 bytes",
     "a record has no full head, a length below 4, or an end behind the image",
@@ -27,5 +27,23 @@ const WORDS: [&str; 20] = [
 
 /// What a refusal by a question says; nothing for a number that is no question's.
 pub fn question_words(question: u8) -> &'static str {
-    WORDS.get(usize::from(question)).copied().unwrap_or("")
+    QUESTIONS.get(usize::from(question)).copied().unwrap_or("")
+}
+
+/// What an answer of each code says, by its number.
+const ANSWERS: [&str; 9] = [
+    "the run goes on",
+    "DONE with an integer",
+    "DONE with a vector",
+    "UNDEF: an operation has no result",
+    "DEEP: a 33rd activation is needed",
+    "VECTORS: a 65th vector is needed",
+    "PROMISES: a 65th promise is needed",
+    "stuck: the state is none of a run of this image",
+    "refused",
+];
+
+/// What an answer of a code says; nothing for a number that is no code.
+pub fn answer_words(code: u8) -> &'static str {
+    ANSWERS.get(usize::from(code)).copied().unwrap_or("")
 }

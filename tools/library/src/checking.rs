@@ -1,4 +1,4 @@
-//! Checking images, and words for what refuses them.
+//! Checking images.
 
 #![allow(unsafe_code)] // The library is called across a C boundary.
 
@@ -18,14 +18,5 @@ pub fn report(image: &[u8], text: &mut [u8]) -> Option<usize> {
     // are written, and `&mut` lends these apart from those.
     let length =
         unsafe { raw::fir_report(image.as_ptr(), image.len(), text.as_mut_ptr(), text.len()) };
-    (length > 0).then_some(length)
-}
-
-/// Writes what a refusal by a question says from place 0 of a buffer on, and gives
-/// its length; none for a number that is no question's, and where the buffer is too
-/// short: it is left as it was.
-pub fn question_text(question: u8, text: &mut [u8]) -> Option<usize> {
-    // SAFETY: only places that `&mut` lends are written.
-    let length = unsafe { raw::fir_question_text(question, text.as_mut_ptr(), text.len()) };
     (length > 0).then_some(length)
 }

@@ -65,6 +65,8 @@ pub const FIR_REFUSED_ROOM: u8 = 17;
 
 /// Room for the words of every question.
 pub const FIR_QUESTION_TEXT_BYTES: usize = 128;
+/// Room for the words of every answer.
+pub const FIR_ANSWER_TEXT_BYTES: usize = 64;
 /// Room for every report.
 pub const FIR_REPORT_BYTES: usize = 1_100;
 

@@ -14,9 +14,10 @@ mod parts;
 mod raw;
 mod run;
 mod state;
+mod words;
 
 pub use answers::{Answer, At, End, Held, Position, Ran, Refusal, Said, Search, Verdict};
-pub use checking::{question_text, report, verdict};
+pub use checking::{report, verdict};
 pub use constants::*;
 pub use moving::{narrow, report_in, verdict_in, widen, Form};
 pub use parts::{Activation, Opener, Promise};
@@ -26,3 +27,4 @@ pub use raw::{
 };
 pub use run::{Entry, Run, FACTORY, PORTAL, STAFF};
 pub use state::{version, State, Versions, ACTIVATION, CELLS, OWNER, PROMISE};
+pub use words::{answer_text, question_text};

@@ -101,6 +101,7 @@ pub struct FirVersions {
 extern "C" {
     pub fn fir_version() -> FirVersions;
     pub fn fir_question_text(question: u8, text: *mut u8, text_length: usize) -> usize;
+    pub fn fir_answer_text(code: u8, text: *mut u8, text_length: usize) -> usize;
     pub fn fir_state_size() -> usize;
     pub fn fir_state_alignment() -> usize;
     pub fn fir_check(image: *const u8, image_length: usize) -> FirVerdict;

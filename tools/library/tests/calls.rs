@@ -1,10 +1,10 @@
 //! Each call of the proved library, on images whose answers are worked out by hand.
 
 use library::{
-    narrow, question_text, report, report_in, verdict, verdict_in, version, widen, Activation,
-    Answer, At, End, Entry, Form, Held, Opener, Position, Promise, Ran, Refusal, Run, Said, Search,
-    State, Verdict, Versions, CELLS, FACTORY, FIR_ITEMS, FIR_QUESTION_TEXT_BYTES, FIR_REGISTERS,
-    PORTAL, STAFF,
+    answer_text, narrow, question_text, report, report_in, verdict, verdict_in, version, widen,
+    Activation, Answer, At, End, Entry, Form, Held, Opener, Position, Promise, Ran, Refusal, Run,
+    Said, Search, State, Verdict, Versions, CELLS, FACTORY, FIR_ANSWER_TEXT_BYTES, FIR_ITEMS,
+    FIR_QUESTION_TEXT_BYTES, FIR_REGISTERS, PORTAL, STAFF,
 };
 
 /// The version that the runs enter.
@@ -91,6 +91,22 @@ fn each_question_has_words_and_no_other_number() {
     for number in 0..=u8::MAX {
         let length = question_text(number, &mut text);
         assert_eq!(length.is_some(), number <= 19, "{number}");
+    }
+}
+
+#[test]
+fn each_answer_has_words_and_no_other_number() {
+    let expected = b"UNDEF: an operation has no result";
+    let mut text = [7; FIR_ANSWER_TEXT_BYTES];
+    assert_eq!(answer_text(3, &mut text), Some(expected.len()));
+    assert_eq!(&text[..expected.len()], expected);
+    assert!(text[expected.len()..].iter().all(|&place| place == 7));
+    let mut short = vec![7; expected.len() - 1];
+    assert_eq!(answer_text(3, &mut short), None);
+    assert_eq!(short, vec![7; expected.len() - 1]);
+    for number in 0..=u8::MAX {
+        let length = answer_text(number, &mut text);
+        assert_eq!(length.is_some(), number <= 8, "{number}");
     }
 }
 

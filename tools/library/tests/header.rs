@@ -31,6 +31,7 @@ fn bounds_and_questions() -> Vec<(&'static str, usize)> {
         FIR_INTERFACE,
         FIR_STATE_LAYOUT,
         FIR_QUESTION_TEXT_BYTES,
+        FIR_ANSWER_TEXT_BYTES,
         FIR_REPORT_BYTES,
         FIR_IMAGE_BYTES,
         FIR_FUNCTIONS,
