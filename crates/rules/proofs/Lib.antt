@@ -9,3 +9,4 @@ pub mod Shapes
 pub mod Touches
 pub mod Walked
 pub mod Ways
+pub mod Judged

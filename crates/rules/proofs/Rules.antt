@@ -1,4 +1,4 @@
--- What the safety of a run rests on, of types and effects: one law for each rule.
+-- What the safety of a run rests on, of types and effects: the laws that are cited. Of every rule `Judged` has computed rows.
 use mathlib.Core.Path.{_≡_, refl}
 use mathlib.Core.Logic.{_⊎_, inl, inr}
 use mathlib.Core.Bool.{Bool, true, false, cond}

@@ -15,3 +15,5 @@ pub mod SixtyFour
 pub mod Longer
 pub mod Always
 pub mod Levels
+pub mod Singles
+pub mod Driven

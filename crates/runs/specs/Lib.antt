@@ -4,3 +4,5 @@ pub mod Searches
 pub mod Alike
 pub mod Wider
 pub mod Levels
+pub mod Singles
+pub mod Driven

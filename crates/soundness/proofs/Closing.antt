@@ -89,7 +89,7 @@ module _ (P : Program) (safe : StepSafe P) where
 
 module _ (f : Frame) (w : Whole f) where
   -- a register that holds a value is one of the frame's
-  register-holds : (r : ℕ) (v : Value) → register f r ≡ got v → (r < REGISTERS) × (cell f r ≡ v)
+  pub register-holds : (r : ℕ) (v : Value) → register f r ≡ got v → (r < REGISTERS) × (cell f r ≡ v)
   unfolding register _>>=_ at orStuck
   register-holds r v e = go (decLt r REGISTERS)
     where
@@ -98,7 +98,7 @@ module _ (f : Frame) (w : Whole f) where
       go (no h) = let q : stuck ≡ got v = rw (get-none (f .registers) r (omega (arith, w .registers))) at e in let z : _≡_ {A = ℕ} 0 1 = cc in absurd (omega arith)
 
   -- and so with names
-  name-holds : (x : ℕ) (v : Value) → named f x ≡ got v → cell f (REGISTERS + x) ≡ v
+  pub name-holds : (x : ℕ) (v : Value) → named f x ≡ got v → cell f (REGISTERS + x) ≡ v
   unfolding named _>>=_ at orStuck
   name-holds x v e = go (decLt x NAMES)
     where
@@ -132,7 +132,7 @@ empty-is (Value.Promise p) e = absurd (false≢true (sym e))
 
 module _ (P : Program) (sure : Sure P) (s : State) (inv : Inv P s) where
   -- a value that fits is of its type
-  of-type : (k t : ℕ) (v : Value) → k < s .calls → Fits P (inv .keep) (s .frames) (s .promises) k t v → OfType P s t v
+  pub of-type : (k t : ℕ) (v : Value) → k < s .calls → Fits P (inv .keep) (s .frames) (s .promises) k t v → OfType P s t v
   of-type k t v h fit = go (isFull v) refl
     where
       go : (b : Bool) → isFull v ≡ b → OfType P s t v
@@ -141,7 +141,7 @@ module _ (P : Program) (sure : Sure P) (s : State) (inv : Inv P s) where
 
   module _ (k : ℕ) (f : Frame) (live : Live s k f) where
     -- its number is below the count
-    is-live : k < s .calls
+    pub is-live : k < s .calls
     is-live = live-frame s k f live .0
 
     -- its frame stands at its place
@@ -149,7 +149,7 @@ module _ (P : Program) (sure : Sure P) (s : State) (inv : Inv P s) where
     frame-at = live-frame s k f live .1
 
     -- with all its registers and names
-    live-whole : Whole f
+    pub live-whole : Whole f
     live-whole = subst Whole frame-at (inv .heap .sized .whole k (omega (arith, is-live, inv .heap .bound)))
 
     -- its version is one of the program
@@ -158,7 +158,7 @@ module _ (P : Program) (sure : Sure P) (s : State) (inv : Inv P s) where
     live-known = ap (λ (g : Frame). findVersion P (g .function) (g .version)) (sym frame-at) ∙ inv .heap .known k is-live
 
     -- its cells are those at its place
-    cell-at : (c : ℕ) → cell f c ≡ cellAt (s .frames) k c
+    pub cell-at : (c : ℕ) → cell f c ≡ cellAt (s .frames) k c
     unfolding cellAt
     cell-at c = ap (λ (g : Frame). cell g c) (sym frame-at)
 

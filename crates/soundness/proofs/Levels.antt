@@ -39,7 +39,7 @@ unfolding Alike
 same-level v w e = ap (λ (u : Version). u .level) e
 
 -- the frame of a live call
-live-of : (s : State) (k f w : ℕ) → callAt s k ≡ some (f, w) → (g : Frame) × Live s k g × (g .function ≡ f) × (g .version ≡ w)
+pub live-of : (s : State) (k f w : ℕ) → callAt s k ≡ some (f, w) → (g : Frame) × Live s k g × (g .function ≡ f) × (g .version ≡ w)
 unfolding callAt numbers
 live-of s k f w e = go (getElem? (liveFrames s) k) refl e
   where

@@ -35,3 +35,5 @@ pub mod Histories
 pub mod Results
 pub mod Demand
 pub mod Levels
+pub mod Staying
+pub mod Inside

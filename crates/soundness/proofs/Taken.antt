@@ -97,7 +97,7 @@ taken-passed old new s h = verdicts (verdictOf new) refl h
 
 -- ---- the live versions are alike
 
-frame-live : (s : State) → Sized (s .frames) → s .calls ≤ ACTIVATIONS → (k : ℕ) → k < s .calls → getElem? (liveFrames s) k ≡ some (frameAt (s .frames) k)
+pub frame-live : (s : State) → Sized (s .frames) → s .calls ≤ ACTIVATIONS → (k : ℕ) → k < s .calls → getElem? (liveFrames s) k ≡ some (frameAt (s .frames) k)
 unfolding liveFrames frameAt
 frame-live s sz b k h = get-take (s .frames) (s .calls) k h ∙ get-some (s .frames) k noFrame (omega (arith, sz .frames))
 

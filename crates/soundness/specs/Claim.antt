@@ -128,7 +128,7 @@ pub record Safe (h : List Run) (now : Run) : Type 0 where
   -- and in no other register, except borrowed ones of calls above it.
   pub owned : (k r v : ℕ) → Owns (programIn now) (now .state) k r v → (k′ r′ : ℕ) (f′ : Frame) → Live (now .state) k′ f′ → register f′ r′ ≡ got (Value.Vector v) → ((k′ ≡ k) × (r′ ≡ r)) ⊎ ((k < k′) × Borrows (programIn now) f′ r′)
   -- Between the entry and the end of a call of mark 0, or up to now, no reflective read or write took place:
-  -- where one was tried, no call that was live then is quiet, judged under the image in force at that step; `Stay` says that this is the version entered.
+  -- where one was tried, no call that was live then is quiet, judged under the image in force at that step; `StayLong` says that this is the version entered.
   pub quiet : (b : Run) → List·Memᴰ b h → reflective (programIn b) (b .state) ≡ true → (k : ℕ) (f : Frame) → Live (b .state) k f → isQuiet (entered (programIn b) f) ≡ false
 
 -- the run that begin gives, under its image

@@ -3,3 +3,4 @@ pub mod LastCall
 pub mod Results
 pub mod Stay
 pub mod Levels
+pub mod Inside
