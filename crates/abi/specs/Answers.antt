@@ -6,6 +6,7 @@ use lib.Dec.{eqb}
 use lib.IntN.{pos}
 use Rattle.layout.specs.declared.Form.{Form}
 use Rattle.checker.specs.declared.Verdict.{Verdict}
+use Rattle.joins.specs.declared.Joined.{Joined}
 use Rattle.machine.specs.declared.Answer.{Answer}
 use Rattle.machine.specs.declared.Changed.{Changed}
 use Rattle.machine.specs.declared.Entry.{Entry}
@@ -16,6 +17,7 @@ use Rattle.snapshots.specs.Held.{endingOf}
 use Rattle.whereabouts.specs.declared.Where.{Where}
 use Rattle.abi.specs.declared.answers.FirAnswer.{FirAnswer}
 use Rattle.abi.specs.declared.answers.FirEntry.{FirEntry}
+use Rattle.abi.specs.declared.answers.FirJoined.{FirJoined}
 use Rattle.abi.specs.declared.answers.FirSaid.{FirSaid}
 use Rattle.abi.specs.declared.answers.FirSearched.{FirSearched}
 use Rattle.abi.specs.declared.answers.FirVerdict.{FirVerdict}
@@ -31,6 +33,13 @@ verdictNumbers (Verdict.Refused q p) = record { detail = p; question = q }
 unfoldable pub movedNumbers : Moving → FirVerdict
 movedNumbers (Moving.Written n) = record { detail = n; question = 0 }
 movedNumbers (Moving.Refused q p) = record { detail = p; question = q }
+
+-- a join: the length of the joined image, or the offset and the number of a refusal, and the image that it refuses: 1 the first, 2 the second, 0 neither
+unfoldable pub joinedNumbers : Joined → FirJoined
+joinedNumbers (Joined.Written n) = record { detail = n; question = 0; image = 0 }
+joinedNumbers (Joined.First q p) = record { detail = p; question = q; image = 1 }
+joinedNumbers (Joined.Second q p) = record { detail = p; question = q; image = 2 }
+joinedNumbers (Joined.Together q p) = record { detail = p; question = q; image = 0 }
 
 -- the form that a number names: 1 that of 32 bits, any other that of 64
 unfoldable pub formOf : ℕ → Form

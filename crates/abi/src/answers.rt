@@ -1,9 +1,10 @@
 //! Answers as numbers, in the layout of C.
 ghost use mathlib.Core.Path.{_≡_};
-ghost use Rattle.abi.specs.Answers.{answerNumbers, changedNumbers, entryNumbers, formOf, movedNumbers, plainNumbers, saidNumbers, searchNumbers, verdictNumbers, versionNumbers, whereNumbers};
+ghost use Rattle.abi.specs.Answers.{answerNumbers, changedNumbers, entryNumbers, formOf, joinedNumbers, movedNumbers, plainNumbers, saidNumbers, searchNumbers, verdictNumbers, versionNumbers, whereNumbers};
 ghost use Rattle.abi.specs.Looks.{noPlace, valueNumbers};
 ghost use Rattle.engine.specs.Parts.{saidOf};
 use checker::Verdict;
+use joins::Joined;
 use layout::Form;
 use machine::Answer;
 use machine::Changed;
@@ -18,6 +19,14 @@ use whereabouts::Where;
 pub struct FirVerdict {
     pub detail: usize,
     pub question: u8,
+}
+
+/// What becomes of a join: 0 and the length of the joined image, or the question that refuses, the offset, and the image that it refuses: 1 the first, 2 the second, 0 neither.
+#[repr(C)]
+pub struct FirJoined {
+    pub detail: usize,
+    pub question: u8,
+    pub image: u8,
 }
 
 /// Whether a run has begun, or goes on under a new image: 0, or the question that refuses it and the offset.
@@ -108,6 +117,34 @@ pub fn moved(moving: Moving) -> FirVerdict
         Moving::Refused(q, p) => FirVerdict {
             detail: p,
             question: q,
+        },
+    }
+}
+
+/// What becomes of a join, in numbers.
+pub fn joined(joined: Joined) -> FirJoined
+    ensures { λ r. ⌜ r ≡ joinedNumbers joined ⌝ }
+{
+    match joined {
+        Joined::Written(n) => FirJoined {
+            detail: n,
+            question: 0,
+            image: 0,
+        },
+        Joined::First(q, p) => FirJoined {
+            detail: p,
+            question: q,
+            image: 1,
+        },
+        Joined::Second(q, p) => FirJoined {
+            detail: p,
+            question: q,
+            image: 2,
+        },
+        Joined::Together(q, p) => FirJoined {
+            detail: p,
+            question: q,
+            image: 0,
         },
     }
 }

@@ -9,15 +9,17 @@ ghost use Rattle.machine.specs.Begin.{beginOf, programOf, runOf};
 ghost use Rattle.machine.specs.Changes.{changeOf};
 ghost use Rattle.machine.specs.Runs.{budgetOf, stepOf};
 ghost use Rattle.machine.specs.Searches.{searchOf};
+ghost use Rattle.joins.specs.Joins.{joinOf, joinedBuffer};
 ghost use Rattle.moves.specs.Moves.{bufferAfter, moveOf};
 ghost use Rattle.snapshots.specs.Held.{held};
 ghost use Rattle.whereabouts.specs.Where.{whereOf};
 ghost use Rattle.words.specs.Words.{answerText, questionText, writtenOf};
-ghost use Rattle.abi.specs.Answers.{changedNumbers, entryNumbers, formOf, movedNumbers, saidNumbers, searchNumbers, stateAlignment, stateSize, verdictNumbers, versionNumbers, whereNumbers};
+ghost use Rattle.abi.specs.Answers.{changedNumbers, entryNumbers, formOf, joinedNumbers, movedNumbers, saidNumbers, searchNumbers, stateAlignment, stateSize, verdictNumbers, versionNumbers, whereNumbers};
 ghost use Rattle.abi.specs.Exits.{Answers, Began};
 ghost use Rattle.abi.specs.Looks.{lookOf};
 use answers::FirAnswer;
 use answers::FirEntry;
+use answers::FirJoined;
 use answers::FirSaid;
 use answers::FirSearched;
 use answers::FirValue;
@@ -128,6 +130,15 @@ pub extern "C" fn fir_narrow(image: &[u8], out: &mut [u8]) -> FirVerdict
     ensures { λ r. ⌜ (r ≡ movedNumbers (moveOf Form.Wide (now (image .entry)) (length (now (out .entry))))) × (now (out .exit) ≡ bufferAfter Form.Wide (now (image .entry)) (now (out .entry))) ⌝ }
 {
     answers::moved(moves::narrow(image, out))
+}
+
+/// Joins two images, the first before the second, whose functions follow the first's: 0 and the length of the joined image, which the
+/// buffer has from the place 0 on, or the question that refuses, the offset and the image that it refuses. A refusal writes nothing.
+#[no_mangle]
+pub extern "C" fn fir_join(first: &[u8], second: &[u8], out: &mut [u8]) -> FirJoined
+    ensures { λ r. ⌜ (r ≡ joinedNumbers (joinOf (now (first .entry)) (now (second .entry)) (length (now (out .entry))))) × (now (out .exit) ≡ joinedBuffer (now (first .entry)) (now (second .entry)) (now (out .entry))) ⌝ }
+{
+    answers::joined(joins::join(first, second, out))
 }
 
 /// Begins a run, at a level, of a version of a function: its first state is written. A refusal writes nothing. The buffer is asked

@@ -5,3 +5,4 @@ pub mod Rows
 pub mod Turns
 pub mod Walk
 pub mod Printed
+pub mod Behind

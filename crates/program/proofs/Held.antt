@@ -63,6 +63,34 @@ module _ (q : Question) (v : Version) where
       let b = blocks 0 (v .blocks) more (p .1) in
       (record { ofVersion = p .0; ofBlock = λ n x h. (rw zero-add at (b .0 n x h)) .0; ofInstr = λ n x i l h g. (rw zero-add at (b .0 n x h)) .1 i l g }, b .1)
 
+  -- and back
+  lines-back : (n : ℕ) (ls : List Line) (k : Found) → Code n ls → firstLine q v n ls k ≡ k
+  unfolding firstLine
+  lines-back n [] k c = refl
+  lines-back n (x ∷ ls) k c = rw (c 0 x refl) (lines-back n ls k (λ i. c (suc i)))
+
+  blocks-back : (n : ℕ) (bs : List Block) (k : Found) → ((i : ℕ) (b : Block) → getElem? bs i ≡ some b → Whole (n + i) b) → firstBlock q v n bs k ≡ k
+  unfolding firstBlock
+  blocks-back n [] k c = refl
+  blocks-back n (x ∷ bs) k c =
+      let w = rw add-zero at (c 0 x refl) in
+      rw (w .0) (lines-back n (x .code) _ (w .1) ∙ blocks-back (n + 1) bs k (λ i b h. let m : n + 1 + i ≡ n + suc i = omega arith in rw m (c (suc i) b h)))
+
+-- what a question found of every version of a list
+unfoldable pub Helds : Question → Program → Type 0
+Helds q [] = Unit {0}
+Helds q (v ∷ vs) = Held q v × Helds q vs
+
+pub helds : (q : Question) (P : Program) → first q P ≡ Nothing → Helds q P
+unfolding first Helds
+helds q [] e = tt
+helds q (v ∷ vs) e = let h = held q v (first q vs) e in (h .0, helds q vs (h .1))
+
+pub helds-back : (q : Question) (P : Program) → Helds q P → first q P ≡ Nothing
+unfolding first Helds
+helds-back q [] h = refl
+helds-back q (v ∷ vs) h = rw (h .0 .ofVersion) (blocks-back q v 0 (v .blocks) _ (λ i b e. rw zero-add (h .0 .ofBlock i b e, λ j l g. h .0 .ofInstr i b j l e g)) ∙ helds-back q vs (h .1))
+
 -- a question that found nothing to refuse holds of every version
 pub holds : (q : Question) (P : Program) → first q P ≡ Nothing → (f w : ℕ) (v : Version) → findVersion P f w ≡ some v → Held q v
 unfolding first findVersion

@@ -8,3 +8,4 @@ pub mod Lookups
 pub mod Passes
 pub mod Tables
 pub mod Views
+pub mod Programs

@@ -129,6 +129,12 @@ slice-aggregate-say-20 c = search needs
 say-requires-20 : tie.Need-say-requires-20
 say-requires-20 c κs = search needs
 
+slice-aggregate-say-21 : tie.Need-slice-aggregate-say-21
+slice-aggregate-say-21 c = search needs
+
+say-requires-21 : tie.Need-say-requires-21
+say-requires-21 c κs = search needs
+
 same-length : tie.Need-same-length
 same-length c = search needs
 
@@ -289,11 +295,20 @@ unfolding questionText choose text
 returns-20 c =
     rw ((c .before .before .before .before .before .match) .keys20) ((c .before .before .say20) .ensures)
 
+same-length-21 : tie.Need-same-length-21
+same-length-21 c = search needs
+
 returns-21 : tie.Need-returns-21
-unfolding questionText
+unfolding questionText choose text
 returns-21 c =
+    rw ((c .before .before .before .before .before .match) .keys21) ((c .before .before .say21) .ensures)
+
+returns-22 : tie.Need-returns-22
+unfolding questionText
+returns-22 c =
     let q = (c .before .before) .args .question in
-    nothing (questionText q) _ (next-row q [] _ _ ((c .match) .rest .0 .0 .0 .0 .0 .0 .0 .0 .0 .0 .0 .0 .0 .0 .0 .0 .0 .0 .0 .1)
+    nothing (questionText q) _ (next-row q [] _ _ ((c .match) .rest .0 .0 .0 .0 .0 .0 .0 .0 .0 .0 .0 .0 .0 .0 .0 .0 .0 .0 .0 .0 .1)
+    ∙ next-row q [] _ _ ((c .match) .rest .0 .0 .0 .0 .0 .0 .0 .0 .0 .0 .0 .0 .0 .0 .0 .0 .0 .0 .0 .1)
     ∙ next-row q [] _ _ ((c .match) .rest .0 .0 .0 .0 .0 .0 .0 .0 .0 .0 .0 .0 .0 .0 .0 .0 .0 .0 .1)
     ∙ next-row q [] _ _ ((c .match) .rest .0 .0 .0 .0 .0 .0 .0 .0 .0 .0 .0 .0 .0 .0 .0 .0 .0 .1)
     ∙ next-row q [] _ _ ((c .match) .rest .0 .0 .0 .0 .0 .0 .0 .0 .0 .0 .0 .0 .0 .0 .0 .0 .1)
@@ -359,6 +374,8 @@ question-text-spec =
     say-requires-19
     slice-aggregate-say-20
     say-requires-20
+    slice-aggregate-say-21
+    say-requires-21
     same-length
     returns
     same-length-2
@@ -399,4 +416,6 @@ question-text-spec =
     returns-19
     same-length-20
     returns-20
-    returns-21)
+    same-length-21
+    returns-21
+    returns-22)

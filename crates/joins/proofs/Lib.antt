@@ -1,0 +1,13 @@
+pub mod Both
+pub mod Frames
+pub mod Steps
+pub mod Runs
+pub mod Questions
+pub mod Raised
+pub mod Ordered
+pub mod Together
+pub mod Joining
+pub mod Parts
+pub mod Named
+pub mod Answers
+pub mod Samples

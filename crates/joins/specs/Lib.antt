@@ -1,0 +1,5 @@
+pub mod Shifted
+pub mod Joins
+pub mod Alongside
+pub mod Claims
+pub mod Parts
