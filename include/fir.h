@@ -9,7 +9,8 @@
  *   - A pointer with a length points to that many elements, aligned for their type; where the length is 0 it need not
  *     point to anything, but it is not NULL.
  *   - A pointer to a fir_state points to one, aligned as fir_state_alignment says. Its content may be anything.
- *   - What a call writes (a state, a text, a result buffer, a moved image) overlaps nothing else that the call is lent.
+ *   - What a call writes (a state, a text, a result buffer, a moved or joined image) overlaps nothing else that the call is
+ *     lent.
  *   - Until the call returns, nobody else writes what is lent, and nobody else reads what the call writes.
  *   - A step, a budget, fir_search, fir_where and, as its old image, fir_change are lent the image in force: the one that the
  *     run was begun with, or the last one that fir_change accepted for it. The caller keeps it, byte for byte, until another
@@ -140,6 +141,7 @@ fir_versions fir_version(void);
 #define FIR_REFUSED_CHANGE 15    /* every version with a live call has the same bytes and number in both images */
 #define FIR_REFUSED_LITERAL 16   /* every literal of an image that is moved fits 32 bits */
 #define FIR_REFUSED_ROOM 17      /* the moved image has at most 32,768 bytes and fits the buffer */
+#define FIR_REFUSED_JOIN 23      /* the joined image has at most 32,768 bytes, 32 functions and 64 versions and fits the buffer */
 
 #define FIR_QUESTION_TEXT_BYTES 128 /* room for the words of every question */
 
@@ -347,6 +349,64 @@ size_t fir_report_in(const uint8_t *image, size_t image_length, uint8_t form, ui
  * the moved image stay. */
 fir_verdict fir_widen(const uint8_t *image, size_t image_length, uint8_t *out, size_t out_length);
 fir_verdict fir_narrow(const uint8_t *image, size_t image_length, uint8_t *out, size_t out_length);
+
+/* ---- Two images into one ---- */
+
+#define FIR_FIRST_IMAGE 1  /* the first image is refused */
+#define FIR_SECOND_IMAGE 2 /* the second image is refused */
+
+/* What joining two images comes to: FIR_ACCEPTED and the length of the joined image, or the question that refuses. */
+typedef struct fir_joined {
+    size_t detail;    /* the length of the joined image, or the offset of the refusal */
+    uint8_t question; /* FIR_ACCEPTED, or the question that refuses */
+    uint8_t image;    /* FIR_FIRST_IMAGE or FIR_SECOND_IMAGE where that image is refused by its own questions; 0 with
+                       * FIR_ACCEPTED and FIR_REFUSED_JOIN */
+} fir_joined;
+
+/* Joins two images, so that one box runs what two offices wrote. The joined image is the first one, byte for byte, and behind
+ * it the second, whose functions are renumbered to follow those of the first: where the first has the functions 0 to k - 1,
+ * function f of the second has the number k + f. Changed are the function bytes of the second's VERSION, CALL and DISPATCH
+ * records, and nothing else. It stands in the buffer from place 0 on, and `detail` is its length, that of both together.
+ *
+ * The joined image is accepted. Each entry of the first under its own number, and each of the second under its new one, at
+ * every level, with every argument list, budget and buffer, is refused or begins as it does alone, and then gives the same
+ * answers after as many steps; its state is the same but for the function numbers of live calls. Functions behind those of
+ * both are refused by 11. How many functions an image has is the function of its last version plus 1; the example counts
+ * them.
+ *
+ * Each image is put to its own questions, 1 to 10, 14 and 18, the first image before the second; `image` says which one is
+ * refused, and `detail` is an offset in it. Then 23, at 0, which names neither image: the joined image would have more than
+ * FIR_IMAGE_BYTES bytes, FIR_FUNCTIONS functions or 64 versions, or more bytes than the buffer has places. A buffer of
+ * FIR_IMAGE_BYTES is long enough for every joined image. A refusal writes nothing; places of the buffer past the joined image
+ * stay. The buffer overlaps neither image; an image may be joined with itself, and a joined image with a third.
+ *
+ * Example:
+ *
+ *     static size_t join_or_say_why(FILE *to, const uint8_t *first, size_t first_length, const uint8_t *second,
+ *                                   size_t second_length, uint8_t *out)
+ *     {
+ *         static const char *const refused[] = {"the two together", "the first image", "the second image"};
+ *         fir_joined joined = fir_join(first, first_length, second, second_length, out, FIR_IMAGE_BYTES);
+ *         if (joined.question == FIR_ACCEPTED)
+ *             return joined.detail;
+ *         fprintf(to, "%s: ", refused[joined.image]);
+ *         say_refusal(to, joined.question, joined.detail);
+ *         return 0;
+ *     }
+ *
+ *     static size_t functions_of_accepted(const uint8_t *image, size_t image_length)
+ *     {
+ *         size_t at = 0, functions = 0;
+ *         while (at < image_length) {
+ *             if (image[at + 2] == 1)
+ *                 functions = (size_t)image[at + 4] + 1;
+ *             at += (size_t)image[at] + 256 * (size_t)image[at + 1];
+ *         }
+ *         return functions;
+ *     }
+ */
+fir_joined fir_join(const uint8_t *first, size_t first_length, const uint8_t *second, size_t second_length, uint8_t *out,
+                    size_t out_length);
 
 /* ---- Running ---- */
 

@@ -35,6 +35,7 @@ static void where(void) { seen += fir_where(tried->bytes, tried->length, midway)
 static void question_text(void) { seen += fir_question_text(FIR_REFUSED_BOUNDS, text, sizeof text); }
 static void answer_text(void) { seen += fir_answer_text(FIR_STUCK, text, sizeof text); }
 static void narrow(void) { seen += fir_narrow(tried->bytes, tried->length, out, sizeof out).detail; }
+static void join(void) { seen += fir_join(tried->bytes, tried->length, tried->bytes, tried->length, out, sizeof out).detail; }
 static void widen(void) { seen += fir_widen(narrow_tried->bytes, narrow_tried->length, out, sizeof out).detail; }
 
 static void begin(void)
@@ -131,7 +132,8 @@ int main(void)
         void (*besides)(void);
     } calls[] = {{"fir_check", check, nothing}, {"fir_report", report, nothing}, {"fir_begin", begin, nothing},
                  {"fir_run, 1 step", run, nothing}, {"fir_change", change, nothing}, {"fir_widen", widen, nothing},
-                 {"fir_narrow", narrow, nothing}, {"fir_step", step, bring_back}, {"fir_budget, 1 step", budget, bring_back},
+                 {"fir_narrow", narrow, nothing}, {"fir_join, with itself", join, nothing}, {"fir_step", step, bring_back},
+                 {"fir_budget, 1 step", budget, bring_back},
                  {"fir_where", where, nothing}, {"fir_search", search, nothing}, {"fir_look", look, nothing},
                  {"fir_question_text", question_text, nothing}, {"fir_answer_text", answer_text, nothing}};
     size_t i, k;
@@ -142,7 +144,7 @@ int main(void)
     printf("costs: microseconds of a call, with an image of %lu bytes and with one of %lu\n", (unsigned long)images[0].length,
            (unsigned long)images[1].length);
     for (i = 0; i < sizeof calls / sizeof *calls; i++) {
-        printf("costs: %-18s", calls[i].name);
+        printf("costs: %-22s", calls[i].name);
         for (k = 0; k < IMAGES; k++) {
             tried = &images[k];
             narrow_tried = &narrow_images[k];

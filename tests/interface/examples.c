@@ -138,6 +138,28 @@ static void positions(void)
                   "nowhere\n");
 }
 
+/* Two images joined, their functions counted, and the words where the second is refused or the two are too much. */
+static void joining(void)
+{
+    static uint8_t out[FIR_IMAGE_BYTES];
+    static image other;
+    FILE *file = opened();
+    size_t length;
+    calling(&tried, FIR_PORTAL, FIR_PORTAL);
+    leveled(&other);
+    length = join_or_say_why(file, tried.bytes, tried.length, other.bytes, other.length, out);
+    same("the joined length", length, tried.length + other.length);
+    same("the first image's functions", functions_of_accepted(tried.bytes, tried.length), 1);
+    same("the joined image's functions", functions_of_accepted(out, length), 3);
+    calling(&other, FIR_PORTAL, FIR_STAFF);
+    same("a refused length", join_or_say_why(file, tried.bytes, tried.length, other.bytes, other.length, out), 0);
+    chain(&other, FIR_FUNCTIONS);
+    same("a refused length", join_or_say_why(file, tried.bytes, tried.length, other.bytes, other.length, out), 0);
+    printed(file, "the second image: refused by 18 at 23: a CALL goes to a version of a higher level\n"
+                  "the two together: refused by 23 at 0: the joined image would break a bound of the layout, or does not fit "
+                  "the buffer\n");
+}
+
 int main(void)
 {
     same("whether the library is the header's", (size_t)library_is_the_headers(), 1);
@@ -146,6 +168,7 @@ int main(void)
     stepped();
     without_words();
     positions();
+    joining();
     printf("examples: %u passed\n", tests);
     return 0;
 }

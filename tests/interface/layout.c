@@ -78,6 +78,10 @@ int main(void)
     AT(fir_state, value, 17032);
     same("sizeof fir_verdict", sizeof(fir_verdict), 2 * size);
     AT(fir_verdict, question, size);
+    same("sizeof fir_joined", sizeof(fir_joined), 2 * size);
+    AT(fir_joined, detail, 0);
+    AT(fir_joined, question, size);
+    AT(fir_joined, image, size + 1);
     same("sizeof fir_entry", sizeof(fir_entry), 4);
     AT(fir_entry, question, 2);
     same("sizeof fir_said", sizeof(fir_said), 16);

@@ -1,5 +1,5 @@
 /* Plays recorded cases, as the program `recorded` of tests/generator writes them, from standard input, and prints a sum over all that
- * the library answers and leaves: numbers, verdicts and texts, moves, states, buffers, positions and searches. On two machines the
+ * the library answers and leaves: numbers, verdicts and texts, moves, images joined, states, buffers, positions and searches. On two machines the
  * same cases print the same. */
 #include <stdio.h>
 #include <stdlib.h>
@@ -125,6 +125,17 @@ static void judge(const image *image)
     }
 }
 
+/* The image joined with itself. */
+static void join(const image *image)
+{
+    fir_joined joined;
+    memset(out, 0, sizeof out);
+    joined = fir_join(image->bytes, image->length, image->bytes, image->length, out, sizeof out);
+    add(joined.question * 256u + joined.image);
+    add(joined.detail);
+    add_bytes(out, sizeof out);
+}
+
 /* What can be asked of the state. */
 static void look(const image *image)
 {
@@ -199,6 +210,7 @@ static void play(uint64_t length)
     for (i = 0; i < count; i++)
         words[i] = (int64_t)number();
     judge(in_force);
+    join(in_force);
     memset(&state, 0, sizeof state);
     memset(buffer, 0, sizeof buffer);
     entry = fir_begin(in_force->bytes, in_force->length, (size_t)level, (size_t)function, (size_t)version, words, (size_t)count,

@@ -22,6 +22,7 @@ static const int64_t words[] = {-1, 40};
 static uint8_t text[1u << 16];
 static image stored; /* in the form of 32 bits, which has 32,768 bytes in that of 64 */
 static image current; /* the same in the form of 64 bits */
+static image half; /* of which two have 32,768 bytes and 64 versions */
 static uint8_t out[FIR_IMAGE_BYTES];
 
 static void nothing(void) { }
@@ -47,6 +48,12 @@ static void narrow(void)
     fir_narrow(tried.bytes, tried.length, out, sizeof out);
 }
 
+static void join(void)
+{
+    fir_join(half.bytes, half.length, half.bytes, half.length, out, sizeof out);
+    fir_join(searched.bytes, searched.length, tried.bytes, tried.length, out, sizeof out);
+}
+
 static void look(void) { fir_look(&state, 0, 3); }
 
 static void search(void)
@@ -64,7 +71,8 @@ static void where(void)
 static void question_text(void) { fir_question_text(FIR_REFUSED_BOUNDS, text, sizeof text); }
 static void answer_text(void) { fir_answer_text(FIR_STUCK, text, sizeof text); }
 
-/* Runs that are refused by 11, 19 where the entry is for the factory, 12 and 13, changes that are refused by 1 and by 15, and moves that are by 3 and by 17. */
+/* Runs that are refused by 11, 19 where the entry is for the factory, 12 and 13, changes that are refused by 1 and by 15, moves that are by 3 and by 17, and
+ * images that are not joined, by the first, the second and 23. */
 static void refusals(void)
 {
     fir_begin(tried.bytes, tried.length, FIR_FACTORY, 31, 3, words, 2, buffer, FIR_ITEMS, &state);
@@ -76,6 +84,9 @@ static void refusals(void)
     fir_change(tried.bytes, 0, tried.bytes, tried.length, &midway);
     fir_widen(current.bytes, current.length, out, sizeof out);
     fir_widen(stored.bytes, stored.length, out, sizeof out - 1);
+    fir_join(stored.bytes, stored.length, tried.bytes, tried.length, out, sizeof out);
+    fir_join(tried.bytes, tried.length, stored.bytes, stored.length, out, sizeof out);
+    fir_join(half.bytes, half.length, half.bytes, half.length, out, sizeof out - 1);
 }
 
 static void *call(void *function)
@@ -110,7 +121,7 @@ int main(void)
     } calls[] = {{"fir_check", check}, {"fir_report", report}, {"fir_begin", begin}, {"fir_step", step},
                  {"fir_budget", budget}, {"fir_run", run}, {"fir_change", change}, {"fir_look", look},
                  {"fir_search", search}, {"fir_check_in", check_in}, {"fir_report_in", report_in}, {"fir_widen", widen},
-                 {"fir_narrow", narrow}, {"fir_where", where}, {"fir_question_text", question_text},
+                 {"fir_narrow", narrow}, {"fir_join", join}, {"fir_where", where}, {"fir_question_text", question_text},
                  {"fir_answer_text", answer_text}, {"refusals", refusals}};
     size_t least;
     size_t deepest[sizeof calls / sizeof *calls] = {0};
@@ -122,6 +133,11 @@ int main(void)
     literals(&current, FIR_FORM_64, 64, 37);
     if (fir_widen(stored.bytes, stored.length, out, sizeof out).question != FIR_ACCEPTED) {
         printf("stack: the stored image is refused\n");
+        return 1;
+    }
+    literals(&half, FIR_FORM_64, 32, 37);
+    if (fir_join(half.bytes, half.length, half.bytes, half.length, out, sizeof out).detail != sizeof out) {
+        printf("stack: the largest pair is refused\n");
         return 1;
     }
     searching(&searched, FIR_VERSIONS, FIR_VERSIONS);

@@ -11,11 +11,17 @@ typedef struct slice {
     uint64_t length;
 } slice;
 
-/* A fir_verdict and a fir_position with sizes of 64 bits. */
+/* A fir_verdict, a fir_joined and a fir_position with sizes of 64 bits. */
 typedef struct wide_verdict {
     uint64_t detail;
     uint8_t question;
 } wide_verdict;
+
+typedef struct wide_joined {
+    uint64_t detail;
+    uint8_t question;
+    uint8_t image;
+} wide_joined;
 
 typedef struct wide_position {
     uint64_t offset;
@@ -37,6 +43,7 @@ void fir_check_in_at(wide_verdict *to, const slice *image, uint8_t form);
 uint64_t fir_report_in_at(const slice *image, uint8_t form, const slice *text);
 void fir_widen_at(wide_verdict *to, const slice *image, const slice *out);
 void fir_narrow_at(wide_verdict *to, const slice *image, const slice *out);
+void fir_join_at(wide_joined *to, const slice *first, const slice *second, const slice *out);
 void fir_begin_at(fir_entry *to, const slice *image, uint64_t level, uint64_t function, uint64_t version, const slice *words,
                   const slice *buffer, fir_state *state);
 void fir_step_at(fir_said *to, const slice *image, fir_state *state);
@@ -140,6 +147,21 @@ fir_verdict fir_narrow(const uint8_t *image, size_t image_length, uint8_t *out, 
     wide_verdict to;
     fir_narrow_at(&to, &bytes, &there);
     return verdict(to);
+}
+
+fir_joined fir_join(const uint8_t *first, size_t first_length, const uint8_t *second, size_t second_length, uint8_t *out,
+                    size_t out_length)
+{
+    const slice before = lent(first, first_length);
+    const slice behind = lent(second, second_length);
+    const slice there = lent(out, out_length);
+    wide_joined wide;
+    fir_joined to;
+    fir_join_at(&wide, &before, &behind, &there);
+    to.detail = (size_t)wide.detail;
+    to.question = wide.question;
+    to.image = wide.image;
+    return to;
 }
 
 fir_entry fir_begin(const uint8_t *image, size_t image_length, size_t level, size_t function, size_t version,

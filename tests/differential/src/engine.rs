@@ -3,7 +3,7 @@
 use crate::snapshot::untouched;
 use library::{At, Entry, Ran, Run};
 use reference::bounds::Steps;
-use reference::{Answer, End, Form, Integer, Position, Refusal, Said, Verdict};
+use reference::{Answer, End, Form, Integer, Position, Refusal, Said, Unjoined, Verdict};
 
 /// The proved library's verdict on an image.
 pub fn verdict(image: &[u8]) -> Verdict {
@@ -31,6 +31,15 @@ pub fn move_from(form: Form, image: &[u8], out: &mut [u8]) -> Result<usize, Refu
         Form::Wide => library::narrow(image, out),
     };
     moved.map_err(refusal)
+}
+
+/// Joins two images into a buffer; the length of the joined image.
+pub fn join(first: &[u8], second: &[u8], out: &mut [u8]) -> Result<usize, Unjoined> {
+    library::join(first, second, out).map_err(|no| match no {
+        library::Unjoined::First(no) => Unjoined::First(refusal(no)),
+        library::Unjoined::Second(no) => Unjoined::Second(refusal(no)),
+        library::Unjoined::Together(no) => Unjoined::Together(refusal(no)),
+    })
 }
 
 /// A form as the library names it.

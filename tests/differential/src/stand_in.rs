@@ -9,17 +9,18 @@ use crate::snapshot::{state_of, untouched, EMPTY, FILLING, INTEGER, PROMISED, VE
 use crate::words::{answer_words, question_words};
 use library::State as Snapshot;
 use library::{
-    FirAnswer, FirEntry, FirPosition, FirSaid, FirSearched, FirValue, FirVerdict, FirVersions,
-    ACTIVATION, CELLS, FIR_ACCEPTED, FIR_AT_BLOCK_END, FIR_AT_INSTRUCTION, FIR_DEEP, FIR_FORM_32,
-    FIR_FORM_64, FIR_INTEGER, FIR_INTERFACE, FIR_IS_INTEGER, FIR_IS_PROMISE, FIR_IS_VECTOR,
-    FIR_NOTHING, FIR_NOWHERE, FIR_OUTSIDE, FIR_PROMISES, FIR_REFUSED, FIR_STATE_LAYOUT, FIR_STEPS,
-    FIR_STUCK, FIR_UNDEF, FIR_VECTOR, FIR_VECTORS, OWNER, PROMISE,
+    FirAnswer, FirEntry, FirJoined, FirPosition, FirSaid, FirSearched, FirValue, FirVerdict,
+    FirVersions, ACTIVATION, CELLS, FIR_ACCEPTED, FIR_AT_BLOCK_END, FIR_AT_INSTRUCTION, FIR_DEEP,
+    FIR_FIRST_IMAGE, FIR_FORM_32, FIR_FORM_64, FIR_INTEGER, FIR_INTERFACE, FIR_IS_INTEGER,
+    FIR_IS_PROMISE, FIR_IS_VECTOR, FIR_NOTHING, FIR_NOWHERE, FIR_OUTSIDE, FIR_PROMISES,
+    FIR_REFUSED, FIR_SECOND_IMAGE, FIR_STATE_LAYOUT, FIR_STEPS, FIR_STUCK, FIR_UNDEF, FIR_VECTOR,
+    FIR_VECTORS, OWNER, PROMISE,
 };
 use reference::bounds::{ITEMS, REGISTERS};
 use reference::state::Opener;
 use reference::{
-    change, move_from, verdict_in, Answer, End, Form, Position, Program, Refusal, Said, State,
-    Status, Value, Verdict,
+    change, join, move_from, verdict_in, Answer, End, Form, Position, Program, Refusal, Said,
+    State, Status, Unjoined, Value, Verdict,
 };
 use std::cell::RefCell;
 use std::rc::Rc;
@@ -292,6 +293,33 @@ unsafe extern "C" fn fir_narrow(
 ) -> FirVerdict {
     let out = slice::from_raw_parts_mut(out, places);
     put_moved(Form::Wide, lent(image, length), out)
+}
+
+#[no_mangle]
+unsafe extern "C" fn fir_join(
+    first: *const u8,
+    first_length: usize,
+    second: *const u8,
+    second_length: usize,
+    out: *mut u8,
+    places: usize,
+) -> FirJoined {
+    let out = slice::from_raw_parts_mut(out, places);
+    let (first, second) = (lent(first, first_length), lent(second, second_length));
+    let (detail, question, image) = match join(first, second, places) {
+        Ok(joined) => {
+            out[..joined.len()].copy_from_slice(&joined);
+            (joined.len(), FIR_ACCEPTED, 0)
+        }
+        Err(Unjoined::First(no)) => (no.offset, no.number, FIR_FIRST_IMAGE),
+        Err(Unjoined::Second(no)) => (no.offset, no.number, FIR_SECOND_IMAGE),
+        Err(Unjoined::Together(no)) => (no.offset, no.number, 0),
+    };
+    FirJoined {
+        detail,
+        question,
+        image,
+    }
 }
 
 #[no_mangle]

@@ -25,9 +25,16 @@ const QUESTIONS: [&str; 20] = [
     "the entry is above the level of the run",
 ];
 
+/// What a refusal by 23 says, which follows on no number before it.
+const WORDS_OF_23: &str =
+    "the joined image would break a bound of the layout, or does not fit the buffer";
+
 /// What a refusal by a question says; nothing for a number that is no question's.
 pub fn question_words(question: u8) -> &'static str {
-    QUESTIONS.get(usize::from(question)).copied().unwrap_or("")
+    match question {
+        23 => WORDS_OF_23,
+        _ => QUESTIONS.get(usize::from(question)).copied().unwrap_or(""),
+    }
 }
 
 /// What an answer of each code says, by its number.

@@ -13,6 +13,7 @@ mod ends;
 mod fact;
 mod faults;
 mod grow;
+mod joins;
 mod moves;
 mod mutate;
 mod padding;
@@ -27,6 +28,7 @@ mod world;
 
 pub use faults::{call_up, level_fault, LEVEL_FAULTS, PLACES_OF_CALLS};
 pub use grow::Trap;
+pub use joins::Join;
 pub use moves::Move;
 pub use random::Random;
 pub use run::Event;
@@ -83,6 +85,17 @@ pub fn accepted_before(seed: u64) -> Vec<u8> {
 /// most can be moved, some are refused by a question of their form, by 16 or by 17.
 pub fn to_move(seed: u64) -> Move {
     moves::any(&mut Random::new(seed))
+}
+
+/// Two images that are to be joined, with a buffer for them: most go together, some are
+/// refused by a question to either, or by 23 for each bound and for the buffer.
+pub fn to_join(seed: u64) -> Join {
+    joins::any(&mut Random::new(seed))
+}
+
+/// An accepted image that is to be joined, mostly a small one.
+pub fn to_join_with(seed: u64) -> Vec<u8> {
+    joins::program(&mut Random::new(seed)).bytes()
 }
 
 /// An image that a question of 1 to 10, 14 or 18 should refuse.
@@ -204,4 +217,9 @@ pub fn update(aim: Update, seed: u64, image: &[u8], live: &Live) -> Vec<u8> {
 /// lists of five changes of the image.
 pub fn events(seed: u64) -> Vec<Event> {
     run::event_list(&mut Random::new(seed))
+}
+
+/// A list of single steps and budgets alone, some lent too short a buffer.
+pub fn steps_and_budgets(seed: u64) -> Vec<Event> {
+    run::without_changes(&mut Random::new(seed))
 }

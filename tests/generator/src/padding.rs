@@ -26,8 +26,9 @@ pub fn pad(random: &mut Random, draft: &mut Draft) {
 /// Adds versions that do nothing of note, most of it by literals, until the image
 /// has exactly so many bytes, if it can.
 pub fn pad_to(draft: &mut Draft, wished: usize) {
+    let mut length = draft.bytes().len();
     loop {
-        let missing = wished.saturating_sub(draft.bytes().len());
+        let missing = wished.saturating_sub(length);
         let (function, version) = draft.next_numbers();
         let room = usize::from(function) < FUNCTIONS && draft.versions.len() < VERSIONS;
         if missing < SMALLEST || !room {
@@ -39,6 +40,7 @@ pub fn pad_to(draft: &mut Draft, wished: usize) {
             LARGEST.min(missing - SMALLEST)
         };
         draft.versions.push(padding(function, version, size));
+        length += size;
     }
 }
 

@@ -156,7 +156,7 @@ fn change(random: &mut Random) -> Event {
 }
 
 /// A list of steps and budgets.
-fn without_changes(random: &mut Random) -> Vec<Event> {
+pub fn without_changes(random: &mut Random) -> Vec<Event> {
     let length = random.pick(&[0, 1, 2, 3, 5, 8, 20]);
     let mut events: Vec<Event> = (0..length).map(|_| event(random)).collect();
     if random.percent(15) {

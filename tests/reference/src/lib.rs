@@ -15,6 +15,7 @@
 //! | What demand 3 speaks of | [`monitor`], [`watched`] |
 //! | Program | [`report`] |
 //! | Moving stored images | [`moves`] |
+//! | Two images into one | [`joins`] |
 //! | Levels of staff | [`types`], [`questions`], [`begin`], [`search`], [`monitor`] |
 
 pub mod begin;
@@ -24,6 +25,7 @@ pub mod counts;
 pub mod flow;
 pub mod form;
 pub mod instruction;
+pub mod joins;
 pub mod kinds;
 pub mod monitor;
 pub mod moves;
@@ -44,6 +46,7 @@ pub use bounds::Integer;
 pub use change::change;
 pub use form::{Form, Range};
 pub use instruction::{Instruction, Name, Register};
+pub use joins::{join, join_accepted, Unjoined};
 pub use moves::{move_accepted, move_from, moved, widened};
 pub use position::Position;
 pub use program::Program;

@@ -50,6 +50,8 @@ pub enum Command {
     Lint(Lint),
     /// `fir move`
     Move(Move),
+    /// `fir join`
+    Join(Join),
     /// `fir asm`
     Assemble(Conversion),
     /// `fir dis`
@@ -119,6 +121,17 @@ pub struct Move {
     pub to: Form,
 }
 
+/// Images that are to be joined.
+#[derive(Clone, PartialEq, Eq, Debug)]
+pub struct Join {
+    /// The images, two at least.
+    pub files: Vec<OsString>,
+    /// The file that is written.
+    pub out: OsString,
+    /// Is JSON to be printed?
+    pub json: bool,
+}
+
 /// From one file to another.
 #[derive(Clone, PartialEq, Eq, Debug)]
 pub struct Conversion {
@@ -171,6 +184,7 @@ fn parse_command(name: &str, words: Words) -> Result<Command, String> {
         "debug" => parse_debug(words).map(Command::Debug),
         "lint" => parse_lint(words).map(Command::Lint),
         "move" => parse_move(words).map(Command::Move),
+        "join" => parse_join(words).map(Command::Join),
         "asm" => parse_assembly(words).map(Command::Assemble),
         "dis" => parse_conversion(words).map(Command::Disassemble),
         "explain" => parse_explain(words).map(Command::Explain),
@@ -351,6 +365,19 @@ fn parse_move(mut words: Words) -> Result<Move, String> {
         return Err("standard input is named beside other images".to_string());
     }
     Ok(Move { files, out, to })
+}
+
+/// Images that are to be joined.
+fn parse_join(mut words: Words) -> Result<Join, String> {
+    let json = words.flag("--json")?;
+    let out = words.option("-o")?;
+    let files = words.files()?;
+    let out = out.ok_or("-o is missing: the file to write to")?;
+    if files.len() < 2 {
+        return Err("a second image is missing: two or more are joined".to_string());
+    }
+    ask_standard_input_once(&files)?;
+    Ok(Join { files, out, json })
 }
 
 /// The form that an option names, that of 64 bits where it does not stand.

@@ -5,6 +5,7 @@ use crate::command::{Command, Conversion};
 use crate::debug;
 use crate::explain;
 use crate::failure::{Failure, Status};
+use crate::joining;
 use crate::lint;
 use crate::moving;
 use crate::running::{self, Manner};
@@ -34,6 +35,7 @@ pub fn execute(command: &Command, streams: &mut Streams) -> Result<Status, Failu
         Command::Debug(call) => debug::debug(call, streams),
         Command::Lint(asked) => lint::all(asked, streams),
         Command::Move(asked) => moving::all(asked, streams),
+        Command::Join(asked) => joining::all(asked, streams),
         Command::Assemble(conversion) => assemble(conversion, streams),
         Command::Disassemble(conversion) => disassemble(conversion, streams),
         Command::Explain(subject) => print(&explain::text(*subject), streams),

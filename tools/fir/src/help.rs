@@ -1,6 +1,6 @@
 //! The commands with their options, and the help texts.
 
-use crate::manual::{ASM, CHECK, COMPLETION, DEBUG, DIS, EXPLAIN, LINT, MOVE, RUN, TRACE};
+use crate::manual::{ASM, CHECK, COMPLETION, DEBUG, DIS, EXPLAIN, JOIN, LINT, MOVE, RUN, TRACE};
 use crate::options::{Opt, Takes};
 
 /// A command with its help text.
@@ -49,7 +49,8 @@ impl Topic {
 
 /// What `fir --help` prints.
 pub fn all() -> String {
-    let mut help = "fir: checks, runs and moves FIR images, by the proved library\n\n".to_string();
+    let mut help =
+        "fir: checks, runs, moves and joins FIR images, by the proved library\n\n".to_string();
     help += "usage:\n";
     for topic in &COMMANDS {
         help += &format!("  {}\n      {}\n", topic.usage(), topic.summary);
@@ -68,7 +69,7 @@ name ends in .fir; `-` is standard input. A message on a text begins with
 FILE:LINE:COLUMN.
 
 exit status:
-  0  accepted; DONE; moved; assembled; nothing found by lint
+  0  accepted; DONE; moved; joined; assembled; nothing found by lint
   1  refused; a text that does not assemble; something found by lint; a trace or a
      conversion whose reader has gone
   2  bad usage, or a file that cannot be read or written
@@ -118,7 +119,7 @@ const FORMS: Takes = Takes::One(&["32", "64"]);
 const SHELLS: &str = "bash|zsh|fish";
 
 /// The commands.
-pub const COMMANDS: [Topic; 10] = [
+pub const COMMANDS: [Topic; 11] = [
     Topic {
         name: "check",
         given: "FILE..",
@@ -207,6 +208,14 @@ pub const COMMANDS: [Topic; 10] = [
         ],
         words: MOVE,
         status: "0 all moved, 1 some refused, 2 bad usage or a file that cannot be\nread or written",
+    },
+    Topic {
+        name: "join",
+        given: "FILE FILE.. -o OUT",
+        summary: "two or more images into one",
+        options: &[OUT, JSON],
+        words: JOIN,
+        status: "0 joined, 1 refused or a text that does not assemble, 2 bad usage or\na file that cannot be read or written",
     },
     Topic {
         name: "asm",

@@ -1,7 +1,7 @@
-//! The command-line tool `fir`: it checks, runs, traces, moves, assembles and
-//! disassembles FIR images.
+//! The command-line tool `fir`: it checks, runs, traces, moves, joins, assembles
+//! and disassembles FIR images.
 //!
-//! Verdicts, runs, single steps and moved images are those of the proved library. What
+//! Verdicts, runs, single steps, moved and joined images are those of the proved library. What
 //! the tool adds are words: why an image or a run is refused, and what a step did; and
 //! files that are written whole.
 
@@ -14,6 +14,7 @@ mod debug;
 mod explain;
 mod failure;
 mod help;
+mod joining;
 mod json;
 mod lint;
 mod manual;

@@ -200,6 +200,43 @@ example:
   1 moved, 1 refused
 ";
 
+/// `fir join`
+pub const JOIN: &str = "\
+Joins images from the left: the functions of each next one are renumbered to
+follow those of the images before it, its CALLs and DISPATCHes with them, and
+nothing else changes. Each entry runs under its new number as it does alone. It
+prints a table of each file, its functions, and their numbers now.
+
+The first image is put to its questions, then the second; the line of a refusal
+names its file, and on a text begins with FILE:LINE:COLUMN. Then 23 asks that the
+two together have at most 32,768 bytes, 32 functions and 64 versions; the line
+says which bound it is. What they make is joined with the third file, and so on.
+Where anything is refused, nothing is written. `fir lint` of a joined image takes
+the entries of each by --entry.
+
+OUT gets the image's bytes, or where its name ends in .fir a text: that of
+`fir dis`, without the comments and the empty lines of the texts it came from.
+No image is written over: a command whose OUT is one of the files that it
+reads, by whatever name, does nothing. Another file of this name is replaced. It is
+written beside its place and then renamed, so none is ever there in part.
+
+FILE is a text or an image's bytes by what it holds, and always a text where its
+name ends in .fir; `-` is standard input. A file may stand several times.
+
+With --json there is one object. It has `joined`, `out`, `bytes`, `functions`,
+`versions` and `numbers`, each of these with `file`, `function` and `number`. Where
+nothing is joined, `joined` is false, and there is the `file` that is refused, or
+for 23 the `files`, with what `fir check --json` says of a refusal.
+
+example:
+  $ fir join heating.fir water.fir -o house.bin
+  file         its function  its number now
+  heating.fir             0               0
+  heating.fir             1               1
+  water.fir               0               2
+  joined to house.bin, 301 bytes, 3 functions, 4 versions
+";
+
 /// `fir asm`
 pub const ASM: &str = "\
 Assembles a text, whatever its name ends in, and writes the image's bytes to OUT

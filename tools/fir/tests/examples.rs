@@ -5,27 +5,49 @@ mod support;
 
 use std::fs;
 use std::path::Path;
+use std::thread;
 use support::fir;
 
 /// The folder of the examples.
 const EXAMPLES: &str = concat!(env!("CARGO_MANIFEST_DIR"), "/../../examples/");
 
+/// The file that the examples join to, one of each test's own.
+fn house() -> String {
+    let test = thread::current().name().unwrap_or("main").to_string();
+    format!("{}/house_of_{test}.bin", env!("CARGO_TARGET_TMPDIR"))
+}
+
 /// The scripts.
-const SCRIPTS: [&str; 8] = [
+const SCRIPTS: [&str; 11] = [
     "defrost.fir",
     "energy.fir",
+    "heating.fir",
+    "house.fir",
     "levels.fir",
     "pump.fir",
     "pump_later.fir",
     "riser.fir",
     "setback.fir",
     "spread.fir",
+    "water.fir",
 ];
 
 /// A command of a comment or a document, and what it is to print.
 struct Shown {
     arguments: Vec<String>,
     output: String,
+}
+
+/// A line with the places that its files have here.
+fn placed(line: &str) -> String {
+    let line = line.replace("examples/", EXAMPLES);
+    line.replace("house.bin", &house())
+}
+
+/// The words of a text, one space between two: longer names make a table wider.
+fn narrow(text: &str) -> String {
+    let words = |line: &str| line.split_whitespace().collect::<Vec<_>>().join(" ");
+    text.lines().map(|line| words(line) + "\n").collect()
 }
 
 /// The commands of a text, which stand behind an indent, with the lines below them.
@@ -36,14 +58,14 @@ fn shown(text: &str, indent: &str) -> Vec<Shown> {
         let indented = line.strip_prefix(indent);
         let command = indented.and_then(|line| line.strip_prefix("$ fir "));
         if let Some(command) = command {
-            let command = command.replace("examples/", EXAMPLES);
+            let command = placed(command);
             all.push(Shown {
                 arguments: command.split(' ').map(String::from).collect(),
                 output: String::new(),
             });
             inside = true;
         } else if let (Some(line), true, Some(last)) = (indented, inside, all.last_mut()) {
-            last.output += &format!("{}\n", line.replace("examples/", EXAMPLES));
+            last.output += &format!("{}\n", placed(line));
         } else {
             inside = false;
         }
@@ -56,7 +78,13 @@ fn shown(text: &str, indent: &str) -> Vec<Shown> {
 fn assert_printed(shown: &Shown, origin: &str) {
     let words: Vec<&str> = shown.arguments.iter().map(String::as_str).collect();
     let done = fir(&words, b"");
-    assert_eq!(done.text(), shown.output, "{origin}: {words:?}");
+    let shape = if words[0] == "join" {
+        narrow
+    } else {
+        str::to_string
+    };
+    let (found, expected) = (shape(&done.text()), shape(&shown.output));
+    assert_eq!(found, expected, "{origin}: {words:?}");
     assert_eq!(done.errors, "", "{origin}: {words:?}");
 }
 
@@ -163,6 +191,36 @@ fn a_call_up_in_levels_is_refused_as_its_comment_says() {
 }
 
 #[test]
+fn heating_follows_the_outdoor_temperature_up_to_its_limit() {
+    gives("heating.fir", &["0", "200"], 300);
+    gives("heating.fir", &["-78", "210"], 350);
+    gives("heating.fir", &["-80", "210"], 350);
+    gives("heating.fir", &["230", "210"], 200);
+}
+
+#[test]
+fn water_reads_either_sensor() {
+    for tank in ["441", "[441]", "[441,31]"] {
+        gives("water.fir", &[tank, "500"], 59);
+        gives("water.fir", &[tank, "441"], 0);
+        gives("water.fir", &[tank, "440"], 0);
+    }
+}
+
+#[test]
+fn house_is_heating_and_water_joined() {
+    let image = |script| fir(&["asm", &format!("{EXAMPLES}{script}")], b"").output;
+    let (heating, water, house) = (image("heating.fir"), image("water.fir"), image("house.fir"));
+    assert_eq!(reference::join(&heating, &water, house.len()), Ok(house));
+    let out = concat!(env!("CARGO_TARGET_TMPDIR"), "/house.fir");
+    let [heating, water] = ["heating.fir", "water.fir"].map(|name| format!("{EXAMPLES}{name}"));
+    assert_eq!(fir(&["join", &heating, &water, "-o", out], b"").status, 0);
+    let written = fs::read_to_string(out).expect("the text is written");
+    let stored = fs::read_to_string(format!("{EXAMPLES}house.fir")).expect("it is there");
+    assert!(stored.ends_with(&format!("\n\n{written}")), "{written}");
+}
+
+#[test]
 fn pump_follows_each_of_the_three_rooms() {
     for (script, warm) in [("pump.fir", -30), ("pump_later.fir", 0)] {
         gives(script, &["210", "[210,210,210]"], 0);
@@ -255,7 +313,7 @@ fn the_commands_of_the_readme_print_what_it_shows() {
     let commands = shown(include_str!("../../README.md"), "    ");
     let (with_output, without): (Vec<_>, Vec<_>) =
         commands.iter().partition(|shown| !shown.output.is_empty());
-    assert_eq!((with_output.len(), without.len()), (9, 6));
+    assert_eq!((with_output.len(), without.len()), (11, 6));
     for command in with_output {
         assert_printed(command, "README");
     }

@@ -5,7 +5,9 @@ mod support;
 use support::fir;
 
 /// The refusals there are.
-const REFUSALS: std::ops::RangeInclusive<u8> = 1..=19;
+fn refusals() -> impl Iterator<Item = u8> {
+    (1..=19).chain([23])
+}
 
 /// What `fir explain` prints of a refusal.
 #[track_caller]
@@ -17,7 +19,7 @@ fn explained(number: u8) -> String {
 
 #[test]
 fn each_refusal_has_its_own_section_with_a_wrong_script_and_a_mended_one() {
-    for number in REFUSALS {
+    for number in refusals() {
         let text = explained(number);
         assert!(text.starts_with(&format!("{number}: ")), "{text}");
         let wrong = format!("refused by {number} at ");
@@ -29,7 +31,7 @@ fn each_refusal_has_its_own_section_with_a_wrong_script_and_a_mended_one() {
 
 #[test]
 fn a_section_ends_where_the_next_one_begins() {
-    for number in REFUSALS {
+    for number in refusals() {
         let text = explained(number);
         let headings = text.lines().filter(|line| line.starts_with("##"));
         assert_eq!(headings.count(), 0, "{text}");
@@ -59,7 +61,7 @@ fn without_a_number_all_are_listed_in_the_order_of_the_questions() {
     };
     let numbers: Vec<u8> = text.lines().filter_map(number).collect();
     let order = [
-        1, 2, 3, 4, 5, 6, 7, 14, 8, 18, 9, 10, 11, 19, 12, 13, 15, 16, 17,
+        1, 2, 3, 4, 5, 6, 7, 14, 8, 18, 9, 10, 11, 19, 12, 13, 15, 16, 17, 23,
     ];
     assert_eq!(numbers, order);
     assert!(

@@ -81,22 +81,31 @@ fn word(random: &mut Random, files: &[String]) -> OsString {
     text.into()
 }
 
+/// Adds what a run is given to the line of a command.
+fn add_run(random: &mut Random, line: &mut Vec<OsString>, files: &[String]) {
+    line.push(format!("{}.{}", random.below(2), random.below(2)).into());
+    line.extend((0..random.below(3)).map(|_| "5".into()));
+    line.extend(["--budget".into(), random.below(300).to_string().into()]);
+    if line[0] != "debug" && random.one_in(3) {
+        let then = format!("{}@{}", random.pick(files), random.below(40));
+        line.splice(1..1, ["--then".into(), then.into()]);
+    }
+}
+
 /// A command line; what is written goes to a file of the test's own.
 fn line(random: &mut Random, files: &[String], out: &str) -> Vec<OsString> {
     let command = random.pick(&[
-        "check", "check", "run", "run", "trace", "debug", "lint", "move", "asm", "dis", "help",
+        "check", "check", "run", "run", "trace", "debug", "lint", "move", "join", "asm", "dis",
+        "help",
     ]);
     let mut line: Vec<OsString> = vec![command.into(), random.pick(files).into()];
     if ["run", "trace", "debug"].contains(&command) {
-        line.push(format!("{}.{}", random.below(2), random.below(2)).into());
-        line.extend((0..random.below(3)).map(|_| "5".into()));
-        line.extend(["--budget".into(), random.below(300).to_string().into()]);
-        if command != "debug" && random.one_in(3) {
-            let then = format!("{}@{}", random.pick(files), random.below(40));
-            line.splice(1..1, ["--then".into(), then.into()]);
-        }
+        add_run(random, &mut line, files);
     }
-    if ["check", "run", "trace", "lint"].contains(&command) && random.one_in(4) {
+    if command == "join" {
+        line.extend((0..1 + random.below(3)).map(|_| random.pick(files).into()));
+    }
+    if ["check", "run", "trace", "lint", "join"].contains(&command) && random.one_in(4) {
         line.push("--json".into());
     } else if command == "trace" && random.one_in(3) {
         line.push(format!("--html={out}").into());
@@ -107,7 +116,7 @@ fn line(random: &mut Random, files: &[String], out: &str) -> Vec<OsString> {
     if command == "move" && random.one_in(2) {
         line.extend(["--to".into(), random.pick(&["32", "64", ""]).into()]);
     }
-    if ["asm", "dis", "move"].contains(&command) {
+    if ["asm", "dis", "move", "join"].contains(&command) {
         line.extend(["-o".into(), out.into()]);
     }
     match random.below(12) {

@@ -53,6 +53,12 @@ const MOVE: Writer = Writer {
     option: "-o",
     content: &IDENTITY,
 };
+const JOIN: Writer = Writer {
+    command: "join",
+    behind: &["../../examples/water.fir"],
+    option: "-o",
+    content: &IDENTITY,
+};
 const TRACE: Writer = Writer {
     command: "trace",
     behind: &["0.0", "7"],
@@ -61,7 +67,7 @@ const TRACE: Writer = Writer {
 };
 
 /// All commands that write a file.
-const WRITERS: [Writer; 4] = [ASM, DIS, MOVE, TRACE];
+const WRITERS: [Writer; 5] = [ASM, DIS, MOVE, JOIN, TRACE];
 
 /// An empty folder of the test's own, for one command.
 fn folder(test: &str, writer: &Writer) -> String {

@@ -1,16 +1,19 @@
 //! What the library answers, as plain enums.
 
 use crate::constants::{
-    FIR_ACCEPTED, FIR_AT_BLOCK_END, FIR_AT_INSTRUCTION, FIR_DEEP, FIR_INTEGER, FIR_IS_INTEGER,
-    FIR_IS_PROMISE, FIR_IS_VECTOR, FIR_ITEMS, FIR_NOTHING, FIR_NOWHERE, FIR_OUTSIDE, FIR_PROMISES,
-    FIR_REFUSED, FIR_STEPS, FIR_STUCK, FIR_UNDEF, FIR_VECTOR, FIR_VECTORS, FIR_VERSIONS,
+    FIR_ACCEPTED, FIR_AT_BLOCK_END, FIR_AT_INSTRUCTION, FIR_DEEP, FIR_FIRST_IMAGE, FIR_INTEGER,
+    FIR_IS_INTEGER, FIR_IS_PROMISE, FIR_IS_VECTOR, FIR_ITEMS, FIR_NOTHING, FIR_NOWHERE,
+    FIR_OUTSIDE, FIR_PROMISES, FIR_REFUSED, FIR_REFUSED_JOIN, FIR_SECOND_IMAGE, FIR_STEPS,
+    FIR_STUCK, FIR_UNDEF, FIR_VECTOR, FIR_VECTORS, FIR_VERSIONS,
 };
-use crate::raw::{FirAnswer, FirEntry, FirPosition, FirSaid, FirSearched, FirValue, FirVerdict};
+use crate::raw::{
+    FirAnswer, FirEntry, FirJoined, FirPosition, FirSaid, FirSearched, FirValue, FirVerdict,
+};
 
 /// A no: the question, and the offset of the first record that fails.
 #[derive(Clone, Copy, PartialEq, Eq, Debug)]
 pub struct Refusal {
-    /// The question, 1 to 19.
+    /// The question, 1 to 19, or 23.
     pub question: u8,
     /// The offset of the record; the image's length where records or, by 15, a
     /// version are missing.
@@ -27,6 +30,17 @@ pub enum Verdict {
     },
     /// The first no.
     Refused(Refusal),
+}
+
+/// Why two images are not joined.
+#[derive(Clone, Copy, PartialEq, Eq, Debug)]
+pub enum Unjoined {
+    /// A question says no to the first image.
+    First(Refusal),
+    /// The first image is accepted, and a question says no to the second.
+    Second(Refusal),
+    /// Both are accepted, and 23 says no to the two together.
+    Together(Refusal),
 }
 
 /// How a run ended.
@@ -159,6 +173,27 @@ impl From<FirVerdict> for Result<usize, Refusal> {
                 question,
                 offset: moved.detail,
             }),
+        }
+    }
+}
+
+impl From<FirJoined> for Result<usize, Unjoined> {
+    fn from(joined: FirJoined) -> Result<usize, Unjoined> {
+        let FirJoined {
+            detail,
+            question,
+            image,
+        } = joined;
+        let refusal = Refusal {
+            question,
+            offset: detail,
+        };
+        match (question, image) {
+            (FIR_ACCEPTED, 0) => Ok(detail),
+            (FIR_REFUSED_JOIN, 0) => Err(Unjoined::Together(refusal)),
+            (1.., FIR_FIRST_IMAGE) => Err(Unjoined::First(refusal)),
+            (1.., FIR_SECOND_IMAGE) => Err(Unjoined::Second(refusal)),
+            _ => panic!("the library says {question} of image {image}, which fir.h does not list"),
         }
     }
 }

@@ -62,6 +62,9 @@ pub const FIR_REFUSED_CHANGE: u8 = 15;
 pub const FIR_REFUSED_LITERAL: u8 = 16;
 /// The moved image has at most 32,768 bytes and fits the buffer.
 pub const FIR_REFUSED_ROOM: u8 = 17;
+/// The joined image has at most 32,768 bytes, 32 functions and 64 versions and fits the
+/// buffer.
+pub const FIR_REFUSED_JOIN: u8 = 23;
 
 /// Room for the words of every question.
 pub const FIR_QUESTION_TEXT_BYTES: usize = 128;
@@ -81,6 +84,11 @@ pub const FIR_FACTORY: usize = 2;
 pub const FIR_FORM_64: u8 = 0;
 /// The form before, whose literals have 32 bits.
 pub const FIR_FORM_32: u8 = 1;
+
+/// Of two images that are to be joined, the first is refused.
+pub const FIR_FIRST_IMAGE: u8 = 1;
+/// Of two images that are to be joined, the second is refused.
+pub const FIR_SECOND_IMAGE: u8 = 2;
 
 /// The run goes on: the step was taken, or the budget is used up.
 pub const FIR_STEPS: u8 = 0;

@@ -1,4 +1,4 @@
-//! The proved FIR library, safe to call: it checks images, moves and runs them.
+//! The proved FIR library, safe to call: it checks images, moves, joins and runs them.
 //!
 //! What `fir.h` asks of its caller holds by construction: slices and `&mut` rule
 //! out null, misaligned and overlapping memory, that a state has the layout that
@@ -9,6 +9,7 @@
 mod answers;
 mod checking;
 mod constants;
+mod joining;
 mod moving;
 mod parts;
 mod raw;
@@ -16,14 +17,16 @@ mod run;
 mod state;
 mod words;
 
-pub use answers::{Answer, At, End, Held, Position, Ran, Refusal, Said, Search, Verdict};
+pub use answers::{Answer, At, End, Held, Position, Ran, Refusal, Said, Search, Unjoined, Verdict};
 pub use checking::{report, verdict};
 pub use constants::*;
+pub use joining::join;
 pub use moving::{narrow, report_in, verdict_in, widen, Form};
 pub use parts::{Activation, Opener, Promise};
 #[cfg(feature = "stand_in")]
 pub use raw::{
-    FirAnswer, FirEntry, FirPosition, FirSaid, FirSearched, FirValue, FirVerdict, FirVersions,
+    FirAnswer, FirEntry, FirJoined, FirPosition, FirSaid, FirSearched, FirValue, FirVerdict,
+    FirVersions,
 };
 pub use run::{Entry, Run, FACTORY, PORTAL, STAFF};
 pub use state::{version, State, Versions, ACTIVATION, CELLS, OWNER, PROMISE};

@@ -12,6 +12,18 @@ pub struct FirVerdict {
     pub question: u8,
 }
 
+/// What joining two images comes to: `FIR_ACCEPTED` and the length of the joined
+/// image, or a question, its offset and the image that it refuses.
+#[repr(C)]
+pub struct FirJoined {
+    /// How long, or the offset.
+    pub detail: usize,
+    /// The question, or `FIR_ACCEPTED`.
+    pub question: u8,
+    /// `FIR_FIRST_IMAGE` or `FIR_SECOND_IMAGE` where that one is refused, else 0.
+    pub image: u8,
+}
+
 /// Whether a run has begun, or goes on under a new image: `FIR_ACCEPTED`, or a
 /// question and its offset.
 #[repr(C)]
@@ -131,6 +143,14 @@ extern "C" {
         out: *mut u8,
         out_length: usize,
     ) -> FirVerdict;
+    pub fn fir_join(
+        first: *const u8,
+        first_length: usize,
+        second: *const u8,
+        second_length: usize,
+        out: *mut u8,
+        out_length: usize,
+    ) -> FirJoined;
     pub fn fir_begin(
         image: *const u8,
         image_length: usize,

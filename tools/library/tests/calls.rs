@@ -1,10 +1,10 @@
 //! Each call of the proved library, on images whose answers are worked out by hand.
 
 use library::{
-    answer_text, narrow, question_text, report, report_in, verdict, verdict_in, version, widen,
-    Activation, Answer, At, End, Entry, Form, Held, Opener, Position, Promise, Ran, Refusal, Run,
-    Said, Search, State, Verdict, Versions, CELLS, FACTORY, FIR_ANSWER_TEXT_BYTES, FIR_ITEMS,
-    FIR_QUESTION_TEXT_BYTES, FIR_REGISTERS, PORTAL, STAFF,
+    answer_text, join, narrow, question_text, report, report_in, verdict, verdict_in, version,
+    widen, Activation, Answer, At, End, Entry, Form, Held, Opener, Position, Promise, Ran, Refusal,
+    Run, Said, Search, State, Unjoined, Verdict, Versions, CELLS, FACTORY, FIR_ANSWER_TEXT_BYTES,
+    FIR_ITEMS, FIR_QUESTION_TEXT_BYTES, FIR_REGISTERS, PORTAL, STAFF,
 };
 
 /// The version that the runs enter.
@@ -90,7 +90,8 @@ fn each_question_has_words_and_no_other_number() {
     assert_eq!(short, vec![7; expected.len() - 1]);
     for number in 0..=u8::MAX {
         let length = question_text(number, &mut text);
-        assert_eq!(length.is_some(), number <= 19, "{number}");
+        let is_question = number <= 19 || number == 23;
+        assert_eq!(length.is_some(), is_question, "{number}");
     }
 }
 
@@ -144,6 +145,45 @@ fn a_refused_move_writes_nothing() {
     assert_eq!(narrow(&large, &mut out), Err(no(16, 23)));
     assert_eq!(narrow(&large, &mut out[..0]), Err(no(16, 23)));
     assert_eq!(out, [7; 40]);
+}
+
+/// A function that calls itself.
+const ITSELF: &str = "
+    version 0.0(r0: int) -> int
+      level portal
+      block 0 quiet -> r0
+        r0 = call 0.0(r0)
+";
+
+#[test]
+fn two_images_are_joined_into_a_buffer() {
+    let itself = text::assemble(ITSELF).expect("a text that is well formed");
+    let first = image();
+    let length = first.len() + itself.len();
+    let mut out = vec![7; length + 2];
+    assert_eq!(join(&first, &itself, &mut out[..length]), Ok(length));
+    assert_eq!(out[..first.len()], first);
+    let mut second = itself.clone();
+    second[4] = 1;
+    second[28] = 1;
+    assert_eq!(out[first.len()..length], second);
+    assert_eq!(out[length..], [7; 2]);
+    assert_eq!(verdict(&out[..length]), Verdict::Accepted { versions: 2 });
+    assert_eq!(join(&itself, &itself, &mut out), Ok(2 * itself.len()));
+}
+
+#[test]
+fn a_refusal_to_join_says_of_which_image_and_writes_nothing() {
+    let first = image();
+    let cut = &first[..first.len() - 1];
+    let mut out = [7; 400];
+    let at = no(2, first.len() - 8);
+    assert_eq!(join(cut, &[], &mut out), Err(Unjoined::First(at)));
+    assert_eq!(join(&first, cut, &mut out), Err(Unjoined::Second(at)));
+    let short = &mut out[..2 * first.len() - 1];
+    let no = Unjoined::Together(no(23, 0));
+    assert_eq!(join(&first, &first, short), Err(no));
+    assert_eq!(out, [7; 400]);
 }
 
 #[test]

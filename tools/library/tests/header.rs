@@ -66,6 +66,7 @@ fn bounds_and_questions() -> Vec<(&'static str, usize)> {
         FIR_REFUSED_CHANGE,
         FIR_REFUSED_LITERAL,
         FIR_REFUSED_ROOM,
+        FIR_REFUSED_JOIN,
     ];
     [&bounds[..], &questions].concat()
 }
@@ -92,6 +93,8 @@ fn constants() -> Vec<(&'static str, usize)> {
         FIR_AT_BLOCK_END,
         FIR_FORM_64,
         FIR_FORM_32,
+        FIR_FIRST_IMAGE,
+        FIR_SECOND_IMAGE,
     ];
     [&bounds_and_questions()[..], &answers].concat()
 }

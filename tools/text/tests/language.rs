@@ -5,8 +5,8 @@ use cases::exact;
 use reference::bounds::{Steps, BUFFER, MAX_IMAGE};
 use reference::questions::QUESTIONS;
 use reference::{
-    change, move_from, report, verdict, Answer, End, Form, Integer, Program, Refusal, State,
-    Verdict,
+    change, join, move_from, report, verdict, Answer, End, Form, Integer, Program, Refusal, State,
+    Unjoined, Verdict,
 };
 use std::fs;
 use std::path::{Path, PathBuf};
@@ -15,7 +15,7 @@ use std::path::{Path, PathBuf};
 const DOCUMENT: &str = include_str!("../../../docs/LANGUAGE.md");
 
 /// The questions that are not put to an image, in the order in which they are put.
-const FURTHER: [u8; 7] = [11, 19, 12, 13, 15, 16, 17];
+const FURTHER: [u8; 8] = [11, 19, 12, 13, 15, 16, 17, 23];
 
 /// The most steps of a run.
 const BUDGET: Steps = 1000;
@@ -70,6 +70,8 @@ enum Trial<'t> {
     Changed(Steps),
     /// A move to 32 bits, into a buffer of so many places.
     Moved(usize),
+    /// So many joins with itself, into a buffer of so many places.
+    Joined(usize, usize),
 }
 
 /// What a caption tries, and what it says comes of it.
@@ -90,9 +92,36 @@ fn trial(caption: &str) -> Option<(Trial<'_>, &str)> {
         let steps = steps.split(' ').next()?.parse().ok()?;
         return Some((Trial::Changed(steps), said));
     }
-    let rest = caption.strip_prefix("Moved to 32 bits")?;
+    if let Some(rest) = caption.strip_prefix("Moved to 32 bits") {
+        let (places, said) = places(rest, " into a buffer of ", MAX_IMAGE)?;
+        return Some((Trial::Moved(places), said));
+    }
+    let rest = caption.strip_prefix("Joined with itself")?;
+    let (times, rest) = times(rest)?;
     let (places, said) = places(rest, " into a buffer of ", MAX_IMAGE)?;
-    Some((Trial::Moved(places), said))
+    Some((Trial::Joined(times, places), said))
+}
+
+/// How often a caption says that an image is joined, once where it does not say it; and
+/// what stands behind, without what that makes.
+fn times(rest: &str) -> Option<(usize, &str)> {
+    let Some((number, behind)) = rest.split_once(" times") else {
+        return Some((1, rest));
+    };
+    let made = behind.strip_prefix(", which makes ");
+    let behind = made.map_or(behind, |made| made.find(',').map_or("", |end| &made[end..]));
+    Some((number.trim_start().parse().ok()?, behind))
+}
+
+/// How long an image is that was joined so often behind itself, or why it is not.
+fn joined(image: &[u8], times: usize, places: usize) -> Result<usize, Refusal> {
+    let mut joined = image.to_vec();
+    for _ in 0..times {
+        joined = join(&joined, image, places).map_err(|no| match no {
+            Unjoined::First(no) | Unjoined::Second(no) | Unjoined::Together(no) => no,
+        })?;
+    }
+    Ok(joined.len())
 }
 
 /// The places of the buffer that a caption names behind these words, or so many where
@@ -215,6 +244,10 @@ fn outcome(trial: &Trial, image: Vec<u8>, run: &mut Option<Run>) -> Result<Strin
         Trial::Moved(places) => {
             let moved = move_from(Form::Wide, &image, places)?;
             Ok(format!("{} bytes", moved.len()))
+        }
+        Trial::Joined(times, places) => {
+            let length = joined(&image, times, places)?;
+            Ok(format!("{length} bytes"))
         }
     }
 }

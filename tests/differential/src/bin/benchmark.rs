@@ -1,8 +1,10 @@
-//! How long a verdict takes, by the proved library and by the reference, and how
-//! long the move of an image to the form of 32 bits, which asks for one.
+//! How long a verdict takes, by the proved library and by the reference, how long the
+//! move of an image to the form of 32 bits, which asks for one, and how long joining
+//! two images, which asks for two.
 
 use cases::image;
 use library::FIR_IMAGE_BYTES;
+use reference::bounds::VERSIONS;
 use reference::questions::records;
 use reference::{move_from, verdict, Form, Verdict};
 use std::fmt::Write;
@@ -47,6 +49,8 @@ fn main() {
     compare("typical", &typical(), 1000);
     compare("largest", &largest(), 20);
     compare("literals", &literals(), 20);
+    compare_joining("typical", &typical(), 1000);
+    compare_joining("largest", &versions(VERSIONS / 2), 20);
 }
 
 /// Times both checkers on an accepted image, so many verdicts in a round.
@@ -71,6 +75,32 @@ fn compare(name: &str, image: &[u8], verdicts: u32) {
     let ratio = |time: fn(&Times) -> f64| time(&reference) / time(&proved);
     print_line("reference/proved", ratio(Times::min), ratio(Times::median));
     println!();
+}
+
+/// Times the joining of an image with itself, beside its two verdicts.
+fn compare_joining(name: &str, image: &[u8], times: u32) {
+    let [mut verdicts, mut joined] = [const { Times(Vec::new()) }; 2];
+    for _ in 0..ROUNDS {
+        verdicts.add(times, || {
+            let first = library::verdict(black_box(image));
+            (first, library::verdict(black_box(image)))
+        });
+        joined.add(times, || together(black_box(image)));
+    }
+    let bytes = 2 * image.len();
+    println!("{name} image joined with itself: {bytes} bytes together");
+    print_line("two verdicts", verdicts.min(), verdicts.median());
+    print_line("joined", joined.min(), joined.median());
+    let ratio = |time: fn(&Times) -> f64| time(&joined) / time(&verdicts);
+    print_line("joined/verdicts", ratio(Times::min), ratio(Times::median));
+    println!();
+}
+
+/// The first byte of an image that the proved library joins with itself.
+fn together(image: &[u8]) -> u8 {
+    let mut out = [0; FIR_IMAGE_BYTES];
+    library::join(image, image, &mut out).expect("it goes together");
+    out[0]
 }
 
 /// The first byte of an image that the proved library moves to the form of 32 bits.
@@ -98,7 +128,16 @@ fn typical() -> Vec<u8> {
 
 /// 64 versions of 512 bytes, which together are the most bytes of an image.
 fn largest() -> Vec<u8> {
-    image(&(0..64).map(version).collect::<String>())
+    versions(VERSIONS)
+}
+
+/// So many versions of 512 bytes.
+fn versions(count: usize) -> Vec<u8> {
+    image(
+        &(0..count)
+            .map(|index| version(index, count))
+            .collect::<String>(),
+    )
 }
 
 /// 64 versions of 37 literals each and an operation, which together are the most bytes
@@ -114,8 +153,8 @@ fn literals() -> Vec<u8> {
 }
 
 /// The text of a version with 12 registers and 8 blocks, each promise block
-/// within the one before it, that calls 9 of the 64 versions.
-fn version(index: usize) -> String {
+/// within the one before it, that calls 9 of so many versions.
+fn version(index: usize, count: usize) -> String {
     let mut text = format!(
         "version {}.{}(r0: int) -> int
            registers r1: int, r2: quiet promise, r3: quiet promise, r4: quiet promise
@@ -136,7 +175,7 @@ fn version(index: usize) -> String {
             text += "r1 = add r1, r1\n";
         }
         for call in 0..if block == 1 { 2 } else { 1 } {
-            let callee = (index * 5 + block * 11 + call * 31) % 64;
+            let callee = (index * 5 + block * 11 + call * 31) % count;
             text += &format!("r1 = call {}.{}(r1)\n", callee / 4, callee % 4);
         }
     }

@@ -7,6 +7,7 @@ mod damaged;
 mod division;
 mod ends;
 mod events;
+mod joins;
 mod levels;
 mod moves;
 mod refill;

@@ -3,6 +3,7 @@
 mod support;
 
 mod image_bytes;
+mod joins;
 mod levels;
 mod levels_runs;
 mod mistakes;

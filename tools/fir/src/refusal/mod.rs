@@ -1,4 +1,4 @@
-//! Why an image, a run, a change of image or a move is refused, in words.
+//! Why an image, a run, a change of image, a move or a joining is refused, in words.
 //!
 //! The question and the offset are the proved library's. The words come from
 //! looking at the record there for what the question asks; where that finds
@@ -11,6 +11,7 @@ mod existence;
 mod fit;
 mod flow;
 mod framing;
+mod joins;
 mod levels;
 mod moves;
 mod order;
@@ -121,6 +122,16 @@ pub fn of_move(form: Form, source: &Source, no: Refusal) -> Refused {
     };
     let found = words.map(Diagnosis::from);
     Refused::new(source, no, found.or_else(|| diagnosis(form, source, no)))
+}
+
+/// Why two accepted images are not joined.
+pub fn of_join(first: &[u8], second: &[u8], no: Refusal) -> Refused {
+    let words = joins::bounds(first, second);
+    Refused {
+        no,
+        position: None,
+        words: words.unwrap_or_else(|| rule(no.question).to_string()),
+    }
 }
 
 /// Why a version is no entry of an image, where it does not exist.
@@ -248,6 +259,7 @@ pub fn rule(question: u8) -> &'static str {
         15 => "every version with a live call has the same bytes and number in both images",
         16 => "every literal of an image that is moved fits 32 bits",
         17 => "a moved image has at most 32,768 bytes and fits the buffer",
+        23 => "a joined image has at most 32,768 bytes, 32 functions and 64 versions and fits the buffer",
         _ => "no question has this number",
     }
 }
@@ -267,7 +279,7 @@ mod tests {
     fn a_refusal_that_no_diagnosis_explains_gets_the_rule() {
         let text = "version 0.0(r0: int) -> int\nlevel portal\nblock 0 quiet -> r0";
         let image = text::assemble(text).expect("a text that is well formed");
-        for question in 1..=19 {
+        for question in (1..=19).chain([23]) {
             for offset in [0, 11, 16, 23, 400_000] {
                 let expected = format!("refused by {question} at {offset}: {}", rule(question));
                 assert_eq!(said(&image, question, offset), expected);
