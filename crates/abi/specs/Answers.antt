@@ -5,6 +5,7 @@ use Prim.Native.Nat.{ℕ, _+_, _*_}
 use lib.Dec.{eqb}
 use lib.IntN.{pos}
 use Rattle.layout.specs.declared.Form.{Form}
+use Rattle.bounds.specs.declared.Bounding.{Bounding}
 use Rattle.checker.specs.declared.Verdict.{Verdict}
 use Rattle.joins.specs.declared.Joined.{Joined}
 use Rattle.machine.specs.declared.Answer.{Answer}
@@ -33,6 +34,11 @@ verdictNumbers (Verdict.Refused q p) = record { detail = p; question = q }
 unfoldable pub movedNumbers : Moving → FirVerdict
 movedNumbers (Moving.Written n) = record { detail = n; question = 0 }
 movedNumbers (Moving.Refused q p) = record { detail = p; question = q }
+
+-- bounds: the number of rows, or the offset and the number of a refusal
+unfoldable pub boundingNumbers : Bounding → FirVerdict
+boundingNumbers (Bounding.Listed n) = record { detail = n; question = 0 }
+boundingNumbers (Bounding.Refused q p) = record { detail = p; question = q }
 
 -- a join: the length of the joined image, or the offset and the number of a refusal, and the image that it refuses: 1 the first, 2 the second, 0 neither
 unfoldable pub joinedNumbers : Joined → FirJoined

@@ -1,8 +1,9 @@
 //! Answers as numbers, in the layout of C.
 ghost use mathlib.Core.Path.{_≡_};
-ghost use Rattle.abi.specs.Answers.{answerNumbers, changedNumbers, entryNumbers, formOf, joinedNumbers, movedNumbers, plainNumbers, saidNumbers, searchNumbers, verdictNumbers, versionNumbers, whereNumbers};
+ghost use Rattle.abi.specs.Answers.{answerNumbers, boundingNumbers, changedNumbers, entryNumbers, formOf, joinedNumbers, movedNumbers, plainNumbers, saidNumbers, searchNumbers, verdictNumbers, versionNumbers, whereNumbers};
 ghost use Rattle.abi.specs.Looks.{noPlace, valueNumbers};
 ghost use Rattle.engine.specs.Parts.{saidOf};
+use bounds::Bounding;
 use checker::Verdict;
 use joins::Joined;
 use layout::Form;
@@ -99,6 +100,22 @@ pub fn verdict(verdict: Verdict) -> FirVerdict
             question: 0,
         },
         Verdict::Refused(q, p) => FirVerdict {
+            detail: p,
+            question: q,
+        },
+    }
+}
+
+/// What becomes of an image that is put to its bounds, in numbers.
+pub fn bounding(bounding: Bounding) -> FirVerdict
+    ensures { λ r. ⌜ r ≡ boundingNumbers bounding ⌝ }
+{
+    match bounding {
+        Bounding::Listed(n) => FirVerdict {
+            detail: n,
+            question: 0,
+        },
+        Bounding::Refused(q, p) => FirVerdict {
             detail: p,
             question: q,
         },

@@ -11,10 +11,12 @@ ghost use Rattle.machine.specs.Runs.{budgetOf, stepOf};
 ghost use Rattle.machine.specs.Searches.{searchOf};
 ghost use Rattle.joins.specs.Joins.{joinOf, joinedBuffer};
 ghost use Rattle.moves.specs.Moves.{bufferAfter, moveOf};
+ghost use Rattle.bounds.specs.Bounds.{report};
+ghost use Rattle.bounds.specs.Rows.{boundsOf, numbersAfter, stepsAfter, unless};
 ghost use Rattle.snapshots.specs.Held.{held};
 ghost use Rattle.whereabouts.specs.Where.{whereOf};
 ghost use Rattle.words.specs.Words.{answerText, questionText, writtenOf};
-ghost use Rattle.abi.specs.Answers.{changedNumbers, entryNumbers, formOf, joinedNumbers, movedNumbers, saidNumbers, searchNumbers, stateAlignment, stateSize, verdictNumbers, versionNumbers, whereNumbers};
+ghost use Rattle.abi.specs.Answers.{boundingNumbers, changedNumbers, entryNumbers, formOf, joinedNumbers, movedNumbers, saidNumbers, searchNumbers, stateAlignment, stateSize, verdictNumbers, versionNumbers, whereNumbers};
 ghost use Rattle.abi.specs.Exits.{Answers, Began};
 ghost use Rattle.abi.specs.Looks.{lookOf};
 use answers::FirAnswer;
@@ -130,6 +132,20 @@ pub extern "C" fn fir_narrow(image: &[u8], out: &mut [u8]) -> FirVerdict
     ensures { λ r. ⌜ (r ≡ movedNumbers (moveOf Form.Wide (now (image .entry)) (length (now (out .entry))))) × (now (out .exit) ≡ bufferAfter Form.Wide (now (image .entry)) (now (out .entry))) ⌝ }
 {
     answers::moved(moves::narrow(image, out))
+}
+
+/// Lists the versions of an image with the most steps that a run of each takes: 0 and the number of rows, or the question that
+/// refuses the image and the offset. The row `i` has the function and the version at 2 × `i` and 2 × `i` + 1 of `numbers`, and its bound at
+/// `i` of `steps`. Rows past the last stay, and a refusal writes nothing.
+#[no_mangle]
+pub extern "C" fn fir_bounds(
+    image: &[u8],
+    numbers: &mut [u8; 128],
+    steps: &mut [u64; 64],
+) -> FirVerdict
+    ensures { λ r. ⌜ (r ≡ boundingNumbers (boundsOf (now (image .entry)))) × (now (numbers .exit) ≡ unless (boundsOf (now (image .entry))) (now (numbers .entry)) (numbersAfter (now (numbers .entry)) 0 (report (programOf (now (image .entry)))))) × (now (steps .exit) ≡ unless (boundsOf (now (image .entry))) (now (steps .entry)) (stepsAfter (now (steps .entry)) 0 (report (programOf (now (image .entry)))))) ⌝ }
+{
+    answers::bounding(bounds::bounds_of(image, numbers, steps))
 }
 
 /// Joins two images, the first before the second, whose functions follow the first's: 0 and the length of the joined image, which the

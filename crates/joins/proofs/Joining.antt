@@ -60,7 +60,7 @@ module _ (s : List ℕ) (n : ℕ) (w : Passed Form.Wide s n) where
   unfolding nextOf
   below-image = below-records (functionsIn s) (records s) fits-image (counted-image .low)
 
-  closed-image : Closed (functionsIn s) (programOf s)
+  pub closed-image : Closed (functionsIn s) (programOf s)
   closed-image f x v e = names-in (functionsIn s) (programOf s) below-image v (holds (question7 (programOf s)) (programOf s) (w .q7) f x v e)
 
 -- ---- runs of a program that stands in another
@@ -130,7 +130,7 @@ module _ (a b : List ℕ) (n m room : ℕ) (va : verdictOf a ≡ Accepted n) (vb
   view-second : view (map (shiftRec k o) (records b)) ≡ shiftView k o (view (records b))
   view-second = view-shifted k o (records b) (fits-image b m wb)
 
-  joined-program : programOf (joined a b) ≡ programOf a ++ shiftProgram k o (programOf b)
+  pub joined-program : programOf (joined a b) ≡ programOf a ++ shiftProgram k o (programOf b)
   unfolding shiftView
   joined-program =
       let g = begins (length b) (records b) (wb .q4) in
@@ -206,16 +206,31 @@ module _ (a b : List ℕ) (n m room : ℕ) (va : verdictOf a ≡ Accepted n) (vb
     others = others-joined;
   }
 
--- THE LAW of 02, 13
-pub joins-well : JoinsWell
-unfolding JoinsWell joinOf joinAfter
-joins-well a b room n e = go (verdictOf a) (verdictOf b) refl refl e
+-- ---- a join that was written
+
+-- both images are accepted, and keep the bounds together
+pub record Taken (a b : List ℕ) (room n : ℕ) : Type 0 where
+  pub first-count : ℕ
+  pub second-count : ℕ
+  pub first : verdictOf a ≡ Accepted first-count
+  pub second : verdictOf b ≡ Accepted second-count
+  pub inside : inBounds a b room ≡ true
+  pub size : length a + length b ≡ n
+
+pub taken : (a b : List ℕ) (room n : ℕ) → joinOf a b room ≡ Written n → Taken a b room n
+unfolding joinOf joinAfter
+taken a b room n e = go (verdictOf a) (verdictOf b) refl refl e
   where
-    in-bounds : (i j : ℕ) → verdictOf a ≡ Accepted i → verdictOf b ≡ Accepted j → (t : Bool) → inBounds a b room ≡ t → cond t (Written (length a + length b)) (Together 23 0) ≡ Written n → Joins a b n
-    in-bounds i j p q true t g = let z : length a + length b ≡ n = cc in subst (Joins a b) z (joins-both a b i j room p q t)
+    in-bounds : (i j : ℕ) → verdictOf a ≡ Accepted i → verdictOf b ≡ Accepted j → (t : Bool) → inBounds a b room ≡ t → cond t (Written (length a + length b)) (Together 23 0) ≡ Written n → Taken a b room n
+    in-bounds i j p q true t g = record { first-count = i; second-count = j; first = p; second = q; inside = t; size = cc }
     in-bounds i j p q false t g = let z : _≡_ {A = ℕ} 0 1 = cc in absurd (omega arith)
 
-    go : (x y : Verdict) → verdictOf a ≡ x → verdictOf b ≡ y → joinAfter x y a b room ≡ Written n → Joins a b n
+    go : (x y : Verdict) → verdictOf a ≡ x → verdictOf b ≡ y → joinAfter x y a b room ≡ Written n → Taken a b room n
     go (Refused i j) y p q g = let z : _≡_ {A = ℕ} 0 1 = cc in absurd (omega arith)
     go (Accepted i) (Refused j l) p q g = let z : _≡_ {A = ℕ} 0 1 = cc in absurd (omega arith)
     go (Accepted i) (Accepted j) p q g = in-bounds i j p q (inBounds a b room) refl g
+
+-- THE LAW of 02, 13
+pub joins-well : JoinsWell
+unfolding JoinsWell
+joins-well a b room n e = let t = taken a b room n e in subst (Joins a b) (t .size) (joins-both a b (t .first-count) (t .second-count) room (t .first) (t .second) (t .inside))

@@ -11,3 +11,6 @@ pub mod Parts
 pub mod Named
 pub mod Answers
 pub mod Samples
+pub mod Depending
+pub mod Listed
+pub mod Agreeing

@@ -35,7 +35,7 @@ use Rattle.joins.proofs.Frames.{beside-at, beside-length, beside-set, b
 
 -- ---- versions
 
-mark-shifted : (k o : ℕ) (bs : List Block) → firstMark (map (shiftBlock k o) bs) ≡ firstMark bs
+pub mark-shifted : (k o : ℕ) (bs : List Block) → firstMark (map (shiftBlock k o) bs) ≡ firstMark bs
 unfolding firstMark
 mark-shifted k o [] = refl
 mark-shifted k o (b ∷ bs) = refl

@@ -31,7 +31,7 @@ unfoldable pub Below : ℕ → Program → Type 0
 Below n [] = Unit {0}
 Below n (v ∷ vs) = (v .function < n) × Below n vs
 
-below-found : (n : ℕ) (P : Program) → Below n P → (f w : ℕ) (v : Version) → findVersion P f w ≡ some v → f < n
+pub below-found : (n : ℕ) (P : Program) → Below n P → (f w : ℕ) (v : Version) → findVersion P f w ≡ some v → f < n
 unfolding Below findVersion
 below-found n [] b f w v e = let z : _≡_ {A = ℕ} 0 1 = cc in absurd (omega arith)
 below-found n (x ∷ P) b f w v e = go (eqb (x .function) f and eqb (x .version) w) refl e (λ g. below-found n P (b .1) f w v g)
@@ -126,7 +126,7 @@ has-behind (x ∷ P) Q f = rw (has-behind P Q f) (or-assoc (eqb (x .function) f)
     or-assoc true b c = refl
     or-assoc false b c = refl
 
-eqb-add : (k a b : ℕ) → eqb (k + a) (k + b) ≡ eqb a b
+pub eqb-add : (k a b : ℕ) → eqb (k + a) (k + b) ≡ eqb a b
 eqb-add k a b = go (eqb a b) refl
   where
     go : (x : Bool) → eqb a b ≡ x → eqb (k + a) (k + b) ≡ x

@@ -3,3 +3,4 @@ pub mod Joins
 pub mod Alongside
 pub mod Claims
 pub mod Parts
+pub mod Agreed
