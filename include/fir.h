@@ -9,8 +9,8 @@
  *   - A pointer with a length points to that many elements, aligned for their type; where the length is 0 it need not
  *     point to anything, but it is not NULL.
  *   - A pointer to a fir_state points to one, aligned as fir_state_alignment says. Its content may be anything.
- *   - What a call writes (a state, a text, a result buffer, a moved or joined image) overlaps nothing else that the call is
- *     lent.
+ *   - What a call writes (a state, a text, a result buffer, a moved or joined image, rows) overlaps nothing else that the
+ *     call is lent.
  *   - Until the call returns, nobody else writes what is lent, and nobody else reads what the call writes.
  *   - A step, a budget, fir_search, fir_where and, as its old image, fir_change are lent the image in force: the one that the
  *     run was begun with, or the last one that fir_change accepted for it. The caller keeps it, byte for byte, until another
@@ -163,7 +163,8 @@ fir_versions fir_version(void);
 size_t fir_question_text(uint8_t question, uint8_t *text, size_t text_length);
 
 /* A verdict on an image: FIR_ACCEPTED and its number of versions, or the question that refuses it and the offset of the
- * first record that fails. Of a move: FIR_ACCEPTED and the length of the moved image, or the question and the offset. */
+ * first record that fails. Of a move: FIR_ACCEPTED and the length of the moved image, or the question and the offset. Of
+ * bounds: FIR_ACCEPTED and the number of rows, or the question and the offset. */
 typedef struct fir_verdict {
     size_t detail;
     uint8_t question;
@@ -407,6 +408,47 @@ typedef struct fir_joined {
  */
 fir_joined fir_join(const uint8_t *first, size_t first_length, const uint8_t *second, size_t second_length, uint8_t *out,
                     size_t out_length);
+
+/* ---- How long at most ---- */
+
+#define FIR_ROWS 64             /* rows that are lent: one for each version that an image may have */
+#define FIR_LARGE 4294967296ULL /* in place of a bound: it is above 4,294,967,295 */
+#define FIR_NONE 4294967297ULL  /* in place of a bound: none is given */
+
+/* Lists the versions of an image with the most steps that a run of each can take. Whatever its level, its arguments and its
+ * buffer are, and into however many steps and budgets it is divided: a run never takes more steps than a bound given for its
+ * entry, as long as no change of its image was taken (fir_change). A bound need not be met: skipped parts, promises that are
+ * never forced and the longest version that a DISPATCH may enter all count.
+ *
+ * The row i is the version numbers[2 * i].numbers[2 * i + 1], and steps[i] its bound: its instructions and block ends in all
+ * blocks, promise bodies too, and for each CALL and DISPATCH the largest bound that it may reach, 0 where nothing fits. A
+ * DISPATCH may reach each version of its function that its signature and the level of its own version allow, whatever the
+ * kinds of the arguments are. FIR_NONE stands exactly where the version may come to itself, or to one that does; such runs
+ * end too, since a 33rd activation is DEEP, but no bound is given.
+ *
+ * Versions with a bound, or FIR_LARGE, stand behind all that they may reach, and among those that could stand at a place the
+ * one of the lowest function, then of the lowest version. Those with FIR_NONE come last, in order of number.
+ *
+ * The image is put to its questions first, so that no fir_check need come before it. `detail` is the number of rows, as many
+ * as the image has versions, or the offset of the refusal that fir_check gives. Both arrays are lent whole, 2 * FIR_ROWS and
+ * FIR_ROWS elements, however few versions the image has. Rows past the last stay as they were; a refusal writes nothing.
+ *
+ * Example:
+ *
+ *     static uint64_t most_steps(const uint8_t *image, size_t image_length, uint8_t function, uint8_t version)
+ *     {
+ *         uint8_t numbers[2 * FIR_ROWS];
+ *         uint64_t steps[FIR_ROWS];
+ *         fir_verdict listed = fir_bounds(image, image_length, numbers, steps);
+ *         size_t i;
+ *         if (listed.question == FIR_ACCEPTED)
+ *             for (i = 0; i < listed.detail; i++)
+ *                 if (numbers[2 * i] == function && numbers[2 * i + 1] == version)
+ *                     return steps[i];
+ *         return FIR_NONE;
+ *     }
+ */
+fir_verdict fir_bounds(const uint8_t *image, size_t image_length, uint8_t *numbers, uint64_t *steps);
 
 /* ---- Running ---- */
 

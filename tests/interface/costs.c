@@ -23,6 +23,8 @@ static int64_t buffer[FIR_ITEMS];
 static const int64_t words[] = {-1, 40};
 static uint8_t text[FIR_REPORT_BYTES];
 static uint8_t out[FIR_IMAGE_BYTES];
+static uint8_t row_numbers[2 * FIR_ROWS];
+static uint64_t row_steps[FIR_ROWS];
 static volatile uint64_t seen; /* of each answer, so that no call is left out */
 
 static void nothing(void) { seen++; }
@@ -36,6 +38,7 @@ static void question_text(void) { seen += fir_question_text(FIR_REFUSED_BOUNDS, 
 static void answer_text(void) { seen += fir_answer_text(FIR_STUCK, text, sizeof text); }
 static void narrow(void) { seen += fir_narrow(tried->bytes, tried->length, out, sizeof out).detail; }
 static void join(void) { seen += fir_join(tried->bytes, tried->length, tried->bytes, tried->length, out, sizeof out).detail; }
+static void bounds(void) { seen += fir_bounds(tried->bytes, tried->length, row_numbers, row_steps).detail; }
 static void widen(void) { seen += fir_widen(narrow_tried->bytes, narrow_tried->length, out, sizeof out).detail; }
 
 static void begin(void)
@@ -132,7 +135,7 @@ int main(void)
         void (*besides)(void);
     } calls[] = {{"fir_check", check, nothing}, {"fir_report", report, nothing}, {"fir_begin", begin, nothing},
                  {"fir_run, 1 step", run, nothing}, {"fir_change", change, nothing}, {"fir_widen", widen, nothing},
-                 {"fir_narrow", narrow, nothing}, {"fir_join, with itself", join, nothing}, {"fir_step", step, bring_back},
+                 {"fir_narrow", narrow, nothing}, {"fir_join, with itself", join, nothing}, {"fir_bounds", bounds, nothing}, {"fir_step", step, bring_back},
                  {"fir_budget, 1 step", budget, bring_back},
                  {"fir_where", where, nothing}, {"fir_search", search, nothing}, {"fir_look", look, nothing},
                  {"fir_question_text", question_text, nothing}, {"fir_answer_text", answer_text, nothing}};

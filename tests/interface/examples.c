@@ -160,6 +160,17 @@ static void joining(void)
                   "the buffer\n");
 }
 
+static void bounds(void)
+{
+    calling(&tried, FIR_PORTAL, FIR_PORTAL);
+    same("the most steps of 0.0", (size_t)most_steps(tried.bytes, tried.length, 0, 0), 3);
+    same("the most steps of 0.1", (size_t)most_steps(tried.bytes, tried.length, 0, 1), 1);
+    same("those of no version", most_steps(tried.bytes, tried.length, 1, 0) == FIR_NONE, 1);
+    same("those of no image", most_steps(tried.bytes, 0, 0, 0) == FIR_NONE, 1);
+    begins(words, 2);
+    same("the steps that are taken", run_by_slices(tried.bytes, tried.length, &state, items).steps, 3);
+}
+
 int main(void)
 {
     same("whether the library is the header's", (size_t)library_is_the_headers(), 1);
@@ -169,6 +180,7 @@ int main(void)
     without_words();
     positions();
     joining();
+    bounds();
     printf("examples: %u passed\n", tests);
     return 0;
 }

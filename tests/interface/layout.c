@@ -110,6 +110,8 @@ int main(void)
     same("sizeof fir_versions", sizeof(fir_versions), 8);
     AT(fir_versions, interface_number, 0);
     AT(fir_versions, state_layout, 4);
+    same("FIR_LARGE", FIR_LARGE == (uint64_t)UINT32_MAX + 1, 1);
+    same("FIR_NONE", FIR_NONE == FIR_LARGE + 1, 1);
     same("fir_version().interface_number", fir_version().interface_number, FIR_INTERFACE);
     same("fir_version().state_layout", fir_version().state_layout, FIR_STATE_LAYOUT);
     byte_order();

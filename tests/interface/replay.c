@@ -1,5 +1,5 @@
 /* Plays recorded cases, as the program `recorded` of tests/generator writes them, from standard input, and prints a sum over all that
- * the library answers and leaves: numbers, verdicts and texts, moves, images joined, states, buffers, positions and searches. On two machines the
+ * the library answers and leaves: numbers, verdicts and texts, moves, images joined, bounds, states, buffers, positions and searches. On two machines the
  * same cases print the same. */
 #include <stdio.h>
 #include <stdlib.h>
@@ -20,6 +20,8 @@ typedef struct image {
 static image images[2];
 static uint8_t out[FIR_IMAGE_BYTES];
 static uint8_t text[FIR_REPORT_BYTES];
+static uint8_t row_numbers[2 * FIR_ROWS];
+static uint64_t row_steps[FIR_ROWS];
 static int64_t words[WORDS];
 static int64_t buffer[PLACES];
 static fir_state state;
@@ -136,6 +138,18 @@ static void join(const image *image)
     add_bytes(out, sizeof out);
 }
 
+/* The most steps of its versions. */
+static void bound(const image *image)
+{
+    size_t i;
+    memset(row_numbers, 0, sizeof row_numbers);
+    memset(row_steps, 0, sizeof row_steps);
+    add_verdict(fir_bounds(image->bytes, image->length, row_numbers, row_steps));
+    add_bytes(row_numbers, sizeof row_numbers);
+    for (i = 0; i < FIR_ROWS; i++)
+        add(row_steps[i]);
+}
+
 /* What can be asked of the state. */
 static void look(const image *image)
 {
@@ -211,6 +225,7 @@ static void play(uint64_t length)
         words[i] = (int64_t)number();
     judge(in_force);
     join(in_force);
+    bound(in_force);
     memset(&state, 0, sizeof state);
     memset(buffer, 0, sizeof buffer);
     entry = fir_begin(in_force->bytes, in_force->length, (size_t)level, (size_t)function, (size_t)version, words, (size_t)count,

@@ -24,6 +24,8 @@ static image stored; /* in the form of 32 bits, which has 32,768 bytes in that o
 static image current; /* the same in the form of 64 bits */
 static image half; /* of which two have 32,768 bytes and 64 versions */
 static uint8_t out[FIR_IMAGE_BYTES];
+static uint8_t row_numbers[2 * FIR_ROWS];
+static uint64_t row_steps[FIR_ROWS];
 
 static void nothing(void) { }
 static void check(void) { fir_check(tried.bytes, tried.length); }
@@ -54,6 +56,12 @@ static void join(void)
     fir_join(searched.bytes, searched.length, tried.bytes, tried.length, out, sizeof out);
 }
 
+static void bounds(void)
+{
+    fir_bounds(tried.bytes, tried.length, row_numbers, row_steps);
+    fir_bounds(searched.bytes, searched.length, row_numbers, row_steps);
+}
+
 static void look(void) { fir_look(&state, 0, 3); }
 
 static void search(void)
@@ -71,8 +79,8 @@ static void where(void)
 static void question_text(void) { fir_question_text(FIR_REFUSED_BOUNDS, text, sizeof text); }
 static void answer_text(void) { fir_answer_text(FIR_STUCK, text, sizeof text); }
 
-/* Runs that are refused by 11, 19 where the entry is for the factory, 12 and 13, changes that are refused by 1 and by 15, moves that are by 3 and by 17, and
- * images that are not joined, by the first, the second and 23. */
+/* Runs that are refused by 11, 19 where the entry is for the factory, 12 and 13, changes that are refused by 1 and by 15, moves that are by 3 and by 17,
+ * images that are not joined, by the first, the second and 23, and bounds that are refused by 3. */
 static void refusals(void)
 {
     fir_begin(tried.bytes, tried.length, FIR_FACTORY, 31, 3, words, 2, buffer, FIR_ITEMS, &state);
@@ -87,6 +95,7 @@ static void refusals(void)
     fir_join(stored.bytes, stored.length, tried.bytes, tried.length, out, sizeof out);
     fir_join(tried.bytes, tried.length, stored.bytes, stored.length, out, sizeof out);
     fir_join(half.bytes, half.length, half.bytes, half.length, out, sizeof out - 1);
+    fir_bounds(stored.bytes, stored.length, row_numbers, row_steps);
 }
 
 static void *call(void *function)
@@ -121,8 +130,8 @@ int main(void)
     } calls[] = {{"fir_check", check}, {"fir_report", report}, {"fir_begin", begin}, {"fir_step", step},
                  {"fir_budget", budget}, {"fir_run", run}, {"fir_change", change}, {"fir_look", look},
                  {"fir_search", search}, {"fir_check_in", check_in}, {"fir_report_in", report_in}, {"fir_widen", widen},
-                 {"fir_narrow", narrow}, {"fir_join", join}, {"fir_where", where}, {"fir_question_text", question_text},
-                 {"fir_answer_text", answer_text}, {"refusals", refusals}};
+                 {"fir_narrow", narrow}, {"fir_join", join}, {"fir_bounds", bounds}, {"fir_where", where},
+                 {"fir_question_text", question_text}, {"fir_answer_text", answer_text}, {"refusals", refusals}};
     size_t least;
     size_t deepest[sizeof calls / sizeof *calls] = {0};
     size_t i, kind;

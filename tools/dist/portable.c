@@ -44,6 +44,7 @@ uint64_t fir_report_in_at(const slice *image, uint8_t form, const slice *text);
 void fir_widen_at(wide_verdict *to, const slice *image, const slice *out);
 void fir_narrow_at(wide_verdict *to, const slice *image, const slice *out);
 void fir_join_at(wide_joined *to, const slice *first, const slice *second, const slice *out);
+void fir_bounds_at(wide_verdict *to, const slice *image, uint8_t *numbers, uint64_t *steps);
 void fir_begin_at(fir_entry *to, const slice *image, uint64_t level, uint64_t function, uint64_t version, const slice *words,
                   const slice *buffer, fir_state *state);
 void fir_step_at(fir_said *to, const slice *image, fir_state *state);
@@ -162,6 +163,14 @@ fir_joined fir_join(const uint8_t *first, size_t first_length, const uint8_t *se
     to.question = wide.question;
     to.image = wide.image;
     return to;
+}
+
+fir_verdict fir_bounds(const uint8_t *image, size_t image_length, uint8_t *numbers, uint64_t *steps)
+{
+    const slice bytes = lent(image, image_length);
+    wide_verdict to;
+    fir_bounds_at(&to, &bytes, numbers, steps);
+    return verdict(to);
 }
 
 fir_entry fir_begin(const uint8_t *image, size_t image_length, size_t level, size_t function, size_t version,

@@ -1,9 +1,12 @@
-//! The proved library's answers in the words of the reference.
+//! The proved library's answers in the words of the reference. Each run is held to the
+//! bound of its entry.
 
+use crate::paced::{steps_of, Paced};
 use crate::snapshot::untouched;
-use library::{At, Entry, Ran, Run};
+use library::{At, Entry, Ran, Run, FIR_ROWS, ROW_NUMBERS};
 use reference::bounds::Steps;
-use reference::{Answer, End, Form, Integer, Position, Refusal, Said, Unjoined, Verdict};
+use reference::longest::Row;
+use reference::{Answer, Bound, End, Form, Integer, Position, Refusal, Said, Unjoined, Verdict};
 
 /// The proved library's verdict on an image.
 pub fn verdict(image: &[u8]) -> Verdict {
@@ -42,6 +45,30 @@ pub fn join(first: &[u8], second: &[u8], out: &mut [u8]) -> Result<usize, Unjoin
     })
 }
 
+/// Writes the rows of an image; how many they are.
+pub fn bounds_into(
+    image: &[u8],
+    numbers: &mut [u8; ROW_NUMBERS],
+    steps: &mut [u64; FIR_ROWS],
+) -> Result<usize, Refusal> {
+    library::bounds_into(image, numbers, steps).map_err(refusal)
+}
+
+/// The versions of an image with their bounds.
+pub fn bounds(image: &[u8]) -> Result<Vec<Row>, Refusal> {
+    let rows = library::bounds(image).map_err(refusal)?;
+    let row = |row: library::Row| Row {
+        function: row.function,
+        version: row.version,
+        bound: match row.bound {
+            library::Bound::Steps(steps) => Bound::Steps(steps),
+            library::Bound::Large => Bound::Large,
+            library::Bound::None => Bound::None,
+        },
+    };
+    Ok(rows.into_iter().map(row).collect())
+}
+
 /// A form as the library names it.
 fn form_of(form: Form) -> library::Form {
     match form {
@@ -71,31 +98,38 @@ pub fn begin<'i>(
     (function, version): (usize, usize),
     words: &[Integer],
     buffer: &[Integer],
-) -> (Run<'i>, Result<(), Refusal>) {
+) -> (Paced<'i>, Result<(), Refusal>) {
     let mut run = nothing_begun();
     let entry = Entry { function, version };
-    let begun = run.restart(image, level, entry, words, buffer);
-    (run, begun.map_err(refusal))
-}
-
-/// Takes a single step; what it says.
-pub fn step(run: &mut Run) -> Said {
-    match run.step() {
-        library::Said::GoesOn => Said::GoesOn,
-        library::Said::Ended(how) => Said::Ended(end(how)),
-        library::Said::Stuck => Said::Stuck,
+    match run.restart(image, level, entry, words, buffer) {
+        Ok(()) => (Paced::begun(run, (function, version), 0), Ok(())),
+        Err(no) => (Paced::free(run), Err(refusal(no))),
     }
 }
 
+/// Takes a single step; what it says.
+#[track_caller]
+pub fn step(run: &mut Paced) -> Said {
+    let goes_on = run.goes_on();
+    let step = |run: &mut Run| match run.step() {
+        library::Said::GoesOn => Said::GoesOn,
+        library::Said::Ended(how) => Said::Ended(end(how)),
+        library::Said::Stuck => Said::Stuck,
+    };
+    run.stepped(step, |&said| steps_of(goes_on, said))
+}
+
 /// Takes at most so many steps; the answer, and the steps taken.
-pub fn budget(run: &mut Run, budget: Steps, buffer: &mut [Integer]) -> (Answer, Steps) {
-    let Ran { answer, steps } = run.budget(budget, buffer);
+#[track_caller]
+pub fn budget(run: &mut Paced, budget: Steps, buffer: &mut [Integer]) -> (Answer, Steps) {
+    let Ran { answer, steps } =
+        run.stepped(|run| run.budget(budget, buffer), |ran| ran.steps.into());
     (answer_of(answer), steps)
 }
 
 /// Goes on under another image, or under the old one where that is refused.
-pub fn change(run: &mut Run, image: Vec<u8>) -> Result<(), Refusal> {
-    run.change(image).map_err(refusal)
+pub fn change(run: &mut Paced, image: Vec<u8>) -> Result<(), Refusal> {
+    run.changed(|run| run.change(image)).map_err(refusal)
 }
 
 /// How many versions the DISPATCH looks at that the run stands at, and of how many.
@@ -126,11 +160,15 @@ pub fn run<'i>(
     words: &[Integer],
     budget: Steps,
     buffer: &mut [Integer],
-) -> (Run<'i>, Answer, Steps) {
+) -> (Paced<'i>, Answer, Steps) {
     let mut run = nothing_begun();
     let entry = Entry { function, version };
-    let Ran { answer, steps } = run.rerun(image, level, entry, words, budget, buffer);
-    (run, answer_of(answer), steps)
+    let ran = run.rerun(image, level, entry, words, budget, buffer);
+    let paced = match ran.is_refused() {
+        true => Paced::free(run),
+        false => Paced::begun(run, (function, version), ran.steps),
+    };
+    (paced, answer_of(ran.answer), ran.steps)
 }
 
 /// The answer to a budget.

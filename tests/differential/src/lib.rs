@@ -1,11 +1,12 @@
 //! The proved library beside the reference: its answers in the words of the
-//! reference, the images at the edges, a second interpreter to time it against,
-//! and what compares answers.
+//! reference, runs that are held to the bounds of their entries, the images at the
+//! edges, a second interpreter to time it against, and what compares answers.
 
 pub mod comparison;
 pub mod difference;
 pub mod edges;
 pub mod engine;
+pub mod paced;
 pub mod snapshot;
 #[cfg(feature = "stand_in")]
 mod stand_in;

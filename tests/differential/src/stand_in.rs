@@ -12,11 +12,12 @@ use library::{
     FirAnswer, FirEntry, FirJoined, FirPosition, FirSaid, FirSearched, FirValue, FirVerdict,
     FirVersions, ACTIVATION, CELLS, FIR_ACCEPTED, FIR_AT_BLOCK_END, FIR_AT_INSTRUCTION, FIR_DEEP,
     FIR_FIRST_IMAGE, FIR_FORM_32, FIR_FORM_64, FIR_INTEGER, FIR_INTERFACE, FIR_IS_INTEGER,
-    FIR_IS_PROMISE, FIR_IS_VECTOR, FIR_NOTHING, FIR_NOWHERE, FIR_OUTSIDE, FIR_PROMISES,
-    FIR_REFUSED, FIR_SECOND_IMAGE, FIR_STATE_LAYOUT, FIR_STEPS, FIR_STUCK, FIR_UNDEF, FIR_VECTOR,
-    FIR_VECTORS, OWNER, PROMISE,
+    FIR_IS_PROMISE, FIR_IS_VECTOR, FIR_LARGE, FIR_NONE, FIR_NOTHING, FIR_NOWHERE, FIR_OUTSIDE,
+    FIR_PROMISES, FIR_REFUSED, FIR_ROWS, FIR_SECOND_IMAGE, FIR_STATE_LAYOUT, FIR_STEPS, FIR_STUCK,
+    FIR_UNDEF, FIR_VECTOR, FIR_VECTORS, OWNER, PROMISE, ROW_NUMBERS,
 };
 use reference::bounds::{ITEMS, REGISTERS};
+use reference::longest::{rows, Bound};
 use reference::state::Opener;
 use reference::{
     change, join, move_from, verdict_in, Answer, End, Form, Position, Program, Refusal, Said,
@@ -319,6 +320,39 @@ unsafe extern "C" fn fir_join(
         detail,
         question,
         image,
+    }
+}
+
+#[no_mangle]
+unsafe extern "C" fn fir_bounds(
+    image: *const u8,
+    length: usize,
+    numbers: *mut u8,
+    steps: *mut u64,
+) -> FirVerdict {
+    let rows = match program(lent(image, length)) {
+        Ok(program) => rows(&program),
+        Err(refusal) => {
+            return FirVerdict {
+                detail: refusal.offset,
+                question: refusal.number,
+            }
+        }
+    };
+    let numbers = slice::from_raw_parts_mut(numbers, ROW_NUMBERS);
+    let steps = slice::from_raw_parts_mut(steps, FIR_ROWS);
+    for (index, row) in rows.iter().enumerate() {
+        numbers[2 * index] = row.function;
+        numbers[2 * index + 1] = row.version;
+        steps[index] = match row.bound {
+            Bound::Steps(steps) => steps.into(),
+            Bound::Large => FIR_LARGE,
+            Bound::None => FIR_NONE,
+        };
+    }
+    FirVerdict {
+        detail: rows.len(),
+        question: FIR_ACCEPTED,
     }
 }
 

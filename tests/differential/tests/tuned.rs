@@ -5,7 +5,7 @@ use differential::workloads::workloads;
 use generator::{accepted, accepted_of, begun, Random, Special, Tally, Theme};
 use reference::bounds::{Steps, BUFFER};
 use reference::watched::{Watched, ENDINGS};
-use reference::{Answer, Program};
+use reference::{longest, Answer, Bound, Program, State};
 
 /// How many generated programs are run.
 const PROGRAMS: u64 = 12_000;
@@ -26,6 +26,15 @@ fn any_budget(random: &mut Random) -> Steps {
     }
 }
 
+/// The most steps that a begun run takes; no limit where it has no bound.
+fn bound_of(program: &Program, begun: &State) -> usize {
+    let first = &begun.frames[0];
+    match longest::bound_of(program, first.function.into(), first.version.into()) {
+        Some(Bound::Steps(steps)) => steps as usize,
+        _ => usize::MAX,
+    }
+}
+
 /// Runs a program from its entry on both, by budgets of any size, past its end.
 fn compare(image: &[u8], seed: u64, met: &mut Tally<&'static str>) {
     let program = Program::accept(image).expect("an accepted image");
@@ -34,6 +43,7 @@ fn compare(image: &[u8], seed: u64, met: &mut Tally<&'static str>) {
     };
     let code = Code::new(&program);
     let mut tuned = Machine::new(&program, &code, &state);
+    let bound = bound_of(&program, &state);
     let mut random = Random::new(seed);
     let mut taken = 0;
     for _ in 0..200 {
@@ -43,6 +53,7 @@ fn compare(image: &[u8], seed: u64, met: &mut Tally<&'static str>) {
         assert_eq!(tuned.budget(budget), (answer, steps), "seed {seed}");
         assert_eq!(tuned.result(), state.result, "seed {seed}");
         taken += steps as usize;
+        assert!(taken <= bound, "seed {seed}: {taken} steps of {bound}");
         if taken > MOST || (steps == 0 && matches!(answer, Answer::Ended(_))) {
             break;
         }

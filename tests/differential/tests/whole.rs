@@ -2,6 +2,7 @@
 
 use differential::difference::difference;
 use differential::engine;
+use differential::paced::Paced;
 use differential::snapshot::{state_of, untouched};
 use generator::{accepted, entry, level, words, Random};
 use library::{Held, Run, CELLS};
@@ -40,7 +41,7 @@ fn assert_same_at_higher_levels<'i>(
     level: usize,
     (run, answer, steps): (&Run, Answer, Steps),
     buffer: &[Integer],
-    begin: impl Fn(usize, &mut [Integer]) -> (Run<'i>, Answer, Steps),
+    begin: impl Fn(usize, &mut [Integer]) -> (Paced<'i>, Answer, Steps),
 ) {
     for higher in [level.saturating_add(1), level.max(HIGHEST), usize::MAX] {
         let mut again = vec![-7; buffer.len()];

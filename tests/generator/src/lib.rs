@@ -8,6 +8,7 @@
 
 mod before;
 mod damage;
+mod dependence;
 mod draft;
 mod ends;
 mod fact;
@@ -26,6 +27,7 @@ mod theme;
 mod update;
 mod world;
 
+pub use dependence::{exact, Depending, Shape};
 pub use faults::{call_up, level_fault, LEVEL_FAULTS, PLACES_OF_CALLS};
 pub use grow::Trap;
 pub use joins::Join;
@@ -96,6 +98,12 @@ pub fn to_join(seed: u64) -> Join {
 /// An accepted image that is to be joined, mostly a small one.
 pub fn to_join_with(seed: u64) -> Vec<u8> {
     joins::program(&mut Random::new(seed)).bytes()
+}
+
+/// An image whose versions depend on each other in chains, loops, diamonds or crowds, one
+/// of a given bound, one that was grown for runs, or one that a question refuses.
+pub fn depending(seed: u64) -> Depending {
+    dependence::any(&mut Random::new(seed))
 }
 
 /// An image that a question of 1 to 10, 14 or 18 should refuse.

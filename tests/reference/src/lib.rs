@@ -17,6 +17,7 @@
 //! | Moving stored images | [`moves`] |
 //! | Two images into one | [`joins`] |
 //! | Levels of staff | [`types`], [`questions`], [`begin`], [`search`], [`monitor`] |
+//! | How long at most | [`longest`] |
 
 pub mod begin;
 pub mod bounds;
@@ -27,6 +28,7 @@ pub mod form;
 pub mod instruction;
 pub mod joins;
 pub mod kinds;
+pub mod longest;
 pub mod monitor;
 pub mod moves;
 pub mod outside;
@@ -47,6 +49,7 @@ pub use change::change;
 pub use form::{Form, Range};
 pub use instruction::{Instruction, Name, Register};
 pub use joins::{join, join_accepted, Unjoined};
+pub use longest::{bounds_of, Bound};
 pub use moves::{move_accepted, move_from, moved, widened};
 pub use position::Position;
 pub use program::Program;

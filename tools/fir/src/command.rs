@@ -39,6 +39,8 @@ pub enum Command {
     Trace {
         /// The run.
         call: Call,
+        /// Are the sums of its steps to be printed?
+        stats: bool,
         /// Is JSON to be printed?
         json: bool,
         /// The file of the page, if one is to be written.
@@ -46,6 +48,8 @@ pub enum Command {
     },
     /// `fir debug`
     Debug(Call),
+    /// `fir bounds`
+    Bounds(Bounds),
     /// `fir lint`
     Lint(Lint),
     /// `fir move`
@@ -69,6 +73,21 @@ pub struct Check {
     pub files: Vec<OsString>,
     /// The form whose questions they are put to.
     pub form: Form,
+    /// Is JSON to be printed?
+    pub json: bool,
+}
+
+/// Images whose versions are to be listed with their bounds.
+#[derive(Clone, PartialEq, Eq, Debug)]
+pub struct Bounds {
+    /// The images.
+    pub files: Vec<OsString>,
+    /// The most steps that an entry may take, if that is asked.
+    pub under: Option<u32>,
+    /// The entries that it is asked of; all versions where there is none.
+    pub entries: Vec<Entry>,
+    /// Is it to be said what bounds are made of?
+    pub why: bool,
     /// Is JSON to be printed?
     pub json: bool,
 }
@@ -182,6 +201,7 @@ fn parse_command(name: &str, words: Words) -> Result<Command, String> {
         "run" => parse_run(words),
         "trace" => parse_trace(words),
         "debug" => parse_debug(words).map(Command::Debug),
+        "bounds" => parse_bounds(words).map(Command::Bounds),
         "lint" => parse_lint(words).map(Command::Lint),
         "move" => parse_move(words).map(Command::Move),
         "join" => parse_join(words).map(Command::Join),
@@ -201,13 +221,38 @@ fn parse_check(mut words: Words) -> Result<Check, String> {
     Ok(Check { files, form, json })
 }
 
+/// Images whose versions are to be listed with their bounds.
+fn parse_bounds(mut words: Words) -> Result<Bounds, String> {
+    let (why, json) = (words.flag("--why")?, words.flag("--json")?);
+    let under = words.option("--under")?;
+    let under = under.map(|text| parse_steps(&text, "number of steps"));
+    let under = under.transpose()?;
+    let entries = parse_entries(&mut words)?;
+    if under.is_none() && !entries.is_empty() {
+        return Err("--entry stands beside --under alone".to_string());
+    }
+    let files = words.files()?;
+    ask_standard_input_once(&files)?;
+    Ok(Bounds {
+        files,
+        under,
+        entries,
+        why,
+        json,
+    })
+}
+
+/// The versions that --entry names.
+fn parse_entries(words: &mut Words) -> Result<Vec<Entry>, String> {
+    let entries = words.options("--entry");
+    let entries = entries.iter().map(|entry| parse_entry(&plain(entry)?));
+    entries.collect()
+}
+
 /// Images that are to be looked through.
 fn parse_lint(mut words: Words) -> Result<Lint, String> {
     let json = words.flag("--json")?;
-    let entries = words.options("--entry");
-    let entries = entries.iter().map(|entry| parse_entry(&plain(entry)?));
-    let entries: Result<Vec<Entry>, String> = entries.collect();
-    let entries = entries?;
+    let entries = parse_entries(&mut words)?;
     let files = words.files()?;
     ask_standard_input_once(&files)?;
     Ok(Lint {
@@ -227,6 +272,7 @@ fn parse_run(mut words: Words) -> Result<Command, String> {
 /// `fir trace`
 fn parse_trace(mut words: Words) -> Result<Command, String> {
     let (json, html) = (words.flag("--json")?, words.option("--html")?);
+    let stats = words.flag("--stats")?;
     if json && html.is_some() {
         return Err("--json and --html do not go together".to_string());
     }
@@ -238,7 +284,12 @@ fn parse_trace(mut words: Words) -> Result<Command, String> {
         return Err(format!("`{file}` would hold a page, and .fir names texts"));
     }
     let call = parse_call(words, TRACE_BUDGET)?;
-    Ok(Command::Trace { call, json, html })
+    Ok(Command::Trace {
+        call,
+        stats,
+        json,
+        html,
+    })
 }
 
 /// `fir debug`
@@ -278,7 +329,7 @@ fn ask_standard_input_once(files: &[OsString]) -> Result<(), String> {
 /// A run, with the budget that it has where the words name none.
 fn parse_call(mut words: Words, mut budget: u32) -> Result<Call, String> {
     if let Some(text) = words.option("--budget")? {
-        budget = parse_budget(&text)?;
+        budget = parse_steps(&text, "budget")?;
     }
     let level = parse_level(&mut words)?;
     let then = parse_changes(&words.options("--then"))?;
@@ -393,10 +444,10 @@ fn parse_form(words: &mut Words, option: &str) -> Result<Form, String> {
     }
 }
 
-/// A number of steps.
-fn parse_budget(text: &OsStr) -> Result<u32, String> {
+/// A number of steps; `what` it is called in a message.
+fn parse_steps(text: &OsStr, what: &str) -> Result<u32, String> {
     let text = plain(text)?;
-    let wrong = || format!("`{text}` is no budget of 0 to {}", u32::MAX);
+    let wrong = || format!("`{text}` is no {what} of 0 to {}", u32::MAX);
     text.parse().map_err(|_| wrong())
 }
 

@@ -1,5 +1,6 @@
 //! What each command does.
 
+use crate::bounds;
 use crate::checking;
 use crate::command::{Command, Conversion};
 use crate::debug;
@@ -8,7 +9,7 @@ use crate::failure::{Failure, Status};
 use crate::joining;
 use crate::lint;
 use crate::moving;
-use crate::running::{self, Manner};
+use crate::running::{self, Manner, Showing};
 use crate::source::{self, Source};
 use crate::streams::Streams;
 use crate::telling::Format;
@@ -26,12 +27,18 @@ pub fn execute(command: &Command, streams: &mut Streams) -> Result<Status, Failu
                 true => Manner::Counted,
                 false => Manner::Budgets,
             };
-            running::run(call, manner, format(*json), streams)
+            running::run(call, showing(manner, *stats, *json), streams)
         }
-        Command::Trace { call, json, html } => {
+        Command::Trace {
+            call,
+            stats,
+            json,
+            html,
+        } => {
             let manner = html.as_deref().map_or(Manner::Steps, Manner::Page);
-            running::run(call, manner, format(*json), streams)
+            running::run(call, showing(manner, *stats, *json), streams)
         }
+        Command::Bounds(asked) => bounds::all(asked, streams),
         Command::Debug(call) => debug::debug(call, streams),
         Command::Lint(asked) => lint::all(asked, streams),
         Command::Move(asked) => moving::all(asked, streams),
@@ -56,11 +63,15 @@ fn print(text: &str, streams: &mut Streams) -> Result<Status, Failure> {
     DONE
 }
 
-/// How things are printed.
-fn format(json: bool) -> Format {
-    match json {
-        true => Format::Json,
-        false => Format::Lines,
+/// How a run is done and shown.
+fn showing(manner: Manner, stats: bool, json: bool) -> Showing {
+    Showing {
+        manner,
+        format: match json {
+            true => Format::Json,
+            false => Format::Lines,
+        },
+        stats,
     }
 }
 

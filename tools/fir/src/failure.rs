@@ -21,6 +21,17 @@ pub enum Status {
     Steps = 5,
 }
 
+impl Status {
+    /// That of two files: what could not be read weighs more than what was found.
+    pub fn worse(self, other: Status) -> Status {
+        if self as u8 > other as u8 {
+            self
+        } else {
+            other
+        }
+    }
+}
+
 /// What is wrong with a text, and where.
 #[derive(Clone, PartialEq, Eq, Debug)]
 pub struct Wrong {

@@ -1,6 +1,8 @@
 //! The commands with their options, and the help texts.
 
-use crate::manual::{ASM, CHECK, COMPLETION, DEBUG, DIS, EXPLAIN, JOIN, LINT, MOVE, RUN, TRACE};
+use crate::manual::{
+    ASM, BOUNDS, CHECK, COMPLETION, DEBUG, DIS, EXPLAIN, JOIN, LINT, MOVE, RUN, TRACE,
+};
 use crate::options::{Opt, Takes};
 
 /// A command with its help text.
@@ -69,9 +71,11 @@ name ends in .fir; `-` is standard input. A message on a text begins with
 FILE:LINE:COLUMN.
 
 exit status:
-  0  accepted; DONE; moved; joined; assembled; nothing found by lint
-  1  refused; a text that does not assemble; something found by lint; a trace or a
-     conversion whose reader has gone
+  0  accepted; DONE; moved; joined; assembled; nothing found by lint; no entry over
+     a bound
+  1  refused; a text that does not assemble; something found by lint; an entry over
+     the steps that bounds --under allows; a trace or a conversion whose reader has
+     gone
   2  bad usage, or a file that cannot be read or written
   3  UNDEF
   4  a stop: DEEP, VECTORS or PROMISES
@@ -106,6 +110,18 @@ const JSON: Opt = Opt {
     words: "prints JSON, an object on each line",
 };
 
+const STATS: Opt = Opt {
+    name: "--stats",
+    takes: Takes::Nothing,
+    words: "counts steps, calls and searches, and says the bound",
+};
+
+const ENTRY: Opt = Opt {
+    name: "--entry",
+    takes: Takes::Value("F.V"),
+    words: "a version that runs enter; several may stand",
+};
+
 const OUT: Opt = Opt {
     name: "-o",
     takes: Takes::File("OUT"),
@@ -119,7 +135,7 @@ const FORMS: Takes = Takes::One(&["32", "64"]);
 const SHELLS: &str = "bash|zsh|fish";
 
 /// The commands.
-pub const COMMANDS: [Topic; 11] = [
+pub const COMMANDS: [Topic; 12] = [
     Topic {
         name: "check",
         given: "FILE..",
@@ -143,11 +159,7 @@ pub const COMMANDS: [Topic; 11] = [
             LEVEL,
             BUDGET,
             THEN,
-            Opt {
-                name: "--stats",
-                takes: Takes::Nothing,
-                words: "counts steps, calls and searches",
-            },
+            STATS,
             JSON,
         ],
         words: RUN,
@@ -161,6 +173,7 @@ pub const COMMANDS: [Topic; 11] = [
             LEVEL,
             BUDGET,
             THEN,
+            STATS,
             JSON,
             Opt {
                 name: "--html",
@@ -180,17 +193,31 @@ pub const COMMANDS: [Topic; 11] = [
         status: "0 the debugger was left, 1 refused, 2 bad usage",
     },
     Topic {
-        name: "lint",
+        name: "bounds",
         given: "FILE..",
-        summary: "what an accepted image has and does not need",
+        summary: "how many steps a run of each version takes at most",
         options: &[
             Opt {
-                name: "--entry",
-                takes: Takes::Value("F.V"),
-                words: "a version that runs enter; several may stand",
+                name: "--under",
+                takes: Takes::Value("N"),
+                words: "fails where an entry may take more than N steps",
+            },
+            ENTRY,
+            Opt {
+                name: "--why",
+                takes: Takes::Nothing,
+                words: "says what each bound is made of",
             },
             JSON,
         ],
+        words: BOUNDS,
+        status: "0 listed, 1 an entry over N, or refused, 2 bad usage or a file that\ncannot be read",
+    },
+    Topic {
+        name: "lint",
+        given: "FILE..",
+        summary: "what an accepted image has and does not need",
+        options: &[ENTRY, JSON],
         words: LINT,
         status: "0 nothing found, 1 something found, or refused, 2 bad usage",
     },

@@ -1,11 +1,12 @@
 //! The command-line tool `fir`: it checks, runs, traces, moves, joins, assembles
-//! and disassembles FIR images.
+//! and disassembles FIR images, and says how many steps their runs can take.
 //!
-//! Verdicts, runs, single steps, moved and joined images are those of the proved library. What
+//! Verdicts, bounds, runs, single steps, moved and joined images are those of the proved library. What
 //! the tool adds are words: why an image or a run is refused, and what a step did; and
 //! files that are written whole.
 
 mod arguments;
+mod bounds;
 mod checking;
 mod command;
 mod commands;

@@ -57,7 +57,9 @@ the command ends with status 1; a controller would go on under the old image. An
 image whose step the run does not come to is named as not reached.
 
 With --stats it prints at the end what the steps were, under all images:
-  steps: 26            those that counted
+  steps: 26 of at most 31
+                       those that counted, and the bound of F.V by `fir bounds`,
+                       which is left out where the run went on under another image
   calls: 3             that CALL and DISPATCH opened
   DISPATCH steps: 2, looked at 5 of 8 versions
 The search of a DISPATCH ends at the first version that fits, or has looked at all
@@ -70,7 +72,8 @@ and `taken`, and one for the result, with `result` (DONE, UNDEF, STEPS, DEEP,
 VECTORS, PROMISES or refused), `steps`, the `value` of DONE, and else where the run
 stands: `offset`, `line` and `column` of a text, `version`, `block`, `text` and the
 `cause` of UNDEF. A refusal has `question`, `offset` and `words`. --stats adds
-`stats`, images that were not reached are in `not_reached`. Where a file has no image
+`stats`, with the `bound` (a number, `large` or `none`, and null under another
+image); images that were not reached are in `not_reached`. Where a file has no image
 `result` is failed, with `file` and what `fir check --json` says of it.
 
 A file, FILE or IMAGE, is a text or an image's bytes by what it holds, and always a
@@ -97,8 +100,8 @@ the instruction or the end of the block, and what changed:
                     those above its level, of those that the function has
   forces p0 in block 1 of call 0, ends the force of p0 with 5
   skips 3, does not skip
-Then it prints the result as `fir run` does. --then goes as there, with a line
-where the run goes on under another image.
+Then it prints the result as `fir run` does. --then and --stats go as there, with a
+line where the run goes on under another image.
 
 With --json each step is an object with `step`, `depth`, `version`, `block`,
 `offset`, `text`, `did` and on a text `line` and `column`; then come those of
@@ -139,6 +142,51 @@ of the proved library. `back` begins the run anew and takes one step less.
 
 FILE is a text or an image's bytes by what it holds, and always a text where its
 name ends in .fir.
+";
+
+/// `fir bounds`
+pub const BOUNDS: &str = "\
+Lists the versions of an image with the most steps that a run of each can take,
+whatever its arguments, its level and its budgets are, as long as it does not go on
+under another image:
+  0.0 26 steps   a run of 0.0 never takes more
+  0.1 large      the bound is above 4,294,967,295
+  0.2 none: 0.2 calls 2.1 calls 0.2
+                 no bound is given: a chain of calls from the version comes back to
+                 a version on it, and the shortest such chain is named
+On a text each line begins with FILE:LINE:COLUMN, where the version stands. Those
+with a bound, or a large one, stand behind all that they may call, the lowest number
+first; those with none come last.
+
+A bound counts all instructions and block ends of the version, of promise blocks and
+of skipped parts too, and for each CALL and DISPATCH the largest bound of those that
+it may enter: by DISPATCH all that its level and all of its signature but the kinds
+of the arguments allow. So a run may well take fewer steps.
+
+With --under N the exit status is 1 where an entry may take more than N steps; its
+line says so. A large bound, and none, are more than any N. Entries are all versions,
+or those that --entry names.
+
+With --why each line is followed by what the bound is made of: the instructions and
+block ends of the version's own, and each CALL and DISPATCH with the largest bound
+that it may reach.
+
+An image that is refused gets the line of `fir check`.
+
+FILE is a text or an image's bytes by what it holds, and always a text where its
+name ends in .fir; `-` is standard input.
+
+With --json each version is an object with `file`, `version`, `bound` (a number of
+steps, `large` or `none`), `offset`, on a text `line` and `column`, for none the
+`chain`, with --under `over`, and with --why `why`: `instructions`, `block_ends` and
+`calls`, each with `offset`, `call`, `largest` and what it `reaches`. An image that is
+refused has the `result` refused, and a file without an image the `result` failed,
+each with what `fir check --json` says of it.
+
+example:
+  $ fir bounds script.fir --under 100
+  script.fir:31:1: 1.0 7 steps
+  script.fir:15:1: 0.0 none, over 100: 0.0 calls 0.0
 ";
 
 /// `fir lint`

@@ -2,6 +2,7 @@
 //! the images that it goes on under.
 
 use crate::arguments::words;
+use crate::bounds;
 use crate::command::Call;
 use crate::failure::{Failure, Status};
 use crate::page::Recorder;
@@ -21,12 +22,23 @@ use std::path::Path;
 pub enum Manner<'a> {
     /// By budgets: nothing is printed of them.
     Budgets,
-    /// One by one: what they were is counted, and the sums are printed.
+    /// One by one: what they were is counted.
     Counted,
     /// One by one: each is printed.
     Steps,
     /// One by one: a page that shows them is written to a file.
     Page(&'a OsStr),
+}
+
+/// How a run is done and shown.
+#[derive(Clone, Copy, PartialEq, Eq, Debug)]
+pub struct Showing<'a> {
+    /// How its steps are taken.
+    pub manner: Manner<'a>,
+    /// How things are printed.
+    pub format: Format,
+    /// Are the sums of its steps printed, which a manner other than budgets counts?
+    pub stats: bool,
 }
 
 /// An image that a run is to go on under.
@@ -69,16 +81,11 @@ pub fn begin<'s>(source: &'s Source, call: &Call) -> Result<Run<'s>, Refused> {
 }
 
 /// Does a run that is asked for; the exit status.
-pub fn run(
-    call: &Call,
-    manner: Manner,
-    format: Format,
-    streams: &mut Streams,
-) -> Result<Status, Failure> {
-    ask_page_apart(call, manner)?;
+pub fn run(call: &Call, showing: Showing, streams: &mut Streams) -> Result<Status, Failure> {
+    ask_page_apart(call, showing.manner)?;
     match Images::read(call, streams) {
-        Ok(images) => images.run(call, manner, format, streams),
-        Err(unread) => format.failed(unread, streams),
+        Ok(images) => images.run(call, showing, streams),
+        Err(unread) => showing.format.failed(unread, streams),
     }
 }
 
@@ -97,22 +104,16 @@ impl Images {
     }
 
     /// Does the run; the exit status.
-    fn run(
-        &self,
-        call: &Call,
-        manner: Manner,
-        format: Format,
-        streams: &mut Streams,
-    ) -> Result<Status, Failure> {
+    fn run(&self, call: &Call, showing: Showing, streams: &mut Streams) -> Result<Status, Failure> {
         let Images { first, changes } = self;
         let run = match begin(first, call) {
             Ok(run) => run,
             Err(refused) => {
-                let told = format.refused(first, &refused, streams);
+                let told = showing.format.refused(first, &refused, streams);
                 return answered(Status::No, told);
             }
         };
-        let mut going = Going::new(first, run, call, (manner, format));
+        let mut going = Going::new(first, run, call, showing);
         for (index, next) in changes.iter().enumerate() {
             going.go_to(next.step.min(call.budget), streams)?;
             if going.steps < next.step {
@@ -134,10 +135,8 @@ struct Going<'s> {
     source: &'s Source,
     /// The steps taken so far.
     steps: u32,
-    /// How they are taken.
-    manner: Manner<'s>,
-    /// How things are printed.
-    format: Format,
+    /// How they are taken and shown.
+    showing: Showing<'s>,
     /// What is counted of them, if it is.
     stats: Stats,
     /// What the page shows, if there is one.
@@ -146,40 +145,39 @@ struct Going<'s> {
 
 impl<'s> Going<'s> {
     /// A run of an image before its first step.
-    fn new(
-        source: &'s Source,
-        run: Run<'s>,
-        call: &Call,
-        (manner, format): (Manner<'s>, Format),
-    ) -> Going<'s> {
-        let page = matches!(manner, Manner::Page(_));
+    fn new(source: &'s Source, run: Run<'s>, call: &Call, showing: Showing<'s>) -> Going<'s> {
+        let page = matches!(showing.manner, Manner::Page(_));
+        let bound = showing
+            .stats
+            .then(|| bounds::of_entry(&source.image, call.entry));
         Going {
             recorder: page.then(|| Recorder::new(source, call, run.state())),
             run,
             source,
             steps: 0,
-            manner,
-            format,
-            stats: Stats::default(),
+            showing,
+            stats: Stats::new(bound.flatten()),
         }
     }
 
     /// Takes steps until so many are taken in all, or the run has ended.
     fn go_to(&mut self, steps: u32, streams: &mut Streams) -> Result<(), Failure> {
-        let (source, format) = (self.source, self.format);
-        let (run, taken) = (&mut self.run, self.steps);
-        self.steps = match self.manner {
+        let (source, format) = (self.source, self.showing.format);
+        let (run, stats, taken) = (&mut self.run, &mut self.stats, self.steps);
+        self.steps = match self.showing.manner {
             Manner::Budgets => {
                 let budget = steps.saturating_sub(taken);
                 taken + run.budget(budget, &mut [0; FIR_ITEMS]).steps
             }
-            Manner::Counted => self.stats.steps(run, taken, steps),
+            Manner::Counted => stats.steps(run, taken, steps),
             Manner::Steps => trace::steps(run, taken, steps, &mut |step, after| {
+                stats.meet(step, after);
                 format.step(source, step, after, streams)
             })?,
             Manner::Page(_) => {
                 let recorder = &mut self.recorder;
                 trace::steps(run, taken, steps, &mut |step, after| {
+                    stats.meet(step, after);
                     recorder
                         .iter_mut()
                         .for_each(|page| page.record(step, after));
@@ -200,11 +198,13 @@ impl<'s> Going<'s> {
             return Ok(Err(self.refused(source, no)));
         }
         self.source = source;
+        self.stats.change();
         let state = self.run.state();
         let page = self.recorder.iter_mut();
         page.for_each(|page| page.change(source, state));
         let tried = self.tried(source);
-        self.format.changed(&tried, None, streams).map(Ok)
+        let format = self.showing.format;
+        format.changed(&tried, None, streams).map(Ok)
     }
 
     /// Why another image is refused.
@@ -226,8 +226,8 @@ impl<'s> Going<'s> {
         streams: &mut Streams,
     ) -> Result<Status, Failure> {
         let tried = self.tried(new);
-        let told = self.format.changed(&tried, Some(refused), streams);
-        let format = self.format;
+        let format = self.showing.format;
+        let told = format.changed(&tried, Some(refused), streams);
         let mut buffer = [0; FIR_ITEMS];
         let ending = self.ending(&[], &mut buffer);
         let told = told.and_then(|()| format.left(&ending, streams));
@@ -237,7 +237,7 @@ impl<'s> Going<'s> {
 
     /// Prints how the run ended, and the images that it did not come to; the exit status.
     fn finish(mut self, left: &[Next], streams: &mut Streams) -> Result<Status, Failure> {
-        let format = self.format;
+        let format = self.showing.format;
         let mut buffer = [0; FIR_ITEMS];
         let ending = self.ending(left, &mut buffer);
         let status = telling::status(ending.answer);
@@ -249,7 +249,7 @@ impl<'s> Going<'s> {
 
     /// Writes the page of the run, which came to this, if one is asked for.
     fn write_page(self, result: &str) -> Result<(), Failure> {
-        match (self.manner, self.recorder) {
+        match (self.showing.manner, self.recorder) {
             (Manner::Page(file), Some(recorder)) => {
                 writing::whole(Path::new(file), recorder.page(result).as_bytes())
             }
@@ -262,7 +262,6 @@ impl<'s> Going<'s> {
         let Ran { answer, .. } = self.run.budget(0, buffer);
         let done = telling::status(answer) == Status::Yes;
         let standing = trace::standing(self.source, &self.run);
-        let counted = self.manner == Manner::Counted;
         Ending {
             answer,
             buffer,
@@ -270,7 +269,7 @@ impl<'s> Going<'s> {
             source: self.source,
             standing: standing.filter(|_| !done),
             left: left.iter().map(Next::named).collect(),
-            stats: counted.then_some(&self.stats),
+            stats: self.showing.stats.then_some(&self.stats),
         }
     }
 }

@@ -1,10 +1,13 @@
-//! `fir run --stats`: what the steps of a run were, counted one by one.
+//! `--stats`: what the steps of a run were, counted one by one, beside the most that it
+//! can take.
 
+use crate::bounds;
 use crate::failure::Failure;
 use crate::json::Json;
 use crate::single::Single;
 use crate::streams::Streams;
-use library::{Run, Search};
+use crate::trace::Step;
+use library::{Bound, Run, Search, State};
 
 /// What was counted of a run.
 #[derive(Default)]
@@ -17,9 +20,30 @@ pub struct Stats {
     looked: u64,
     /// How many versions the functions had that they searched.
     versions: u64,
+    /// The bound of the entry; none once the run has gone on under another image.
+    bound: Option<Bound>,
 }
 
 impl Stats {
+    /// Nothing yet of a run whose entry has this bound.
+    pub fn new(bound: Option<Bound>) -> Stats {
+        Stats {
+            bound,
+            ..Stats::default()
+        }
+    }
+
+    /// Notes that the run goes on under another image.
+    pub fn change(&mut self) {
+        self.bound = None;
+    }
+
+    /// Counts a step that counts, and the state that it leaves.
+    pub fn meet(&mut self, step: &Step, after: &State) {
+        self.calls += u64::from(after.calls > step.before.calls);
+        self.add(step.search);
+    }
+
     /// Takes single steps until so many are taken in all, and counts them; how many
     /// are taken then.
     pub fn steps(&mut self, run: &mut Run, taken: u32, wished: u32) -> u32 {
@@ -55,8 +79,15 @@ impl Stats {
             dispatches,
             looked,
             versions,
+            bound,
         } = self;
-        streams.line(&format!("  steps: {steps}"))?;
+        let most = match bound {
+            None => String::new(),
+            Some(Bound::Steps(most)) => format!(" of at most {most}"),
+            Some(Bound::Large) => ", the bound is large".to_string(),
+            Some(Bound::None) => ", no bound is given".to_string(),
+        };
+        streams.line(&format!("  steps: {steps}{most}"))?;
         streams.line(&format!("  calls: {calls}"))?;
         streams.line(&format!(
             "  DISPATCH steps: {dispatches}, looked at {looked} of {versions} versions"
@@ -67,6 +98,7 @@ impl Stats {
     pub fn json(&self, steps: u32) -> Json {
         Json::Object(vec![
             ("steps", steps.into()),
+            ("bound", self.bound.map(bounds::json).into()),
             ("calls", self.calls.into()),
             ("dispatches", self.dispatches.into()),
             ("looked_at", self.looked.into()),

@@ -114,6 +114,78 @@ fn no_script_is_left_out() {
     assert_eq!(names, SCRIPTS);
 }
 
+/// An entry of a script with the arguments of a longest run of it, its steps, and its
+/// bound in words.
+const LONGEST: [(&str, &str, &[&str], u32, &str); 11] = [
+    ("defrost.fir", "0.0", &["15", "-75", "55"], 24, "24 steps"),
+    ("energy.fir", "0.0", &["0", "900", SIXTEEN], 170, "none"),
+    ("levels.fir", "0.0", &["[5120,840,37]"], 8, "8 steps"),
+    ("levels.fir", "0.1", &["[5120,840,37]"], 10, "10 steps"),
+    ("levels.fir", "0.2", &["[5120,840,37]"], 4, "10 steps"),
+    ("pump.fir", "0.0", &["210", "[200,195,225]"], 18, "18 steps"),
+    (
+        "pump_later.fir",
+        "0.0",
+        &["210", "[225,225,225]"],
+        30,
+        "30 steps",
+    ),
+    ("riser.fir", "0.0", &["[800,2400,1900]"], 176, "176 steps"),
+    ("setback.fir", "0.0", &["20", "23"], 26, "26 steps"),
+    ("spread.fir", "0.0", &["[350,29]", "[290,31]"], 7, "7 steps"),
+    ("spread.fir", "1.0", &["350", "290"], 2, "2 steps"),
+];
+
+/// As many readings as a vector can have.
+const SIXTEEN: &str = "[1,2,3,4,5,6,7,8,9,10,11,12,13,14,15,16]";
+
+#[test]
+fn bounds_stand_beside_the_longest_runs() {
+    for (script, entry, arguments, steps, bound) in LONGEST {
+        let path = format!("{EXAMPLES}{script}");
+        let rows = fir(&["bounds", &path], b"").text();
+        let row = format!(": {entry} {bound}");
+        let mut rows = rows.lines();
+        let found = rows.any(|line| line.ends_with(&row) || line.contains(&format!("{row}: ")));
+        assert!(found, "{script}: {row}");
+        let call = [&["run", &path, entry, "--stats"], arguments].concat();
+        let text = fir(&call, b"").text();
+        let most = match bound.strip_suffix(" steps") {
+            Some(most) => format!(" of at most {most}"),
+            None => ", no bound is given".to_string(),
+        };
+        let line = format!("  steps: {steps}{most}");
+        assert!(text.lines().any(|there| there == line), "{script}: {text}");
+    }
+}
+
+#[test]
+fn every_run_of_a_comment_keeps_to_the_bound_of_its_entry() {
+    let mut exactly = 0;
+    for script in SCRIPTS {
+        let text = fs::read_to_string(format!("{EXAMPLES}{script}")).expect("the script is there");
+        for command in shown(&text, "#   ") {
+            let mut words: Vec<&str> = command.arguments.iter().map(String::as_str).collect();
+            if words[0] != "run" || words.contains(&"--then") {
+                continue;
+            }
+            words.retain(|word| *word != "--stats");
+            words.push("--stats");
+            let text = fir(&words, b"").text();
+            let steps = text.lines().find_map(|line| line.strip_prefix("  steps: "));
+            let numbers = steps.and_then(|steps| steps.split_once(" of at most "));
+            let Some((taken, most)) = numbers else {
+                continue;
+            };
+            let number = |text: &str| text.parse::<u32>().expect("a number");
+            let (taken, most) = (number(taken), number(most));
+            assert!(taken <= most, "{script}: {words:?}: {text}");
+            exactly += usize::from(taken == most);
+        }
+    }
+    assert!(exactly >= 10, "{exactly}");
+}
+
 /// What version 0.0 of a script gives.
 #[track_caller]
 fn gives(script: &str, arguments: &[&str], expected: i64) {
@@ -313,7 +385,7 @@ fn the_commands_of_the_readme_print_what_it_shows() {
     let commands = shown(include_str!("../../README.md"), "    ");
     let (with_output, without): (Vec<_>, Vec<_>) =
         commands.iter().partition(|shown| !shown.output.is_empty());
-    assert_eq!((with_output.len(), without.len()), (11, 6));
+    assert_eq!((with_output.len(), without.len()), (12, 6));
     for command in with_output {
         assert_printed(command, "README");
     }

@@ -73,7 +73,7 @@ fn run_prints_its_result() {
     prints(
         &["run", "-", "0.0", "[5]", "-7", "--json", "--stats"],
         &[
-            r#"{"result":"DONE","steps":6,"value":-2,"stats":{"steps":6,"calls":1,"dispatches":0,"looked_at":0,"of_versions":0}}"#,
+            r#"{"result":"DONE","steps":6,"value":-2,"stats":{"steps":6,"bound":6,"calls":1,"dispatches":0,"looked_at":0,"of_versions":0}}"#,
         ],
         0,
     );

@@ -45,6 +45,9 @@ fn word(random: &mut Random, files: &[String]) -> OsString {
         "--budget=",
         "--then",
         "--stats",
+        "--why",
+        "--under",
+        "--under=12",
         "--json",
         "--html",
         "--entry=0.0",
@@ -81,6 +84,19 @@ fn word(random: &mut Random, files: &[String]) -> OsString {
     text.into()
 }
 
+/// Options that one command alone takes, now and then.
+fn own_options(random: &mut Random, command: &str) -> Vec<OsString> {
+    let options = match command {
+        "bounds" => vec![random.pick(&["--why", "--under=30", "--under=x"])],
+        "check" => vec!["--form", random.pick(&["32", "64", "8"])],
+        "move" => vec!["--to", random.pick(&["32", "64", ""])],
+        _ => vec![],
+    };
+    let given = random.one_in(2);
+    let options = options.into_iter().filter(|_| given);
+    options.map(OsString::from).collect()
+}
+
 /// Adds what a run is given to the line of a command.
 fn add_run(random: &mut Random, line: &mut Vec<OsString>, files: &[String]) {
     line.push(format!("{}.{}", random.below(2), random.below(2)).into());
@@ -95,8 +111,8 @@ fn add_run(random: &mut Random, line: &mut Vec<OsString>, files: &[String]) {
 /// A command line; what is written goes to a file of the test's own.
 fn line(random: &mut Random, files: &[String], out: &str) -> Vec<OsString> {
     let command = random.pick(&[
-        "check", "check", "run", "run", "trace", "debug", "lint", "move", "join", "asm", "dis",
-        "help",
+        "check", "check", "run", "run", "trace", "debug", "lint", "bounds", "move", "join", "asm",
+        "dis", "help",
     ]);
     let mut line: Vec<OsString> = vec![command.into(), random.pick(files).into()];
     if ["run", "trace", "debug"].contains(&command) {
@@ -105,17 +121,12 @@ fn line(random: &mut Random, files: &[String], out: &str) -> Vec<OsString> {
     if command == "join" {
         line.extend((0..1 + random.below(3)).map(|_| random.pick(files).into()));
     }
-    if ["check", "run", "trace", "lint", "join"].contains(&command) && random.one_in(4) {
+    if ["check", "run", "trace", "lint", "bounds", "join"].contains(&command) && random.one_in(4) {
         line.push("--json".into());
     } else if command == "trace" && random.one_in(3) {
         line.push(format!("--html={out}").into());
     }
-    if command == "check" && random.one_in(3) {
-        line.extend(["--form".into(), random.pick(&["32", "64", "8"]).into()]);
-    }
-    if command == "move" && random.one_in(2) {
-        line.extend(["--to".into(), random.pick(&["32", "64", ""]).into()]);
-    }
+    line.extend(own_options(random, command));
     if ["asm", "dis", "move", "join"].contains(&command) {
         line.extend(["-o".into(), out.into()]);
     }

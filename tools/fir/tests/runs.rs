@@ -5,7 +5,8 @@ mod support;
 use generator::{
     accepted, accepted_of, entry, update, words, Random, Special, Theme, Trap, Update,
 };
-use reference::{change, Answer, End, Integer, Program, Refusal, Said, State, Status};
+use reference::longest::bound_of;
+use reference::{change, Answer, Bound, End, Integer, Program, Refusal, Said, State, Status};
 use std::collections::BTreeMap;
 use support::{arguments, file, fir, Done, STEPS, STOPPED, UNDEF};
 
@@ -20,9 +21,19 @@ struct Counted {
     calls: usize,
     /// Of each DISPATCH step, how many versions it looked at, and of how many.
     searches: Vec<(u8, u8)>,
+    /// The bound of the entry; none where the run goes on under another image.
+    bound: Option<Bound>,
 }
 
 impl Counted {
+    /// Nothing yet of a run of this entry.
+    fn new(program: &Program, entry: (usize, usize)) -> Counted {
+        Counted {
+            bound: bound_of(program, entry.0, entry.1),
+            ..Counted::default()
+        }
+    }
+
     /// Takes at most so many steps, and counts those that count; the state after them.
     fn steps(&mut self, program: &Program, mut state: State, budget: u32) -> State {
         for _ in 0..budget {
@@ -52,8 +63,14 @@ impl Counted {
             let parts = self.searches.iter().map(|search| usize::from(part(search)));
             parts.sum::<usize>()
         };
+        let bound = match self.bound {
+            None => String::new(),
+            Some(Bound::Steps(most)) => format!(" of at most {most}"),
+            Some(Bound::Large) => ", the bound is large".to_string(),
+            Some(Bound::None) => ", no bound is given".to_string(),
+        };
         format!(
-            "  steps: {}\n  calls: {}\n  DISPATCH steps: {}, looked at {} of {} versions\n",
+            "  steps: {}{bound}\n  calls: {}\n  DISPATCH steps: {}, looked at {} of {} versions\n",
             self.steps,
             self.calls,
             self.searches.len(),
@@ -139,7 +156,7 @@ fn compared(seed: u64, searched: &mut usize) -> Option<&'static str> {
             });
         }
     };
-    let mut counted = Counted::default();
+    let mut counted = Counted::new(&program, entry);
     counted.steps(&program, state.clone(), budget);
     let with_stats = call(&["run", "--stats"]);
     let expected_text = run.text() + &counted.lines();
@@ -247,6 +264,7 @@ impl Halfway {
                 let program = Program::accept(&self.new).expect("an accepted image");
                 let left = BUDGET - steps;
                 let mut counted = self.counted;
+                counted.bound = None;
                 counted.steps(&program, self.state.clone(), left);
                 let (_, answer, more) = self.state.budget(&program, left, &mut self.buffer);
                 let (_, begin) = expected(answer, &self.buffer);
@@ -274,7 +292,7 @@ fn compared_changing(seed: u64) -> Option<&'static str> {
     let mut random = Random::new(seed);
     let (step, mut buffer) = (random.below(30) as u32, [0; 16]);
     let state = State::begin(&program, HIGHEST, entry.0, entry.1, &words, &buffer).ok()?;
-    let mut counted = Counted::default();
+    let mut counted = Counted::new(&program, entry);
     counted.steps(&program, state.clone(), step);
     let (state, answer, steps) = state.budget(&program, step, &mut buffer);
     let aim = Update::any(&mut random);

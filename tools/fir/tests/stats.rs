@@ -1,4 +1,4 @@
-//! `fir run --stats`: the sums of steps, calls and searches.
+//! `--stats`: the sums of steps, calls and searches, and the bound of the entry.
 
 mod support;
 
@@ -53,7 +53,7 @@ fn the_sums_follow_the_result() {
         &run(&["--stats"]),
         0,
         "DONE 7 after 9 steps
-  steps: 9
+  steps: 9 of at most 10
   calls: 3
   DISPATCH steps: 2, looked at 5 of 6 versions
 ",
@@ -70,7 +70,7 @@ fn a_budget_counts_the_steps_that_were_taken() {
         &run(&["--stats", "--budget", "1"]),
         STEPS,
         &format!(
-            "STEPS after 1 step\n{stands}  steps: 1
+            "STEPS after 1 step\n{stands}  steps: 1 of at most 10
   calls: 1
   DISPATCH steps: 0, looked at 0 of 0 versions
 "
@@ -82,7 +82,8 @@ fn a_budget_counts_the_steps_that_were_taken() {
         "{two}"
     );
     let none = run(&["--stats", "--budget", "0"]).text();
-    assert!(none.contains("\n  steps: 0\n  calls: 0\n"), "{none}");
+    let sums = "\n  steps: 0 of at most 10\n  calls: 0\n";
+    assert!(none.contains(sums), "{none}");
 }
 
 #[test]
@@ -104,7 +105,7 @@ fn a_dispatch_without_a_fit_is_a_step_and_one_that_is_deep_is_none() {
         UNDEF,
         "UNDEF after 1 step
   at 23 in 0.0, block 0: r0 = dispatch 1() -> int quiet: no version of function 1 fits: 1.0 has 1 parameter, and 0 arguments are given; 1.1 has 1 parameter, and 0 arguments are given
-  steps: 1
+  steps: 1 of at most 2
   calls: 0
   DISPATCH steps: 1, looked at 2 of 2 versions
 ",
@@ -118,7 +119,7 @@ fn a_dispatch_without_a_fit_is_a_step_and_one_that_is_deep_is_none() {
         STOPPED,
         "DEEP after 31 steps
   at 23 in 0.0, block 0: r0 = dispatch 0(r0: int) -> int quiet
-  steps: 31
+  steps: 31, no bound is given
   calls: 31
   DISPATCH steps: 31, looked at 31 of 31 versions
 ",
@@ -161,7 +162,7 @@ DONE 7 after 9 steps
     assert_eq!(refused.status, 1);
     let (text, sums) = (
         refused.text(),
-        "  steps: 2
+        "  steps: 2 of at most 10
   calls: 2
   DISPATCH steps: 1, looked at 2 of 3 versions
 ",
@@ -170,7 +171,7 @@ DONE 7 after 9 steps
     assert!(text.ends_with(sums), "{text}");
     // A step that is not reached.
     let text = then("10").text();
-    let left = format!("  not reached: {new}@10\n  steps: 9\n");
+    let left = format!("  not reached: {new}@10\n  steps: 9 of at most 10\n");
     assert!(text.contains(&left), "{text}");
 }
 
@@ -185,15 +186,28 @@ fn a_run_that_is_refused_has_no_sums() {
 }
 
 #[test]
-fn the_option_stands_once_and_at_run_alone() {
+fn a_trace_has_the_same_sums_behind_its_steps() {
+    let sums = run(&["--stats"]).text();
+    let trace = fir(&["trace", "-", "0.0", "4", "--stats"], &image(TEXT));
+    assert!(trace.text().ends_with(&sums), "{}", trace.text());
+    let plain = fir(&["trace", "-", "0.0", "4"], &image(TEXT)).text();
+    assert!(plain.ends_with("DONE 7 after 9 steps\n"), "{plain}");
+    let page = file("stats", "page.html", b"");
+    let html = format!("--html={page}");
+    let done = fir(&["trace", "-", "0.0", "4", "--stats", &html], &image(TEXT));
+    assert_eq!(done.text(), sums);
+}
+
+#[test]
+fn the_option_stands_once_and_at_run_and_trace_alone() {
     for (words, line) in [
         (
             &["run", "a", "0.0", "--stats", "--stats"][..],
             "fir run: --stats stands twice; see `fir run --help`\n",
         ),
         (
-            &["trace", "--stats", "a", "0.0"],
-            "fir trace: `--stats` is no option; see `fir trace --help`\n",
+            &["debug", "--stats", "a", "0.0"],
+            "fir debug: `--stats` is no option; see `fir debug --help`\n",
         ),
     ] {
         let done = fir(words, b"");

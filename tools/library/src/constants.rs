@@ -90,6 +90,13 @@ pub const FIR_FIRST_IMAGE: u8 = 1;
 /// Of two images that are to be joined, the second is refused.
 pub const FIR_SECOND_IMAGE: u8 = 2;
 
+/// The rows of bounds that are lent: one for each version that an image may have.
+pub const FIR_ROWS: usize = 64;
+/// In place of a bound: it is above 4,294,967,295.
+pub const FIR_LARGE: u64 = 4_294_967_296;
+/// In place of a bound: none is given.
+pub const FIR_NONE: u64 = 4_294_967_297;
+
 /// The run goes on: the step was taken, or the budget is used up.
 pub const FIR_STEPS: u8 = 0;
 /// DONE with an integer.

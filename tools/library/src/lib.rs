@@ -1,4 +1,5 @@
-//! The proved FIR library, safe to call: it checks images, moves, joins and runs them.
+//! The proved FIR library, safe to call: it checks images, moves, joins and runs them,
+//! and says how many steps their runs can take.
 //!
 //! What `fir.h` asks of its caller holds by construction: slices and `&mut` rule
 //! out null, misaligned and overlapping memory, that a state has the layout that
@@ -7,6 +8,7 @@
 //! leaves something to its caller.
 
 mod answers;
+mod bounding;
 mod checking;
 mod constants;
 mod joining;
@@ -18,6 +20,7 @@ mod state;
 mod words;
 
 pub use answers::{Answer, At, End, Held, Position, Ran, Refusal, Said, Search, Unjoined, Verdict};
+pub use bounding::{bounds, bounds_into, Bound, Row, ROW_NUMBERS};
 pub use checking::{report, verdict};
 pub use constants::*;
 pub use joining::join;

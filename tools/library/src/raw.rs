@@ -3,10 +3,10 @@
 use crate::state::State;
 
 /// A verdict: `FIR_ACCEPTED` and the number of versions, of a move the length of the
-/// moved image, or a question and its offset.
+/// moved image, of bounds the number of rows, or a question and its offset.
 #[repr(C)]
 pub struct FirVerdict {
-    /// How many versions, how long, or the offset.
+    /// How many versions or rows, how long, or the offset.
     pub detail: usize,
     /// The question, or `FIR_ACCEPTED`.
     pub question: u8,
@@ -151,6 +151,12 @@ extern "C" {
         out: *mut u8,
         out_length: usize,
     ) -> FirJoined;
+    pub fn fir_bounds(
+        image: *const u8,
+        image_length: usize,
+        numbers: *mut u8,
+        steps: *mut u64,
+    ) -> FirVerdict;
     pub fn fir_begin(
         image: *const u8,
         image_length: usize,

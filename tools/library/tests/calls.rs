@@ -1,10 +1,11 @@
 //! Each call of the proved library, on images whose answers are worked out by hand.
 
 use library::{
-    answer_text, join, narrow, question_text, report, report_in, verdict, verdict_in, version,
-    widen, Activation, Answer, At, End, Entry, Form, Held, Opener, Position, Promise, Ran, Refusal,
-    Run, Said, Search, State, Unjoined, Verdict, Versions, CELLS, FACTORY, FIR_ANSWER_TEXT_BYTES,
-    FIR_ITEMS, FIR_QUESTION_TEXT_BYTES, FIR_REGISTERS, PORTAL, STAFF,
+    answer_text, bounds, bounds_into, join, narrow, question_text, report, report_in, verdict,
+    verdict_in, version, widen, Activation, Answer, At, Bound, End, Entry, Form, Held, Opener,
+    Position, Promise, Ran, Refusal, Row, Run, Said, Search, State, Unjoined, Verdict, Versions,
+    CELLS, FACTORY, FIR_ANSWER_TEXT_BYTES, FIR_ITEMS, FIR_LARGE, FIR_NONE, FIR_QUESTION_TEXT_BYTES,
+    FIR_REGISTERS, FIR_ROWS, PORTAL, ROW_NUMBERS, STAFF,
 };
 
 /// The version that the runs enter.
@@ -200,6 +201,94 @@ fn each_form_has_its_verdict_and_its_report() {
         assert_eq!(report_in(image, form, &mut short), None);
         assert_eq!(short, vec![7; expected.len() - 1]);
     }
+}
+
+/// 0.0 dispatches on function 1, of which 1.0 is short, 1.1 long and 1.2 above its level;
+/// 2.0 calls itself, and 3.0 calls 2.0.
+fn depending() -> Vec<u8> {
+    let text = "version 0.0(r0: int) -> int
+                  level portal
+                  block 0 quiet -> r0
+                    r0 = dispatch 1(r0: int) -> int quiet
+                version 1.0(r0: int) -> int
+                  level portal
+                  block 0 quiet -> r0
+                version 1.1(r0: vector) -> int
+                  registers r1: int
+                  level portal
+                  block 0 quiet -> r1
+                    r1 = len r0
+                    r1 = add r1, r1
+                version 1.2(r0: int) -> int
+                  level staff
+                  block 0 quiet -> r0
+                    r0 = add r0, r0
+                    r0 = add r0, r0
+                    r0 = add r0, r0
+                version 2.0(r0: int) -> int
+                  level portal
+                  block 0 quiet -> r0
+                    r0 = call 2.0(r0)
+                version 3.0(r0: int) -> int
+                  level portal
+                  block 0 quiet -> r0
+                    r0 = call 2.0(r0)";
+    text::assemble(text).expect("a text that is well formed")
+}
+
+/// A row.
+fn row(function: u8, version: u8, bound: Bound) -> Row {
+    Row {
+        function,
+        version,
+        bound,
+    }
+}
+
+#[test]
+fn bounds_stand_behind_those_they_depend_on_and_none_last() {
+    let rows = bounds(&depending()).expect("an accepted image");
+    let expected = [
+        row(1, 0, Bound::Steps(1)),
+        row(1, 1, Bound::Steps(3)),
+        row(0, 0, Bound::Steps(5)),
+        row(1, 2, Bound::Steps(4)),
+        row(2, 0, Bound::None),
+        row(3, 0, Bound::None),
+    ];
+    assert_eq!(rows, expected);
+}
+
+#[test]
+fn rows_past_the_last_stay_and_a_refusal_writes_nothing() {
+    let image = depending();
+    let (numbers, steps) = ([9; ROW_NUMBERS], [8; FIR_ROWS]);
+    let (mut after, mut counted) = (numbers, steps);
+    assert_eq!(bounds_into(&image, &mut after, &mut counted), Ok(6));
+    assert_eq!(after[..6], [1, 0, 1, 1, 0, 0]);
+    assert_eq!(counted[..6], [1, 3, 5, 4, FIR_NONE, FIR_NONE]);
+    assert_eq!((&after[12..], &counted[6..]), (&numbers[12..], &steps[6..]));
+    let (mut after, mut counted) = (numbers, steps);
+    let cut = &image[..image.len() - 1];
+    let refused = bounds_into(cut, &mut after, &mut counted);
+    assert_eq!(refused, Err(no(2, image.len() - 9)));
+    assert_eq!((after, counted), (numbers, steps));
+    assert_eq!(bounds(&[]), Err(no(1, 0)));
+}
+
+#[test]
+fn numbers_stand_for_bounds() {
+    assert_eq!(Row::read(1, 2, 0), row(1, 2, Bound::Steps(0)));
+    let most = u64::from(u32::MAX);
+    assert_eq!(Row::read(1, 2, most), row(1, 2, Bound::Steps(u32::MAX)));
+    assert_eq!(Row::read(1, 2, FIR_LARGE), row(1, 2, Bound::Large));
+    assert_eq!(Row::read(1, 2, FIR_NONE), row(1, 2, Bound::None));
+}
+
+#[test]
+#[should_panic(expected = "which fir.h does not list")]
+fn a_number_that_stands_for_no_bound_is_seen() {
+    let _ = Row::read(1, 2, FIR_NONE + 1);
 }
 
 #[test]

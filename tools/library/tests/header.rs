@@ -44,6 +44,9 @@ fn bounds_and_questions() -> Vec<(&'static str, usize)> {
         FIR_PORTAL,
         FIR_STAFF,
         FIR_FACTORY,
+        FIR_ROWS,
+        FIR_LARGE,
+        FIR_NONE,
     ];
     let questions = named![
         FIR_ACCEPTED,
@@ -186,6 +189,7 @@ fn every_constant_of_the_header_has_its_number_here() {
     let defined = header.lines().filter_map(|line| {
         let mut words = line.strip_prefix("#define ")?.split_whitespace();
         let (name, number) = (words.next()?, words.next()?);
+        let number = number.strip_suffix("ULL").unwrap_or(number);
         number.parse::<usize>().is_ok().then_some(name)
     });
     let defined: Vec<&str> = defined.collect();

@@ -5,8 +5,8 @@ use cases::exact;
 use reference::bounds::{Steps, BUFFER, MAX_IMAGE};
 use reference::questions::QUESTIONS;
 use reference::{
-    change, join, move_from, report, verdict, Answer, End, Form, Integer, Program, Refusal, State,
-    Unjoined, Verdict,
+    bounds_of, change, join, move_from, report, verdict, Answer, Bound, End, Form, Integer,
+    Program, Refusal, State, Unjoined, Verdict,
 };
 use std::fs;
 use std::path::{Path, PathBuf};
@@ -64,6 +64,8 @@ enum Trial<'t> {
     Checked,
     /// The first line of what `check` prints.
     Counted,
+    /// The versions with their bounds.
+    Bounded,
     /// A run by these words, with a buffer of so many places.
     Run(&'t str, usize),
     /// A change of the run before, after so many steps.
@@ -81,6 +83,9 @@ fn trial(caption: &str) -> Option<(Trial<'_>, &str)> {
     }
     if let Some(said) = caption.strip_prefix("Counted, ") {
         return Some((Trial::Counted, said));
+    }
+    if let Some(said) = caption.strip_prefix("Bounded, ") {
+        return Some((Trial::Bounded, said));
     }
     if let Some(rest) = caption.strip_prefix("Run by `") {
         let (words, rest) = rest.split_once('`')?;
@@ -222,6 +227,21 @@ fn ended(state: State, program: &Program, before: Steps) -> Result<String, Refus
     Ok(format!("{end} after {steps} step{plural}"))
 }
 
+/// The versions of an image with their bounds: `1.0 1 step, 0.0 7 steps, 2.0 none`.
+fn listed(image: &[u8]) -> Result<String, Refusal> {
+    let rows = bounds_of(image)?;
+    let rows = rows.iter().map(|row| {
+        let bound = match row.bound {
+            Bound::Steps(1) => "1 step".to_string(),
+            Bound::Steps(steps) => format!("{steps} steps"),
+            Bound::Large => "large".to_string(),
+            Bound::None => "none".to_string(),
+        };
+        format!("{}.{} {bound}", row.function, row.version)
+    });
+    Ok(rows.collect::<Vec<_>>().join(", "))
+}
+
 /// What comes of a trial of an image; a run is kept for the changes behind it.
 fn outcome(trial: &Trial, image: Vec<u8>, run: &mut Option<Run>) -> Result<String, Refusal> {
     match *trial {
@@ -233,6 +253,7 @@ fn outcome(trial: &Trial, image: Vec<u8>, run: &mut Option<Run>) -> Result<Strin
             let report = report(&image);
             Ok(report.lines().next().unwrap_or_default().to_string())
         }
+        Trial::Bounded => listed(&image),
         Trial::Run(words, places) => {
             let asked = asked(words, places);
             run.insert(Run { image, asked }).outcome()

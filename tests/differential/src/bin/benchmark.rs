@@ -1,12 +1,13 @@
 //! How long a verdict takes, by the proved library and by the reference, how long the
-//! move of an image to the form of 32 bits, which asks for one, and how long joining
-//! two images, which asks for two.
+//! move of an image to the form of 32 bits and the bounds of its versions, which ask
+//! for one, and how long joining two images, which asks for two.
 
 use cases::image;
+use differential::engine;
 use library::FIR_IMAGE_BYTES;
 use reference::bounds::VERSIONS;
 use reference::questions::records;
-use reference::{move_from, verdict, Form, Verdict};
+use reference::{bounds_of, move_from, verdict, Bound, Form, Program, Verdict};
 use std::fmt::Write;
 use std::hint::black_box;
 use std::time::Instant;
@@ -51,6 +52,118 @@ fn main() {
     compare("literals", &literals(), 20);
     compare_joining("typical", &typical(), 1000);
     compare_joining("largest", &versions(VERSIONS / 2), 20);
+    println!("microseconds for the bounds of all versions, the verdict among them\n");
+    compare_bounds("chain", &chain(), 20);
+    compare_bounds("crowd", &crowd(), 20);
+    compare_bounds("calls", &calls(), 20);
+    compare_bounds("largest", &largest(), 20);
+}
+
+/// Times the verdict on an accepted image and the bounds of its versions, so many in a
+/// round.
+fn compare_bounds(name: &str, image: &[u8], rounds: u32) {
+    let rows = bounds_of(image).expect("an accepted image");
+    assert_eq!(engine::bounds(image).as_ref(), Ok(&rows), "{name}");
+    let program = Program::accept(image).expect("an accepted image");
+    let blocks = program.versions.iter().flat_map(|version| &version.blocks);
+    let lines = blocks.flat_map(|block| &block.instructions);
+    let calls = lines.filter(|placed| program.signature(&placed.item).is_some());
+    let none = rows.iter().filter(|row| row.bound == Bound::None).count();
+    println!(
+        "{name}: {} bytes, {} versions, {none} of them without a bound, {} calls",
+        image.len(),
+        rows.len(),
+        calls.count()
+    );
+    let [mut verdict, mut bounds] = [const { Times(Vec::new()) }; 2];
+    for _ in 0..ROUNDS {
+        verdict.add(rounds, || library::verdict(black_box(image)));
+        bounds.add(rounds, || library::bounds(black_box(image)));
+    }
+    print_line("verdict", verdict.min(), verdict.median());
+    print_line("bounds", bounds.min(), bounds.median());
+    let ratio = |time: fn(&Times) -> f64| time(&bounds) / time(&verdict);
+    print_line("bounds/verdict", ratio(Times::min), ratio(Times::median));
+    println!();
+}
+
+/// The version of an index, four of each function.
+fn numbers(index: usize) -> String {
+    format!("{}.{}", index / 4, index % 4)
+}
+
+/// 64 versions of plain instructions, each calling the next one, which is listed before
+/// it, at its end.
+fn chain() -> Vec<u8> {
+    let version = |index: usize| {
+        let plain = "r0 = lit -7\n".repeat(36);
+        let call = match index {
+            63 => String::new(),
+            _ => format!("r0 = call {}()\n", numbers(index + 1)),
+        };
+        let head = format!("version {}() -> int\nregisters r0: int\n", numbers(index));
+        format!("{head}block 0 quiet -> r0\n{plain}{call}")
+    };
+    image(&(0..64).map(version).collect::<String>())
+}
+
+/// 64 versions of 8 parameters, four of each function, with 17 DISPATCHes each that reach
+/// all four of the next function, which are listed before.
+fn crowd() -> Vec<u8> {
+    let version = |index: usize| {
+        let parameters = (0..8).map(|register| format!("r{register}: int"));
+        let parameters = parameters.collect::<Vec<_>>().join(", ");
+        let head = format!("version {}({parameters}) -> int\n", numbers(index));
+        let lines = match index / 4 {
+            15 => "r0 = add r0, r1\n".repeat(48),
+            function => {
+                let line = format!(
+                    "r0 = dispatch {}({parameters}) -> int quiet\n",
+                    function + 1
+                );
+                line.repeat(17)
+            }
+        };
+        format!("{head}block 0 quiet -> r0\n{lines}")
+    };
+    image(&(0..64).map(version).collect::<String>())
+}
+
+/// About as many CALLs as an image has room for, in all blocks of 11 versions, each of one
+/// of those behind it, and a version without a call.
+fn calls() -> Vec<u8> {
+    let mut text: String = (0..LAST).map(calling).collect();
+    text += &format!("version {}() -> int\nregisters r0: int\n", numbers(LAST));
+    text += "block 0 quiet -> r0\nr0 = lit 1\n";
+    image(&text)
+}
+
+/// The index of the version that calls none.
+const LAST: usize = 11;
+
+/// A version of 8 blocks full of CALLs of those behind it, but for the one before the
+/// last, which has fewer.
+fn calling(index: usize) -> String {
+    let promises = (1..8).map(|register| format!("r{register}: quiet promise"));
+    let promises = promises.collect::<Vec<_>>().join(", ");
+    let head = format!("version {}() -> int\nregisters r0: int\n", numbers(index));
+    let mut text = format!("{head}registers {promises}\n");
+    for block in 0..8 {
+        text += &format!("block {block} quiet -> r0\n");
+        for block in (1..8).filter(|_| block == 0) {
+            text += &format!("r{block} = prom {block}\n");
+        }
+        let count = match (index + 1, block) {
+            (LAST, _) => 19,
+            (_, 0) => 41,
+            _ => 48,
+        };
+        for call in 0..count {
+            let callee = index + 1 + (call + block) % (LAST - index);
+            text += &format!("r0 = call {}()\n", numbers(callee));
+        }
+    }
+    text
 }
 
 /// Times both checkers on an accepted image, so many verdicts in a round.

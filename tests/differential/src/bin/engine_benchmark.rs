@@ -5,10 +5,10 @@
 
 use differential::difference::difference;
 use differential::engine;
+use differential::paced::Paced;
 use differential::snapshot::state_of;
 use differential::tuned::{Code, Machine};
 use differential::workloads::{workloads, Workload};
-use library::Run;
 use reference::bounds::{Steps, BUFFER};
 use reference::{Answer, Integer, Program, State};
 use std::env;
@@ -33,7 +33,7 @@ struct Prepared<'i> {
     program: Program,
     code: Code,
     begun: State,
-    proved: Run<'i>,
+    proved: Paced<'i>,
 }
 
 impl<'i> Prepared<'i> {

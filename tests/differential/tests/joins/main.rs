@@ -178,6 +178,7 @@ fn try_pair(seed: u64, met: &mut Tally<String>) {
     );
     let [sizes, others] = pair.sizes().expect("both are accepted");
     parts::assert_found_again(&given, bytes, sizes.functions, met);
+    parts::assert_same_bounds(&given, bytes, sizes.functions, met);
     runs::assert_alike(seed, &pair, bytes, [sizes, others], met);
 }
 
@@ -222,6 +223,7 @@ fn joined_images_agree_and_run_as_alone() {
         ("with itself", FEWEST),
         ("a CALL renumbered", 10_000),
         ("a DISPATCH renumbered", 10_000),
+        ("bounds and none in one joined image", 500),
     ] {
         assert!(met.count(name) >= fewest, "{name}: {}", met.count(name));
     }

@@ -1,8 +1,11 @@
 //! What stands where in a joined image: both images again, byte for byte but for the
-//! numbers of the second's functions.
+//! numbers of the second's functions; and the bounds of its versions, which are those of
+//! both.
 
+use differential::engine;
 use generator::{Join, Tally};
 use reference::kinds;
+use reference::longest::{Bound, Row};
 use reference::record::{Framed, HEAD};
 
 /// Where a record names a function, if it does, and what it is called.
@@ -31,4 +34,23 @@ pub fn assert_found_again(given: &Join, joined: &[u8], others: usize, met: &mut 
     }
     assert_eq!(offset, expected.len(), "the records of the second image");
     assert_eq!(second, expected, "the second image");
+}
+
+/// Asserts that the bounds of a joined image are those of both, whose second's functions
+/// follow so many others: rows with a bound of the first, of the second, then those with
+/// none of the first, of the second.
+pub fn assert_same_bounds(given: &Join, joined: &[u8], others: usize, met: &mut Tally<String>) {
+    let rows = |image: &[u8]| engine::bounds(image).expect("an accepted image");
+    let (first, mut second) = (rows(&given.first), rows(&given.second));
+    for row in &mut second {
+        row.function += others as u8;
+    }
+    let (some, none): (Vec<Row>, Vec<Row>) = {
+        let all = first.into_iter().chain(second);
+        all.partition(|row| row.bound != Bound::None)
+    };
+    if !some.is_empty() && !none.is_empty() {
+        met.meet("bounds and none in one joined image".to_string());
+    }
+    assert_eq!(rows(joined), [some, none].concat(), "the bounds");
 }

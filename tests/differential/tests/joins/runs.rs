@@ -5,9 +5,10 @@
 use crate::Pair;
 use differential::difference::difference;
 use differential::engine;
+use differential::paced::Paced;
 use differential::snapshot::state_of;
 use generator::{entry, steps_and_budgets, words, Event, Tally};
-use library::{Run, OWNER};
+use library::OWNER;
 use reference::bounds::BUFFER;
 use reference::joins::Sizes;
 use reference::{Answer, Integer, Program, Refusal, Said};
@@ -39,8 +40,8 @@ struct Part<'a> {
 /// Two runs that are to be alike.
 struct Twins<'a> {
     part: &'a Part<'a>,
-    alone: Run<'a>,
-    together: Run<'a>,
+    alone: Paced<'a>,
+    together: Paced<'a>,
     origin: &'a str,
 }
 

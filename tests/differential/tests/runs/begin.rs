@@ -2,6 +2,7 @@
 
 use crate::pair::Lent;
 use differential::engine;
+use differential::paced::Paced;
 use differential::snapshot::untouched;
 use generator::{Random, Tally};
 use library::Run;
@@ -30,7 +31,7 @@ pub fn begin<'i>(
     start: &Start<'i>,
     program: &Result<Program, Refusal>,
     origin: &str,
-) -> Result<(State, Run<'i>), Refusal> {
+) -> Result<(State, Paced<'i>), Refusal> {
     let Start {
         image,
         level,

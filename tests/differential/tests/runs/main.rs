@@ -1,8 +1,9 @@
 //! Runs of the proved engine and of the reference, under the same lists of steps,
 //! budgets and changes of the image: every answer, step count, place of the buffer
-//! and state agrees.
+//! and state agrees, and no run takes more steps than the bound of its entry.
 
 mod begin;
+mod bounds;
 mod changes;
 mod events;
 mod pair;
@@ -12,6 +13,7 @@ mod searches;
 use begin::{
     assert_same_at_higher_levels, begin, begin_wrongly, begun_at, level_of, refused_at, Start,
 };
+use bounds::{assert_bounds, meet_bound};
 use changes::assert_changes;
 use generator::{accepted, damaged, entry, level, words, Random, Tally};
 use pair::Pair;
@@ -83,6 +85,7 @@ fn run(seed: u64, met: &mut Tally<String>) -> usize {
     met.meet(ending.unwrap_or("goes on").to_string());
     meet_skips(pair.reference(), met);
     pair.changes().meet(met);
+    meet_bound(pair.proved(), met);
     pair.reference().tried()
 }
 
@@ -208,6 +211,7 @@ fn runs_agree_under_every_list_of_events() {
     assert_changes(&met);
     assert_searches(&met);
     assert_positions(&met);
+    assert_bounds(&met);
 }
 
 /// Asserts that runs began at each level of an entry and each stated level at or above

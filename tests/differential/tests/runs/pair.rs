@@ -5,6 +5,7 @@ use crate::events::{event_list, events_after_the_end, size};
 use crate::{positions, searches};
 use differential::difference::difference;
 use differential::engine;
+use differential::paced::Paced;
 use differential::snapshot::state_of;
 use generator::{update, Event, Tally, Update};
 use library::Run;
@@ -47,14 +48,14 @@ pub struct Pair<'p> {
     /// The image in force.
     image: Vec<u8>,
     reference: Watched,
-    proved: Run<'p>,
+    proved: Paced<'p>,
     events: usize,
     changes: History,
 }
 
 impl<'p> Pair<'p> {
     /// A run of an image that has begun on both sides.
-    pub fn new(image: &[u8], reference: Watched, proved: Run<'p>) -> Pair<'p> {
+    pub fn new(image: &[u8], reference: Watched, proved: Paced<'p>) -> Pair<'p> {
         Pair {
             image: image.to_vec(),
             reference,
@@ -67,6 +68,11 @@ impl<'p> Pair<'p> {
     /// The run of the reference.
     pub fn reference(&self) -> &Watched {
         &self.reference
+    }
+
+    /// The run of the proved engine.
+    pub fn proved(&self) -> &Paced<'p> {
+        &self.proved
     }
 
     /// The changes that were tried.
@@ -103,7 +109,7 @@ impl<'p> Pair<'p> {
     #[track_caller]
     pub fn compare_standing(&self, origin: &str, met: &mut Tally<String>) {
         let end = self.end();
-        let both = (&self.reference, &self.proved);
+        let both = (&self.reference, &*self.proved);
         compare_standing(both, end.as_deref(), origin, met);
     }
 
@@ -195,7 +201,7 @@ impl<'p> Pair<'p> {
             .budget_seen(budget, expected.places(), |reference| {
                 let said = engine::step(&mut before);
                 assert_eq!(said, Said::GoesOn, "{origin}: a step under a budget");
-                compare_standing((reference, &before), None, origin, met);
+                compare_standing((reference, &*before), None, origin, met);
             });
         self.assert_same(right, given, origin);
         self.assert_same(expected.memory, found.memory, origin);

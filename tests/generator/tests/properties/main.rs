@@ -4,6 +4,7 @@ mod accepted;
 mod before;
 mod broken;
 mod damaged;
+mod dependence;
 mod division;
 mod ends;
 mod events;

@@ -6,6 +6,7 @@ mod image_bytes;
 mod joins;
 mod levels;
 mod levels_runs;
+mod longest;
 mod mistakes;
 mod moves;
 mod proved_cases;

@@ -1,8 +1,9 @@
 //! Marks that are higher than needed.
 
-use super::{entered, instructions, Finding};
+use super::{instructions, Finding};
 use crate::place::version_name;
 use crate::refusal::vocabulary::instruction_name;
+use reference::longest::may_enter;
 use reference::program::{Program, Version};
 use reference::{Instruction, Kind, Mark};
 
@@ -72,7 +73,7 @@ impl<'p> Least<'p> {
                 Mark::REFLECTIVE
             }
             Instruction::Call { .. } | Instruction::Dispatch { .. } => {
-                let entered = entered(self.program, version, instruction).into_iter();
+                let entered = may_enter(self.program, version, instruction).into_iter();
                 let marks = entered.map(|index| self.marks[index][0]);
                 marks.max().unwrap_or(Mark::QUIET)
             }

@@ -82,7 +82,7 @@ pub fn all(asked: &Lint, streams: &mut Streams) -> Result<Status, Failure> {
                 failure.status()
             }
         };
-        status = worse(status, found);
+        status = status.worse(found);
     }
     Ok(status)
 }
@@ -95,15 +95,6 @@ fn failed_json(file: &OsStr, failure: &Failure) -> Json {
     ];
     fields.extend(failure.json());
     Json::Object(fields)
-}
-
-/// The status of two files: what could not be read weighs more than what was found.
-fn worse(one: Status, other: Status) -> Status {
-    if one as u8 > other as u8 {
-        one
-    } else {
-        other
-    }
 }
 
 /// Looks through an image, unless it is refused.
@@ -176,37 +167,6 @@ fn instructions(version: &Version) -> impl Iterator<Item = (usize, &Placed<Instr
             .iter()
             .map(move |placed| (number, placed))
     })
-}
-
-/// Where in a program a version of these numbers stands.
-fn index_of(program: &Program, function: u8, version: u8) -> Option<usize> {
-    let numbers = (function, version);
-    let mut versions = program.versions.iter();
-    versions.position(|version| (version.head.function, version.head.version) == numbers)
-}
-
-/// Where in a program the versions stand that a CALL or a DISPATCH of a version may enter:
-/// by the numbers, or by the level and all of the signature but the kinds of the arguments.
-fn entered(program: &Program, own: &Version, instruction: &Instruction) -> Vec<usize> {
-    match *instruction {
-        Instruction::Call {
-            function, version, ..
-        } => index_of(program, function, version).into_iter().collect(),
-        Instruction::Dispatch { function, .. } => {
-            let Some(signature) = program.signature(instruction) else {
-                return vec![];
-            };
-            let fits = |version: &Version| {
-                version.head.function == function
-                    && version.level <= own.level
-                    && reference::search::fits(&version.signature(), &signature, &[])
-            };
-            let versions = program.versions.iter().enumerate();
-            let fitting = versions.filter(|(_, version)| fits(version));
-            fitting.map(|(index, _)| index).collect()
-        }
-        _ => vec![],
-    }
 }
 
 /// A version's numbers with its word: `version 1.0`.

@@ -1,6 +1,7 @@
 //! Promises that nothing forces.
 
-use super::{entered, instructions, Finding};
+use super::{instructions, Finding};
+use reference::longest::may_enter;
 use reference::program::Program;
 use reference::{Instruction, Register};
 use std::collections::BTreeSet;
@@ -55,7 +56,7 @@ fn used_by(program: &Program, used: &Used, index: usize, item: &Instruction) -> 
             false => vec![],
         },
         _ => {
-            let entered = entered(program, &program.versions[index], item);
+            let entered = may_enter(program, &program.versions[index], item);
             let arguments = (0..).zip(item.reads());
             let given = arguments.filter(|(parameter, _)| {
                 let mut entered = entered.iter();

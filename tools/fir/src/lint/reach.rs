@@ -1,7 +1,8 @@
 //! Which versions runs come to.
 
-use super::{entered, instructions, named, Finding};
+use super::{instructions, named, Finding};
 use library::Entry;
+use reference::longest::may_enter;
 use reference::program::Program;
 use reference::Instruction;
 
@@ -54,7 +55,7 @@ impl<'p> Reach<'p> {
         self.reached[index] = true;
         let version = &self.program.versions[index];
         for (_, placed) in instructions(version) {
-            for next in entered(self.program, version, &placed.item) {
+            for next in may_enter(self.program, version, &placed.item) {
                 self.follow(next);
             }
         }

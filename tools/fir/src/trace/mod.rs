@@ -50,7 +50,7 @@ pub struct Step<'p> {
     /// The state before it.
     pub before: State,
     /// What its search came to, if it was a DISPATCH.
-    search: Option<Search>,
+    pub search: Option<Search>,
     program: Option<&'p Program>,
 }
 
