@@ -13,12 +13,14 @@ use Rattle.machine.specs.declared.Changed.{Changed}
 use Rattle.machine.specs.declared.Entry.{Entry}
 use Rattle.machine.specs.declared.Said.{Said}
 use Rattle.machine.specs.declared.Search.{Search}
+use Rattle.mends.specs.declared.Mended.{Mended}
 use Rattle.moves.specs.declared.Moving.{Moving}
 use Rattle.snapshots.specs.Held.{endingOf}
 use Rattle.whereabouts.specs.declared.Where.{Where}
 use Rattle.abi.specs.declared.answers.FirAnswer.{FirAnswer}
 use Rattle.abi.specs.declared.answers.FirEntry.{FirEntry}
 use Rattle.abi.specs.declared.answers.FirJoined.{FirJoined}
+use Rattle.abi.specs.declared.answers.FirMended.{FirMended}
 use Rattle.abi.specs.declared.answers.FirSaid.{FirSaid}
 use Rattle.abi.specs.declared.answers.FirSearched.{FirSearched}
 use Rattle.abi.specs.declared.answers.FirVerdict.{FirVerdict}
@@ -46,6 +48,13 @@ joinedNumbers (Joined.Written n) = record { detail = n; question = 0; image = 0 
 joinedNumbers (Joined.First q p) = record { detail = p; question = q; image = 1 }
 joinedNumbers (Joined.Second q p) = record { detail = p; question = q; image = 2 }
 joinedNumbers (Joined.Together q p) = record { detail = p; question = q; image = 0 }
+
+-- a mend: the versions of an accepted image, or the offset and the number of a refusal; beside it 1 with the place of a byte and its new value, 2 where no byte mends, 0 where none is looked for
+unfoldable pub mendedNumbers : Mended → FirMended
+mendedNumbers (Mended.Accepted n) = record { detail = n; place = 0; question = 0; mend = 0; value = 0 }
+mendedNumbers (Mended.Refused q p) = record { detail = p; place = 0; question = q; mend = 0; value = 0 }
+mendedNumbers (Mended.Byte q p at x) = record { detail = p; place = at; question = q; mend = 1; value = x }
+mendedNumbers (Mended.Unmended q p) = record { detail = p; place = 0; question = q; mend = 2; value = 0 }
 
 -- the form that a number names: 1 that of 32 bits, any other that of 64
 unfoldable pub formOf : ℕ → Form

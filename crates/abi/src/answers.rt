@@ -1,6 +1,6 @@
 //! Answers as numbers, in the layout of C.
 ghost use mathlib.Core.Path.{_≡_};
-ghost use Rattle.abi.specs.Answers.{answerNumbers, boundingNumbers, changedNumbers, entryNumbers, formOf, joinedNumbers, movedNumbers, plainNumbers, saidNumbers, searchNumbers, verdictNumbers, versionNumbers, whereNumbers};
+ghost use Rattle.abi.specs.Answers.{answerNumbers, boundingNumbers, changedNumbers, entryNumbers, formOf, joinedNumbers, mendedNumbers, movedNumbers, plainNumbers, saidNumbers, searchNumbers, verdictNumbers, versionNumbers, whereNumbers};
 ghost use Rattle.abi.specs.Looks.{noPlace, valueNumbers};
 ghost use Rattle.engine.specs.Parts.{saidOf};
 use bounds::Bounding;
@@ -12,6 +12,7 @@ use machine::Changed;
 use machine::Entry;
 use machine::Search;
 use machine::Value;
+use mends::Mended;
 use moves::Moving;
 use whereabouts::Where;
 
@@ -28,6 +29,17 @@ pub struct FirJoined {
     pub detail: usize,
     pub question: u8,
     pub image: u8,
+}
+
+/// What can be done for an image: 0 and its number of versions, or the question that refuses it and the offset; and beside a refusal
+/// whether a register type byte mends it (1), which one and its new value, or that none does (2).
+#[repr(C)]
+pub struct FirMended {
+    pub detail: usize,
+    pub place: usize,
+    pub question: u8,
+    pub mend: u8,
+    pub value: u8,
 }
 
 /// Whether a run has begun, or goes on under a new image: 0, or the question that refuses it and the offset.
@@ -162,6 +174,42 @@ pub fn joined(joined: Joined) -> FirJoined
             detail: p,
             question: q,
             image: 0,
+        },
+    }
+}
+
+/// What can be done for an image, in numbers.
+pub fn mended(mended: Mended) -> FirMended
+    ensures { λ r. ⌜ r ≡ mendedNumbers mended ⌝ }
+{
+    match mended {
+        Mended::Accepted(n) => FirMended {
+            detail: n,
+            place: 0,
+            question: 0,
+            mend: 0,
+            value: 0,
+        },
+        Mended::Refused(q, p) => FirMended {
+            detail: p,
+            place: 0,
+            question: q,
+            mend: 0,
+            value: 0,
+        },
+        Mended::Byte(q, p, at, x) => FirMended {
+            detail: p,
+            place: at,
+            question: q,
+            mend: 1,
+            value: x,
+        },
+        Mended::Unmended(q, p) => FirMended {
+            detail: p,
+            place: 0,
+            question: q,
+            mend: 2,
+            value: 0,
         },
     }
 }

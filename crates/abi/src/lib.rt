@@ -10,18 +10,20 @@ ghost use Rattle.machine.specs.Changes.{changeOf};
 ghost use Rattle.machine.specs.Runs.{budgetOf, stepOf};
 ghost use Rattle.machine.specs.Searches.{searchOf};
 ghost use Rattle.joins.specs.Joins.{joinOf, joinedBuffer};
+ghost use Rattle.mends.specs.Mends.{mendOf};
 ghost use Rattle.moves.specs.Moves.{bufferAfter, moveOf};
 ghost use Rattle.bounds.specs.Bounds.{report};
 ghost use Rattle.bounds.specs.Rows.{boundsOf, numbersAfter, stepsAfter, unless};
 ghost use Rattle.snapshots.specs.Held.{held};
 ghost use Rattle.whereabouts.specs.Where.{whereOf};
 ghost use Rattle.words.specs.Words.{answerText, questionText, writtenOf};
-ghost use Rattle.abi.specs.Answers.{boundingNumbers, changedNumbers, entryNumbers, formOf, joinedNumbers, movedNumbers, saidNumbers, searchNumbers, stateAlignment, stateSize, verdictNumbers, versionNumbers, whereNumbers};
+ghost use Rattle.abi.specs.Answers.{boundingNumbers, changedNumbers, entryNumbers, formOf, joinedNumbers, mendedNumbers, movedNumbers, saidNumbers, searchNumbers, stateAlignment, stateSize, verdictNumbers, versionNumbers, whereNumbers};
 ghost use Rattle.abi.specs.Exits.{Answers, Began};
 ghost use Rattle.abi.specs.Looks.{lookOf};
 use answers::FirAnswer;
 use answers::FirEntry;
 use answers::FirJoined;
+use answers::FirMended;
 use answers::FirSaid;
 use answers::FirSearched;
 use answers::FirValue;
@@ -155,6 +157,14 @@ pub extern "C" fn fir_join(first: &[u8], second: &[u8], out: &mut [u8]) -> FirJo
     ensures { λ r. ⌜ (r ≡ joinedNumbers (joinOf (now (first .entry)) (now (second .entry)) (length (now (out .entry))))) × (now (out .exit) ≡ joinedBuffer (now (first .entry)) (now (second .entry)) (now (out .entry))) ⌝ }
 {
     answers::joined(joins::join(first, second, out))
+}
+
+/// The one register type byte whose change makes a refused image accepted, beside the refusal; the image is not written.
+#[no_mangle]
+pub extern "C" fn fir_mend(image: &[u8]) -> FirMended
+    ensures { λ r. ⌜ r ≡ mendedNumbers (mendOf (now (image .entry))) ⌝ }
+{
+    answers::mended(mends::mend(image))
 }
 
 /// Begins a run, at a level, of a version of a function: its first state is written. A refusal writes nothing. The buffer is asked

@@ -24,8 +24,9 @@ fn version_flows(image: &[u8], table: &[usize; 128], p: usize) -> bool
     sets::below(body.reads, lookup::parameters(image, p))
 }
 
-/// Does flow hold at the record at `p`, where the pass stands at `here`? Only a VERSION is asked.
-fn flows_at(image: &[u8], table: &[usize; 128], here: Here, p: usize) -> bool
+/// Does flow hold at the record at `p`, where the pass stands at `here`? Only a VERSION is asked. Part of the loop along the
+/// records, whose table is made once.
+pub fn flows_at(image: &[u8], table: &[usize; 128], here: Here, p: usize) -> bool
     requires { ⌜ now table ≡ tableOf (now image) ⌝ }
     ensures { λ r. ⌜ r ≡ asked (question10 (program (records (now (image .entry))))) (now (image .entry)) here p ⌝ }
 {

@@ -76,7 +76,7 @@ fn dispatch_types(image: &[u8], p: usize) -> bool
 }
 
 /// Are the type bytes of the record at `p` allowed, where the pass stands at `here`?
-fn types_at(image: &[u8], here: Here, p: usize) -> bool
+pub fn types_at(image: &[u8], here: Here, p: usize) -> bool
     ensures { λ r. ⌜ r ≡ asked question6 (now (image .entry)) here p ⌝ }
 {
     let version = here.version;

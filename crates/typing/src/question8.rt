@@ -12,8 +12,8 @@ use program::Here;
 use program::lookup;
 use program::pass;
 
-/// Do the types of the record at `p` fit, where the pass stands at `here`?
-fn fits_at(image: &[u8], table: &[usize; 128], here: Here, p: usize) -> bool
+/// Do the types of the record at `p` fit, where the pass stands at `here`? Part of the loop along the records, whose table is made once.
+pub fn fits_at(image: &[u8], table: &[usize; 128], here: Here, p: usize) -> bool
     requires { ⌜ now table ≡ tableOf (now image) ⌝ }
     ensures { λ r. ⌜ r ≡ asked (question8 (program (records (now (image .entry))))) (now (image .entry)) here p ⌝ }
 {

@@ -73,8 +73,9 @@ fn block_reflects(image: &[u8], table: &[usize; 128], v: usize, b: usize) -> boo
     false
 }
 
-/// Does the mark of the record at `p`, if it is a BLOCK, cover its effect, where the pass stands at `here`?
-fn covers_at(image: &[u8], table: &[usize; 128], here: Here, p: usize) -> bool
+/// Does the mark of the record at `p`, if it is a BLOCK, cover its effect, where the pass stands at `here`? Part of the loop along the
+/// records, whose table is made once.
+pub fn covers_at(image: &[u8], table: &[usize; 128], here: Here, p: usize) -> bool
     requires { ⌜ now table ≡ tableOf (now image) ⌝ }
     ensures { λ r. ⌜ r ≡ asked (question9 (program (records (now (image .entry))))) (now (image .entry)) here p ⌝ }
 {

@@ -1,0 +1,10 @@
+pub mod Changed
+pub mod Retypes
+pub mod Searches
+pub mod Mending
+pub mod Likewise
+pub mod Tables
+pub mod Owning
+pub mod Parts
+pub mod Claimed
+pub mod Lowest

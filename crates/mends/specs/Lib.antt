@@ -1,0 +1,4 @@
+pub mod Mends
+pub mod Retyped
+pub mod Parts
+pub mod Claims
