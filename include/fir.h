@@ -27,9 +27,11 @@
  *
  * Costs: a call that is lent an image reads all of it. fir_check, fir_begin, fir_run, fir_change, fir_widen and fir_narrow put it to
  * its questions: 3 to 7 microseconds for an image of 414 bytes, 170 to 310 for one of 26,496, measured on one core of a busy x86-64;
- * fir_report 5 to 6, and 1,030 to 1,080. fir_step, fir_budget, fir_search and fir_where find its versions anew: 0.3 to 0.6 and 10,
- * beside the steps taken. So one budget costs less than as many single steps. fir_look, fir_question_text and fir_answer_text are lent no
- * image and cost below 0.01. tests/interface/costs.c measures all of these.
+ * fir_bounds likewise; fir_join is two of these; fir_report 5 to 6, and 1,030 to 1,080. fir_mend costs 5 and 330 where one type of
+ * the last version is wrong; the worst image that was made takes 13,500. fir_step, fir_budget, fir_search and fir_where find its
+ * versions anew: 0.3 to 0.6 and 10, beside the steps taken. So one budget costs less than as many single steps. fir_look,
+ * fir_question_text and fir_answer_text are lent no image and cost below 0.01. tests/interface/costs.c measures all of these but the
+ * worst image, which tests/differential does.
  *
  * The examples below are compiled and run by the tests, as they stand, behind <stdio.h> and this header.
  */
@@ -408,6 +410,45 @@ typedef struct fir_joined {
  */
 fir_joined fir_join(const uint8_t *first, size_t first_length, const uint8_t *second, size_t second_length, uint8_t *out,
                     size_t out_length);
+
+/* ---- The smallest mend ---- */
+
+#define FIR_NOT_SOUGHT 0 /* no mend is looked for: the image is accepted, or refused by another question than 6, 8, 9 and 10 */
+#define FIR_MENDED 1     /* the byte at `place`, changed to `value`, makes the image accepted */
+#define FIR_NOT_MENDED 2 /* no register type byte does */
+
+/* What can be done for an image. */
+typedef struct fir_mended {
+    size_t detail;    /* the number of versions of an accepted image, or the offset of the refusal */
+    size_t place;     /* with FIR_MENDED the offset of the byte, else 0 */
+    uint8_t question; /* FIR_ACCEPTED, or the question that refuses */
+    uint8_t mend;     /* FIR_NOT_SOUGHT, FIR_MENDED or FIR_NOT_MENDED */
+    uint8_t value;    /* with FIR_MENDED its new value, else 0 */
+} fir_mended;
+
+/* Finds a correction for an image that is refused by 6, 8, 9 or 10: the one register type byte of a VERSION record whose
+ * change makes the image accepted. The bytes of parameters count among them; the return type does not, nor do the types of a
+ * DISPATCH. Named is the byte of the lowest offset that any value mends, and its lowest such value; FIR_NOT_MENDED says that no
+ * register type byte mends with any value. The refusal stands beside it, as fir_check gives it. It is a correction, and need
+ * not be the one that the author has in mind.
+ *
+ * An accepted image is named accepted. Every other refusal, by 14 and 18 too, is returned as it is, with FIR_NOT_SOUGHT. The
+ * image stays untouched: the library tries changes in a copy, so that the call takes 44,656 bytes of stack, 35,056 more than
+ * fir_check (on x86-64).
+ *
+ * Example:
+ *
+ *     static void offer_mend(FILE *to, const uint8_t *image, size_t image_length)
+ *     {
+ *         fir_mended found = fir_mend(image, image_length);
+ *         if (found.mend == FIR_MENDED)
+ *             fprintf(to, "byte %lu: %u in place of %u\n", (unsigned long)found.place, (unsigned)found.value,
+ *                     (unsigned)image[found.place]);
+ *         else if (found.mend == FIR_NOT_MENDED)
+ *             fprintf(to, "no register type mends it\n");
+ *     }
+ */
+fir_mended fir_mend(const uint8_t *image, size_t image_length);
 
 /* ---- How long at most ---- */
 

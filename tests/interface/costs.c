@@ -10,13 +10,16 @@
 #define ROUND (CLOCKS_PER_SEC / 100) /* the least time of a round */
 #define INSTRUCTIONS 48
 #define MIDWAY 24 /* steps of a run that takes 49 */
+#define LAST_SUMS (5 + 7 + 13 + 8 * (INSTRUCTIONS - 1)) /* the bytes behind the types of the last version */
 #define IMAGES 2
 
 static image images[IMAGES];
 static image narrow_images[IMAGES];
+static image wrong_images[IMAGES]; /* with one wrong type, in the last version */
 static fir_state midways[IMAGES];
 static const image *tried;
 static const image *narrow_tried;
+static const image *wrong_tried;
 static const fir_state *midway;
 static fir_state state;
 static int64_t buffer[FIR_ITEMS];
@@ -40,6 +43,7 @@ static void narrow(void) { seen += fir_narrow(tried->bytes, tried->length, out, 
 static void join(void) { seen += fir_join(tried->bytes, tried->length, tried->bytes, tried->length, out, sizeof out).detail; }
 static void bounds(void) { seen += fir_bounds(tried->bytes, tried->length, row_numbers, row_steps).detail; }
 static void widen(void) { seen += fir_widen(narrow_tried->bytes, narrow_tried->length, out, sizeof out).detail; }
+static void mend(void) { seen += fir_mend(wrong_tried->bytes, wrong_tried->length).place; }
 
 static void begin(void)
 {
@@ -121,6 +125,10 @@ static int prepare(void)
         const fir_verdict moved = fir_narrow(image->bytes, image->length, narrow_images[i].bytes, FIR_IMAGE_BYTES);
         narrow_images[i].length = moved.detail;
         fir_run(image->bytes, image->length, FIR_PORTAL, 0, 0, words, 2, MIDWAY, buffer, FIR_ITEMS, &midways[i]);
+        wrong_images[i] = *image;
+        wrong_images[i].bytes[image->length - LAST_SUMS - 1] = 3;
+        if (fir_mend(wrong_images[i].bytes, image->length).mend != FIR_MENDED)
+            return 0;
         if (moved.question != FIR_ACCEPTED || midways[i].status != FIR_STEPS || midways[i].calls != 1)
             return 0;
     }
@@ -135,8 +143,8 @@ int main(void)
         void (*besides)(void);
     } calls[] = {{"fir_check", check, nothing}, {"fir_report", report, nothing}, {"fir_begin", begin, nothing},
                  {"fir_run, 1 step", run, nothing}, {"fir_change", change, nothing}, {"fir_widen", widen, nothing},
-                 {"fir_narrow", narrow, nothing}, {"fir_join, with itself", join, nothing}, {"fir_bounds", bounds, nothing}, {"fir_step", step, bring_back},
-                 {"fir_budget, 1 step", budget, bring_back},
+                 {"fir_narrow", narrow, nothing}, {"fir_join, with itself", join, nothing}, {"fir_bounds", bounds, nothing},
+                 {"fir_mend", mend, nothing}, {"fir_step", step, bring_back}, {"fir_budget, 1 step", budget, bring_back},
                  {"fir_where", where, nothing}, {"fir_search", search, nothing}, {"fir_look", look, nothing},
                  {"fir_question_text", question_text, nothing}, {"fir_answer_text", answer_text, nothing}};
     size_t i, k;
@@ -151,6 +159,7 @@ int main(void)
         for (k = 0; k < IMAGES; k++) {
             tried = &images[k];
             narrow_tried = &narrow_images[k];
+            wrong_tried = &wrong_images[k];
             midway = &midways[k];
             printf(" %8.2f", cost(calls[i].function) - cost(calls[i].besides));
         }

@@ -160,6 +160,21 @@ static void joining(void)
                   "the buffer\n");
 }
 
+/* A mend that is offered, one that does not exist, and images that none is looked for. */
+static void mending(void)
+{
+    FILE *file = opened();
+    calling(&tried, FIR_PORTAL, FIR_PORTAL);
+    offer_mend(file, tried.bytes, tried.length);
+    offer_mend(file, tried.bytes, 0);
+    tried.bytes[10] = 3;
+    offer_mend(file, tried.bytes, tried.length);
+    tried.bytes[8] = 3;
+    offer_mend(file, tried.bytes, tried.length);
+    printed(file, "byte 10: 2 in place of 3\n"
+                  "no register type mends it\n");
+}
+
 static void bounds(void)
 {
     calling(&tried, FIR_PORTAL, FIR_PORTAL);
@@ -180,6 +195,7 @@ int main(void)
     without_words();
     positions();
     joining();
+    mending();
     bounds();
     printf("examples: %u passed\n", tests);
     return 0;

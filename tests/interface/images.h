@@ -33,13 +33,17 @@ enum {
     BLOCK = 2,
     LEVEL = 3,
     LIT_32 = 16, /* of the form of 32 bits */
+    MOVE = 17,
+    USE = 18,
     VEC = 20,
+    LEN = 21,
     ARITH = 24,
     SELECT = 25,
     PROM = 29,
     FORCE = 30,
     CALL = 33,
     DISPATCH = 34,
+    SKIP = 35,
     LIT = 36
 };
 
@@ -173,6 +177,29 @@ static inline void calling(image *to, unsigned own, unsigned called)
     RECORD(to, VERSION, 0, 1, 1, 1, 2, 1, 2);
     RECORD(to, LEVEL, (uint8_t)called);
     RECORD(to, BLOCK, 0, 0, 0);
+}
+
+/* `versions` versions of 16 registers. Each calls the next function's, in which the last owns a vector that it takes out of
+ * its register three times: refused by 10 at its VERSION, and no other type mends it. */
+static inline void taken_again(image *to, unsigned versions)
+{
+    unsigned v, i;
+    to->length = 0;
+    for (v = 0; v < versions; v++) {
+        uint8_t body[6 + FIR_REGISTERS] = {(uint8_t)(v / 4), (uint8_t)(v % 4), 1, FIR_REGISTERS, 19, 1, 19};
+        for (i = 1; i < FIR_REGISTERS; i++)
+            body[6 + i] = 19;
+        record(to, VERSION, body, sizeof body);
+        RECORD(to, LEVEL, FIR_PORTAL);
+        RECORD(to, BLOCK, 0, 1, v + 1 < versions ? 2 : 3);
+        RECORD(to, USE, 1, 0);
+        if (v + 1 < versions) {
+            RECORD(to, CALL, 1, (uint8_t)((v + 1) / 4), (uint8_t)((v + 1) % 4), 1, 1);
+        } else {
+            RECORD(to, USE, 2, 0);
+            RECORD(to, USE, 3, 0);
+        }
+    }
 }
 
 #endif

@@ -82,6 +82,12 @@ int main(void)
     AT(fir_joined, detail, 0);
     AT(fir_joined, question, size);
     AT(fir_joined, image, size + 1);
+    same("sizeof fir_mended", sizeof(fir_mended), 3 * size);
+    AT(fir_mended, detail, 0);
+    AT(fir_mended, place, size);
+    AT(fir_mended, question, 2 * size);
+    AT(fir_mended, mend, 2 * size + 1);
+    AT(fir_mended, value, 2 * size + 2);
     same("sizeof fir_entry", sizeof(fir_entry), 4);
     AT(fir_entry, question, 2);
     same("sizeof fir_said", sizeof(fir_said), 16);

@@ -1,6 +1,6 @@
 /* Plays recorded cases, as the program `recorded` of tests/generator writes them, from standard input, and prints a sum over all that
- * the library answers and leaves: numbers, verdicts and texts, moves, images joined, bounds, states, buffers, positions and searches. On two machines the
- * same cases print the same. */
+ * the library answers and leaves: numbers, verdicts and texts, moves, joined images, bounds, mends, states, buffers, positions and
+ * searches. On two machines the same cases print the same. */
 #include <stdio.h>
 #include <stdlib.h>
 #include <string.h>
@@ -150,6 +150,15 @@ static void bound(const image *image)
         add(row_steps[i]);
 }
 
+/* The type that mends it. */
+static void mend(const image *image)
+{
+    const fir_mended mended = fir_mend(image->bytes, image->length);
+    add(mended.detail);
+    add(mended.place);
+    add(mended.question * 65536u + mended.mend * 256u + mended.value);
+}
+
 /* What can be asked of the state. */
 static void look(const image *image)
 {
@@ -226,6 +235,7 @@ static void play(uint64_t length)
     judge(in_force);
     join(in_force);
     bound(in_force);
+    mend(in_force);
     memset(&state, 0, sizeof state);
     memset(buffer, 0, sizeof buffer);
     entry = fir_begin(in_force->bytes, in_force->length, (size_t)level, (size_t)function, (size_t)version, words, (size_t)count,

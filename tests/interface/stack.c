@@ -24,6 +24,7 @@ static image stored; /* in the form of 32 bits, which has 32,768 bytes in that o
 static image current; /* the same in the form of 64 bits */
 static image half; /* of which two have 32,768 bytes and 64 versions */
 static uint8_t out[FIR_IMAGE_BYTES];
+static image broken; /* refused by 10 in a version that calls one with an owned parameter; nothing mends it */
 static uint8_t row_numbers[2 * FIR_ROWS];
 static uint64_t row_steps[FIR_ROWS];
 
@@ -62,6 +63,15 @@ static void bounds(void)
     fir_bounds(searched.bytes, searched.length, row_numbers, row_steps);
 }
 
+static void mend(void)
+{
+    fir_mend(broken.bytes, broken.length);
+    fir_mend(tried.bytes, tried.length);
+    tried.bytes[10] = 19; /* r0 of an image that takes an integer: refused by 8, and mended */
+    fir_mend(tried.bytes, tried.length);
+    tried.bytes[10] = 2;
+}
+
 static void look(void) { fir_look(&state, 0, 3); }
 
 static void search(void)
@@ -80,7 +90,7 @@ static void question_text(void) { fir_question_text(FIR_REFUSED_BOUNDS, text, si
 static void answer_text(void) { fir_answer_text(FIR_STUCK, text, sizeof text); }
 
 /* Runs that are refused by 11, 19 where the entry is for the factory, 12 and 13, changes that are refused by 1 and by 15, moves that are by 3 and by 17,
- * images that are not joined, by the first, the second and 23, and bounds that are refused by 3. */
+ * images that are not joined, by the first, the second and 23, bounds that are refused by 3, and an image that no mend is looked for. */
 static void refusals(void)
 {
     fir_begin(tried.bytes, tried.length, FIR_FACTORY, 31, 3, words, 2, buffer, FIR_ITEMS, &state);
@@ -96,6 +106,7 @@ static void refusals(void)
     fir_join(tried.bytes, tried.length, stored.bytes, stored.length, out, sizeof out);
     fir_join(half.bytes, half.length, half.bytes, half.length, out, sizeof out - 1);
     fir_bounds(stored.bytes, stored.length, row_numbers, row_steps);
+    fir_mend(stored.bytes, stored.length);
 }
 
 static void *call(void *function)
@@ -130,7 +141,7 @@ int main(void)
     } calls[] = {{"fir_check", check}, {"fir_report", report}, {"fir_begin", begin}, {"fir_step", step},
                  {"fir_budget", budget}, {"fir_run", run}, {"fir_change", change}, {"fir_look", look},
                  {"fir_search", search}, {"fir_check_in", check_in}, {"fir_report_in", report_in}, {"fir_widen", widen},
-                 {"fir_narrow", narrow}, {"fir_join", join}, {"fir_bounds", bounds}, {"fir_where", where},
+                 {"fir_narrow", narrow}, {"fir_join", join}, {"fir_mend", mend}, {"fir_bounds", bounds}, {"fir_where", where},
                  {"fir_question_text", question_text}, {"fir_answer_text", answer_text}, {"refusals", refusals}};
     size_t least;
     size_t deepest[sizeof calls / sizeof *calls] = {0};
@@ -147,6 +158,11 @@ int main(void)
     literals(&half, FIR_FORM_64, 32, 37);
     if (fir_join(half.bytes, half.length, half.bytes, half.length, out, sizeof out).detail != sizeof out) {
         printf("stack: the largest pair is refused\n");
+        return 1;
+    }
+    taken_again(&broken, FIR_PLACES);
+    if (fir_mend(broken.bytes, broken.length).mend != FIR_NOT_MENDED) {
+        printf("stack: the broken image is accepted, or mended\n");
         return 1;
     }
     searching(&searched, FIR_VERSIONS, FIR_VERSIONS);

@@ -11,7 +11,7 @@ typedef struct slice {
     uint64_t length;
 } slice;
 
-/* A fir_verdict, a fir_joined and a fir_position with sizes of 64 bits. */
+/* A fir_verdict, a fir_joined, a fir_mended and a fir_position with sizes of 64 bits. */
 typedef struct wide_verdict {
     uint64_t detail;
     uint8_t question;
@@ -22,6 +22,14 @@ typedef struct wide_joined {
     uint8_t question;
     uint8_t image;
 } wide_joined;
+
+typedef struct wide_mended {
+    uint64_t detail;
+    uint64_t place;
+    uint8_t question;
+    uint8_t mend;
+    uint8_t value;
+} wide_mended;
 
 typedef struct wide_position {
     uint64_t offset;
@@ -44,6 +52,7 @@ uint64_t fir_report_in_at(const slice *image, uint8_t form, const slice *text);
 void fir_widen_at(wide_verdict *to, const slice *image, const slice *out);
 void fir_narrow_at(wide_verdict *to, const slice *image, const slice *out);
 void fir_join_at(wide_joined *to, const slice *first, const slice *second, const slice *out);
+void fir_mend_at(wide_mended *to, const slice *image);
 void fir_bounds_at(wide_verdict *to, const slice *image, uint8_t *numbers, uint64_t *steps);
 void fir_begin_at(fir_entry *to, const slice *image, uint64_t level, uint64_t function, uint64_t version, const slice *words,
                   const slice *buffer, fir_state *state);
@@ -153,15 +162,29 @@ fir_verdict fir_narrow(const uint8_t *image, size_t image_length, uint8_t *out, 
 fir_joined fir_join(const uint8_t *first, size_t first_length, const uint8_t *second, size_t second_length, uint8_t *out,
                     size_t out_length)
 {
-    const slice before = lent(first, first_length);
-    const slice behind = lent(second, second_length);
+    const slice one = lent(first, first_length);
+    const slice other = lent(second, second_length);
     const slice there = lent(out, out_length);
     wide_joined wide;
     fir_joined to;
-    fir_join_at(&wide, &before, &behind, &there);
+    fir_join_at(&wide, &one, &other, &there);
     to.detail = (size_t)wide.detail;
     to.question = wide.question;
     to.image = wide.image;
+    return to;
+}
+
+fir_mended fir_mend(const uint8_t *image, size_t image_length)
+{
+    const slice bytes = lent(image, image_length);
+    wide_mended wide;
+    fir_mended to;
+    fir_mend_at(&wide, &bytes);
+    to.detail = (size_t)wide.detail;
+    to.place = (size_t)wide.place;
+    to.question = wide.question;
+    to.mend = wide.mend;
+    to.value = wide.value;
     return to;
 }
 

@@ -6,7 +6,9 @@ use crate::snapshot::untouched;
 use library::{At, Entry, Ran, Run, FIR_ROWS, ROW_NUMBERS};
 use reference::bounds::Steps;
 use reference::longest::Row;
-use reference::{Answer, Bound, End, Form, Integer, Position, Refusal, Said, Unjoined, Verdict};
+use reference::{
+    Answer, Bound, End, Form, Integer, Mended, Position, Refusal, Said, Unjoined, Verdict,
+};
 
 /// The proved library's verdict on an image.
 pub fn verdict(image: &[u8]) -> Verdict {
@@ -43,6 +45,24 @@ pub fn join(first: &[u8], second: &[u8], out: &mut [u8]) -> Result<usize, Unjoin
         library::Unjoined::Second(no) => Unjoined::Second(refusal(no)),
         library::Unjoined::Together(no) => Unjoined::Together(refusal(no)),
     })
+}
+
+/// What can be done for an image.
+pub fn mend(image: &[u8]) -> Mended {
+    match library::mend(image) {
+        library::Mended::Accepted { versions } => Mended::Accepted(versions),
+        library::Mended::Refused(no) => Mended::Refused(refusal(no)),
+        library::Mended::Byte {
+            refusal: no,
+            offset,
+            value,
+        } => Mended::Byte {
+            refusal: refusal(no),
+            offset,
+            value,
+        },
+        library::Mended::Unmended(no) => Mended::Unmended(refusal(no)),
+    }
 }
 
 /// Writes the rows of an image; how many they are.

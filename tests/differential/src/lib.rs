@@ -1,7 +1,8 @@
 //! The proved library beside the reference: its answers in the words of the
 //! reference, runs that are held to the bounds of their entries, the images at the
-//! edges, a second interpreter to time it against, and what compares answers.
+//! edges, images that are hard to mend, a second interpreter to time it against, and what compares answers.
 
+pub mod broken;
 pub mod comparison;
 pub mod difference;
 pub mod edges;

@@ -9,19 +9,20 @@ use crate::snapshot::{state_of, untouched, EMPTY, FILLING, INTEGER, PROMISED, VE
 use crate::words::{answer_words, question_words};
 use library::State as Snapshot;
 use library::{
-    FirAnswer, FirEntry, FirJoined, FirPosition, FirSaid, FirSearched, FirValue, FirVerdict,
-    FirVersions, ACTIVATION, CELLS, FIR_ACCEPTED, FIR_AT_BLOCK_END, FIR_AT_INSTRUCTION, FIR_DEEP,
-    FIR_FIRST_IMAGE, FIR_FORM_32, FIR_FORM_64, FIR_INTEGER, FIR_INTERFACE, FIR_IS_INTEGER,
-    FIR_IS_PROMISE, FIR_IS_VECTOR, FIR_LARGE, FIR_NONE, FIR_NOTHING, FIR_NOWHERE, FIR_OUTSIDE,
-    FIR_PROMISES, FIR_REFUSED, FIR_ROWS, FIR_SECOND_IMAGE, FIR_STATE_LAYOUT, FIR_STEPS, FIR_STUCK,
-    FIR_UNDEF, FIR_VECTOR, FIR_VECTORS, OWNER, PROMISE, ROW_NUMBERS,
+    FirAnswer, FirEntry, FirJoined, FirMended, FirPosition, FirSaid, FirSearched, FirValue,
+    FirVerdict, FirVersions, ACTIVATION, CELLS, FIR_ACCEPTED, FIR_AT_BLOCK_END, FIR_AT_INSTRUCTION,
+    FIR_DEEP, FIR_FIRST_IMAGE, FIR_FORM_32, FIR_FORM_64, FIR_INTEGER, FIR_INTERFACE,
+    FIR_IS_INTEGER, FIR_IS_PROMISE, FIR_IS_VECTOR, FIR_LARGE, FIR_MENDED, FIR_NONE, FIR_NOTHING,
+    FIR_NOT_MENDED, FIR_NOT_SOUGHT, FIR_NOWHERE, FIR_OUTSIDE, FIR_PROMISES, FIR_REFUSED, FIR_ROWS,
+    FIR_SECOND_IMAGE, FIR_STATE_LAYOUT, FIR_STEPS, FIR_STUCK, FIR_UNDEF, FIR_VECTOR, FIR_VECTORS,
+    OWNER, PROMISE, ROW_NUMBERS,
 };
 use reference::bounds::{ITEMS, REGISTERS};
 use reference::longest::{rows, Bound};
 use reference::state::Opener;
 use reference::{
-    change, join, move_from, verdict_in, Answer, End, Form, Position, Program, Refusal, Said,
-    State, Status, Unjoined, Value, Verdict,
+    change, join, mend, move_from, verdict_in, Answer, End, Form, Mended, Position, Program,
+    Refusal, Said, State, Status, Unjoined, Value, Verdict,
 };
 use std::cell::RefCell;
 use std::rc::Rc;
@@ -320,6 +321,27 @@ unsafe extern "C" fn fir_join(
         detail,
         question,
         image,
+    }
+}
+
+#[no_mangle]
+unsafe extern "C" fn fir_mend(image: *const u8, length: usize) -> FirMended {
+    let (detail, question, place, mend, value) = match mend(lent(image, length)) {
+        Mended::Accepted(versions) => (versions, FIR_ACCEPTED, 0, FIR_NOT_SOUGHT, 0),
+        Mended::Refused(no) => (no.offset, no.number, 0, FIR_NOT_SOUGHT, 0),
+        Mended::Byte {
+            refusal: no,
+            offset,
+            value,
+        } => (no.offset, no.number, offset, FIR_MENDED, value),
+        Mended::Unmended(no) => (no.offset, no.number, 0, FIR_NOT_MENDED, 0),
+    };
+    FirMended {
+        detail,
+        place,
+        question,
+        mend,
+        value,
     }
 }
 

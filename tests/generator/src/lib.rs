@@ -15,6 +15,7 @@ mod fact;
 mod faults;
 mod grow;
 mod joins;
+mod mends;
 mod moves;
 mod mutate;
 mod padding;
@@ -31,6 +32,7 @@ pub use dependence::{exact, Depending, Shape};
 pub use faults::{call_up, level_fault, LEVEL_FAULTS, PLACES_OF_CALLS};
 pub use grow::Trap;
 pub use joins::Join;
+pub use mends::{Fault, Mend};
 pub use moves::Move;
 pub use random::Random;
 pub use run::Event;
@@ -98,6 +100,12 @@ pub fn to_join(seed: u64) -> Join {
 /// An accepted image that is to be joined, mostly a small one.
 pub fn to_join_with(seed: u64) -> Vec<u8> {
     joins::program(&mut Random::new(seed)).bytes()
+}
+
+/// A small image that one register type byte may mend, that two would, that none does, or
+/// that another question refuses.
+pub fn to_mend(seed: u64) -> Mend {
+    mends::any(&mut Random::new(seed))
 }
 
 /// An image whose versions depend on each other in chains, loops, diamonds or crowds, one

@@ -14,6 +14,8 @@ use reference::Level;
 /// What a program is like.
 #[derive(Clone, Copy, PartialEq, Eq, Debug)]
 pub enum Theme {
+    /// One or two versions of a few instructions.
+    Tiny,
     /// One version.
     Single,
     /// A few short versions.
@@ -58,6 +60,7 @@ impl Theme {
     /// How many functions, and how many versions of each, if that is fixed.
     fn families(self, random: &mut Random) -> Vec<Option<usize>> {
         match self {
+            Theme::Tiny => vec![Some(1); 1 + random.below(2)],
             Theme::Single => vec![Some(1)],
             Theme::Trap(Trap::NoFit) => {
                 let searched = 1 + random.below(VERSIONS_EACH);
@@ -75,6 +78,7 @@ impl Theme {
     /// About how many instructions each block has.
     fn length(self, random: &mut Random) -> usize {
         match self {
+            Theme::Tiny => 1 + random.below(3),
             Theme::Many => 2,
             Theme::Medium => 6 + random.below(14),
             Theme::Large => 44,

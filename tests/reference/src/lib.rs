@@ -16,6 +16,7 @@
 //! | Program | [`report`] |
 //! | Moving stored images | [`moves`] |
 //! | Two images into one | [`joins`] |
+//! | Smallest mend | [`mends`] |
 //! | Levels of staff | [`types`], [`questions`], [`begin`], [`search`], [`monitor`] |
 //! | How long at most | [`longest`] |
 
@@ -29,6 +30,7 @@ pub mod instruction;
 pub mod joins;
 pub mod kinds;
 pub mod longest;
+pub mod mends;
 pub mod monitor;
 pub mod moves;
 pub mod outside;
@@ -50,6 +52,7 @@ pub use form::{Form, Range};
 pub use instruction::{Instruction, Name, Register};
 pub use joins::{join, join_accepted, Unjoined};
 pub use longest::{bounds_of, Bound};
+pub use mends::{mend, Mended};
 pub use moves::{move_accepted, move_from, moved, widened};
 pub use position::Position;
 pub use program::Program;

@@ -3,6 +3,7 @@
 use crate::command::Check;
 use crate::failure::{Failure, Status};
 use crate::json::Json;
+use crate::mending::{self, Offer};
 use crate::moving::form_of;
 use crate::refusal::{self, Refused};
 use crate::running::answered;
@@ -21,7 +22,8 @@ struct Checked {
 enum Found {
     /// It is accepted, with the text that the library reports.
     Accepted(String),
-    Refused(Source, Refused),
+    /// It is refused, with what can be done for it.
+    Refused(Box<(Source, Refused, Offer)>),
     /// It has no image: it cannot be read, or does not assemble.
     Failed(Failure),
 }
@@ -71,7 +73,7 @@ pub fn all(asked: &Check, streams: &mut Streams) -> Result<Status, Failure> {
         let checked = Checked {
             name: source::name(file),
             found: match Source::read(file, streams) {
-                Ok(source) => look(source, asked.form),
+                Ok(source) => look(source, asked),
                 Err(failure) => Found::Failed(failure),
             },
         };
@@ -90,12 +92,17 @@ pub fn all(asked: &Check, streams: &mut Streams) -> Result<Status, Failure> {
 }
 
 /// Puts an image to the questions of a form.
-fn look(source: Source, form: Form) -> Found {
+fn look(source: Source, asked: &Check) -> Found {
+    let form = asked.form;
     match library::verdict_in(&source.image, form) {
         Verdict::Accepted { .. } => Found::Accepted(report(&source.image, form)),
         Verdict::Refused(no) => {
             let refused = refusal::of_image(form_of(form), &source, no);
-            Found::Refused(source, refused)
+            let offer = match asked.mend && form == Form::Wide {
+                true => mending::offer(&source),
+                false => Offer::NotSought,
+            };
+            Found::Refused(Box::new((source, refused, offer)))
         }
     }
 }
@@ -116,7 +123,11 @@ impl Checked {
     fn tell(&self, streams: &mut Streams) -> Result<(), Failure> {
         match &self.found {
             Found::Accepted(report) => streams.write(report.as_bytes()),
-            Found::Refused(source, refused) => streams.line(&refused.line(source)),
+            Found::Refused(found) => {
+                let (source, refused, offer) = &**found;
+                streams.line(&refused.line(source))?;
+                offer.tell(source, "", streams)
+            }
             Found::Failed(failure) => {
                 failure.tell(streams);
                 Ok(())
@@ -131,7 +142,11 @@ impl Checked {
                 let last = report.lines().last().unwrap_or_default();
                 streams.line(&format!("{}: {last}", self.name))
             }
-            Found::Refused(source, refused) => streams.line(&refused.line_of_several(source)),
+            Found::Refused(found) => {
+                let (source, refused, offer) = &**found;
+                streams.line(&refused.line_of_several(source))?;
+                offer.tell(source, &format!("{}: ", self.name), streams)
+            }
             Found::Failed(_) => self.tell(streams),
         }
     }
@@ -145,7 +160,10 @@ impl Checked {
         ];
         fields.extend(match &self.found {
             Found::Accepted(report) => vec![("versions", versions(report))],
-            Found::Refused(_, refused) => refused.json(),
+            Found::Refused(found) => {
+                let (source, refused, offer) = &**found;
+                [refused.json(), offer.json(source)].concat()
+            }
             Found::Failed(failure) => failure.json(),
         });
         Json::Object(fields)

@@ -56,6 +56,8 @@ pub enum Command {
     Move(Move),
     /// `fir join`
     Join(Join),
+    /// `fir mend`
+    Mend(Mend),
     /// `fir asm`
     Assemble(Conversion),
     /// `fir dis`
@@ -73,6 +75,8 @@ pub struct Check {
     pub files: Vec<OsString>,
     /// The form whose questions they are put to.
     pub form: Form,
+    /// Is a mend to be offered beside a refusal?
+    pub mend: bool,
     /// Is JSON to be printed?
     pub json: bool,
 }
@@ -151,6 +155,17 @@ pub struct Join {
     pub json: bool,
 }
 
+/// An image that is to be mended.
+#[derive(Clone, PartialEq, Eq, Debug)]
+pub struct Mend {
+    /// The image.
+    pub file: OsString,
+    /// The file that is written, if one is.
+    pub out: Option<OsString>,
+    /// Is JSON to be printed?
+    pub json: bool,
+}
+
 /// From one file to another.
 #[derive(Clone, PartialEq, Eq, Debug)]
 pub struct Conversion {
@@ -205,6 +220,7 @@ fn parse_command(name: &str, words: Words) -> Result<Command, String> {
         "lint" => parse_lint(words).map(Command::Lint),
         "move" => parse_move(words).map(Command::Move),
         "join" => parse_join(words).map(Command::Join),
+        "mend" => parse_mend(words).map(Command::Mend),
         "asm" => parse_assembly(words).map(Command::Assemble),
         "dis" => parse_conversion(words).map(Command::Disassemble),
         "explain" => parse_explain(words).map(Command::Explain),
@@ -215,10 +231,15 @@ fn parse_command(name: &str, words: Words) -> Result<Command, String> {
 /// Images that are to be checked.
 fn parse_check(mut words: Words) -> Result<Check, String> {
     let form = parse_form(&mut words, "--form")?;
-    let json = words.flag("--json")?;
+    let (json, mend) = (words.flag("--json")?, !words.flag("--no-mend")?);
     let files = words.files()?;
     ask_standard_input_once(&files)?;
-    Ok(Check { files, form, json })
+    Ok(Check {
+        files,
+        form,
+        mend,
+        json,
+    })
 }
 
 /// Images whose versions are to be listed with their bounds.
@@ -429,6 +450,15 @@ fn parse_join(mut words: Words) -> Result<Join, String> {
     }
     ask_standard_input_once(&files)?;
     Ok(Join { files, out, json })
+}
+
+/// An image that is to be mended.
+fn parse_mend(mut words: Words) -> Result<Mend, String> {
+    let json = words.flag("--json")?;
+    let out = words.option("-o")?;
+    let file = words.file()?;
+    words.finish()?;
+    Ok(Mend { file, out, json })
 }
 
 /// The form that an option names, that of 64 bits where it does not stand.

@@ -8,6 +8,7 @@ use crate::explain;
 use crate::failure::{Failure, Status};
 use crate::joining;
 use crate::lint;
+use crate::mending;
 use crate::moving;
 use crate::running::{self, Manner, Showing};
 use crate::source::{self, Source};
@@ -43,6 +44,7 @@ pub fn execute(command: &Command, streams: &mut Streams) -> Result<Status, Failu
         Command::Lint(asked) => lint::all(asked, streams),
         Command::Move(asked) => moving::all(asked, streams),
         Command::Join(asked) => joining::all(asked, streams),
+        Command::Mend(asked) => mending::one(asked, streams),
         Command::Assemble(conversion) => assemble(conversion, streams),
         Command::Disassemble(conversion) => disassemble(conversion, streams),
         Command::Explain(subject) => print(&explain::text(*subject), streams),

@@ -22,8 +22,8 @@ const INDENT: &str = "    ";
 
 /// What is printed above the list of sections.
 const OPENING: &str = "What a budget says, and the questions in the order in which they are put.
-`fir explain N` says more of a question, `fir explain UNDEF` of UNDEF, `fir explain skip`
-of an instruction.
+`fir explain N` says more of a question, `fir explain UNDEF` of UNDEF, `fir explain mend`
+of the mend beside a refusal, `fir explain skip` of an instruction.
 ";
 
 /// The subject that a word names, in any case of letters; all where there is no word.

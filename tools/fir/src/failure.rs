@@ -7,7 +7,7 @@ use crate::streams::Streams;
 /// The exit status.
 #[derive(Clone, Copy, PartialEq, Eq, Debug)]
 pub enum Status {
-    /// Accepted, DONE, moved, joined, assembled.
+    /// Accepted, mended, DONE, moved, joined, assembled.
     Yes = 0,
     /// Refused, or a text that does not assemble.
     No = 1,

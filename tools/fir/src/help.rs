@@ -1,7 +1,7 @@
 //! The commands with their options, and the help texts.
 
 use crate::manual::{
-    ASM, BOUNDS, CHECK, COMPLETION, DEBUG, DIS, EXPLAIN, JOIN, LINT, MOVE, RUN, TRACE,
+    ASM, BOUNDS, CHECK, COMPLETION, DEBUG, DIS, EXPLAIN, JOIN, LINT, MEND, MOVE, RUN, TRACE,
 };
 use crate::options::{Opt, Takes};
 
@@ -52,7 +52,8 @@ impl Topic {
 /// What `fir --help` prints.
 pub fn all() -> String {
     let mut help =
-        "fir: checks, runs, moves and joins FIR images, by the proved library\n\n".to_string();
+        "fir: checks, mends, runs, moves and joins FIR images, by the proved library\n\n"
+            .to_string();
     help += "usage:\n";
     for topic in &COMMANDS {
         help += &format!("  {}\n      {}\n", topic.usage(), topic.summary);
@@ -71,8 +72,8 @@ name ends in .fir; `-` is standard input. A message on a text begins with
 FILE:LINE:COLUMN.
 
 exit status:
-  0  accepted; DONE; moved; joined; assembled; nothing found by lint; no entry over
-     a bound
+  0  accepted; mended; DONE; moved; joined; assembled; nothing found by lint; no
+     entry over a bound
   1  refused; a text that does not assemble; something found by lint; an entry over
      the steps that bounds --under allows; a trace or a conversion whose reader has
      gone
@@ -135,7 +136,7 @@ const FORMS: Takes = Takes::One(&["32", "64"]);
 const SHELLS: &str = "bash|zsh|fish";
 
 /// The commands.
-pub const COMMANDS: [Topic; 12] = [
+pub const COMMANDS: [Topic; 13] = [
     Topic {
         name: "check",
         given: "FILE..",
@@ -146,10 +147,23 @@ pub const COMMANDS: [Topic; 12] = [
                 takes: FORMS,
                 words: "the form whose questions are put; 64 bits if none is named",
             },
+            Opt {
+                name: "--no-mend",
+                takes: Takes::Nothing,
+                words: "offers no mend beside a refusal",
+            },
             JSON,
         ],
         words: CHECK,
         status: "0 all accepted, 1 one refused or a text that does not assemble,\n2 bad usage or a file that cannot be read",
+    },
+    Topic {
+        name: "mend",
+        given: "FILE",
+        summary: "the type of one register that makes a refused image accepted",
+        options: &[OUT, JSON],
+        words: MEND,
+        status: "0 accepted, or mended and written to OUT, 1 refused or a text that does\nnot assemble, 2 bad usage or a file that cannot be read or written",
     },
     Topic {
         name: "run",

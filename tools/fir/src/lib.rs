@@ -1,7 +1,7 @@
-//! The command-line tool `fir`: it checks, runs, traces, moves, joins, assembles
+//! The command-line tool `fir`: it checks, mends, runs, traces, moves, joins, assembles
 //! and disassembles FIR images, and says how many steps their runs can take.
 //!
-//! Verdicts, bounds, runs, single steps, moved and joined images are those of the proved library. What
+//! Verdicts, mends, bounds, runs, single steps, moved and joined images are those of the proved library. What
 //! the tool adds are words: why an image or a run is refused, and what a step did; and
 //! files that are written whole.
 
@@ -19,6 +19,7 @@ mod joining;
 mod json;
 mod lint;
 mod manual;
+mod mending;
 mod moving;
 mod number;
 mod options;

@@ -10,6 +10,13 @@ no, the offset of the first record that fails, and why. On a text it begins with
 FILE:LINE:COLUMN, the place to look at. Of several files each gets one line that
 begins with its name, and there is a count at the end.
 
+Where 6, 8, 9 or 10 refuses, and the type of one register, changed, makes the image
+accepted, there is a further line: the register and its version, the new type, the
+one that it takes the place of, and which other types would do. On a text it begins
+with the place of the type's words; for bytes it has the byte's new and old number
+and its offset. `fir mend` says how the type is chosen, and writes the mended file.
+--no-mend leaves the line out.
+
 The questions are those of the form in force, whose literals have 64 bits. With
 --form 32 they are those of the form before, which differ in its literals alone.
 
@@ -19,11 +26,47 @@ name ends in .fir; `-` is standard input.
 With --json each file gets an object with `file` and `accepted`; an accepted image
 has `versions`, each with `version`, `read`, `assigned`, `emptied` and `captured`; a
 refused one `question`, `offset`, `words` and on a text `line` and `column`; a text
-that does not assemble the last three; a file that cannot be read `error`.
+that does not assemble the last three; a file that cannot be read `error`. An image
+that 6, 8, 9 or 10 refuses has `mend`, null where no type mends it, else an object
+that an editor can apply: the `offset` of the byte, its `old` and `new` number, the
+`version` and the `register`, `words`, and on a text the place of the type's words,
+`line`, `column` and `length` in characters, and the `text` to put there; and `also`,
+the other types that would do, each with `new` and `text`.
 
 example:
   $ fir check wrong.fir
   wrong.fir:6:5: refused by 8 at 37: SET needs an owned vector, r2 is a shared vector
+  wrong.fir:2:17: mend: r2 of 0.0: own vector in place of vector
+";
+
+/// `fir mend`
+pub const MEND: &str = "\
+Looks for a correction of an image that 6, 8, 9 or 10 refuses: the type of one
+register, changed, that makes the image accepted. Parameters are registers too;
+return types and the types of a DISPATCH are not changed. Of all such changes it
+names that of the register that stands first in the image, and of its types the
+first in this order: any, value, int, vector, quiet promise, reflective promise, own
+vector, borrow vector; the others of them that would do are named behind it. It is a
+correction, and need not be what the author meant. It prints the line of the refusal,
+then the mend, or that there is none; for other refusals none is looked for.
+
+With -o the mended file is written to OUT: of an image its bytes, of a text the text
+with the type's words changed and all else as it was, comments and spaces too. OUT is
+another file than FILE, and another file of this name is replaced. It is written
+beside its place and then renamed, so none is ever there in part. Where nothing is
+mended, nothing is written.
+
+FILE is a text or an image's bytes by what it holds, and always a text where its
+name ends in .fir; `-` is standard input.
+
+With --json there is the object of `fir check --json`, without the `versions` of an
+accepted image, and with `out` where a file was written.
+
+example:
+  $ fir mend wrong.fir -o mended.fir
+  wrong.fir:6:5: refused by 8 at 37: SET needs an owned vector, r2 is a shared vector
+  wrong.fir:2:17: mend: r2 of 0.0: own vector in place of vector
+  mended to mended.fir
 ";
 
 /// `fir run`
@@ -303,8 +346,8 @@ image from standard input. `fir asm` makes the same bytes of the text.
 /// `fir explain`
 pub const EXPLAIN: &str = "\
 Says what the question N asks, with scripts that it refuses and mended ones; or what
-UNDEF, STEPS, DEEP, VECTORS or PROMISES means, or what an instruction such as skip
-does, the WORD in any case of letters. Without either it lists all. The text is that
+UNDEF, STEPS, DEEP, VECTORS or PROMISES means, how a mend is found, or what an
+instruction such as skip does, the WORD in any case of letters. Without either it lists all. The text is that
 of docs/LANGUAGE.md, of instructions that of docs/TEXT-FORM.md.
 
 example:

@@ -9,6 +9,7 @@ use std::ffi::{OsStr, OsString};
 use std::fs::File;
 use std::io::{Read, Result as Reading};
 use std::path::Path;
+use text::Words;
 
 /// The most bytes that are read of a file.
 const MOST_BYTES: usize = 16 << 20;
@@ -28,6 +29,8 @@ pub struct Source {
     pub image: Vec<u8>,
     /// The text; none for an image from bytes.
     pub text: Option<String>,
+    /// Has the file of the text a byte order mark before it?
+    pub is_marked: bool,
     /// Offsets with their lines, in order; empty for an image from bytes.
     lines: Vec<(usize, usize)>,
     /// The column of the first word of each line.
@@ -41,6 +44,7 @@ impl Source {
             name: name.to_string(),
             image,
             text: None,
+            is_marked: false,
             lines: Vec::new(),
             columns: Vec::new(),
         }
@@ -56,6 +60,7 @@ impl Source {
                 lines: lined.lines,
                 columns: text.lines().map(text::first_column).collect(),
                 text: Some(text),
+                is_marked: false,
             }),
             Err(error) => Err(Failure::Text(Wrong {
                 name,
@@ -73,7 +78,12 @@ impl Source {
     pub fn read(file: &OsStr, streams: &mut Streams) -> Result<Source, Failure> {
         let (bytes, name) = (bytes_of(file, streams)?, name(file));
         if is_text(Path::new(file)) || looks_like_text(&bytes) {
-            Source::text(text_from(bytes, &name)?, &name)
+            let is_marked = bytes.starts_with(BYTE_ORDER_MARK);
+            let source = Source::text(text_from(bytes, &name)?, &name)?;
+            Ok(Source {
+                is_marked,
+                ..source
+            })
         } else {
             Ok(Source::bytes(bytes, &name))
         }
@@ -114,6 +124,24 @@ impl Source {
         let (line, column) = text::declaration(text, self.line(version)?, register)?;
         Some(Position { line, column })
     }
+
+    /// The words of a register's type in the text, of the version at an offset; those of
+    /// its byte where that stands in a `bytes` line.
+    pub fn type_words(&self, version: usize, register: usize, byte: usize) -> Option<Words> {
+        let (text, register) = (self.text.as_ref()?, u8::try_from(register).ok()?);
+        let declared = text::declared_type(text, self.line(version)?, register);
+        declared.or_else(|| {
+            let behind = self.lines.partition_point(|&(first, _)| first <= byte);
+            let &(first, line) = self.lines.get(behind.checked_sub(1)?)?;
+            text::byte_digits(text, line, byte - first)
+        })
+    }
+}
+
+/// The bytes of a file that holds a text, behind a byte order mark if it has one.
+pub fn bytes_of_text(text: &str, is_marked: bool) -> Vec<u8> {
+    let mark = if is_marked { BYTE_ORDER_MARK } else { &[] };
+    [mark, text.as_bytes()].concat()
 }
 
 /// Are these the bytes of a text? An image that has a whole record has bytes that no text

@@ -96,6 +96,8 @@ fn offered(words: &[&str]) -> Vec<String> {
 fn bash_offers_commands_options_and_their_values() {
     assert_eq!(offered(&["fir", "che"]), ["check"]);
     assert_eq!(offered(&["fir", "help", "tra"]), ["trace"]);
+    assert_eq!(offered(&["fir", "me"]), ["mend"]);
+    assert_eq!(offered(&["fir", "check", "--no"]), ["--no-mend"]);
     assert_eq!(offered(&["fir", "run", "--bud"]), ["--budget"]);
     assert_eq!(offered(&["fir", "move", "a", "--to", "3"]), ["32"]);
     assert_eq!(offered(&["fir", "completion", "z"]), ["zsh"]);

@@ -38,7 +38,7 @@ fn checked(form: Form, image: &[u8], origin: &str) -> Option<u8> {
         Form::Narrow => ("32", library::Form::Narrow),
         Form::Wide => ("64", library::Form::Wide),
     };
-    let done = fir(&["check", "-", "--form", bits], image);
+    let done = fir(&["check", "-", "--no-mend", "--form", bits], image);
     assert_eq!(done.errors, "", "{origin}");
     match library::verdict_in(image, of_library) {
         Verdict::Accepted { versions } => {

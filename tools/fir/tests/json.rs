@@ -45,7 +45,10 @@ fn check_prints_an_object_for_each_file() {
     let bad = ADDING.replace("get r0[r1]", "get r1[r1]");
     let bad = file("json", "bad.fir", bad.as_bytes());
     let wrong = file("json", "wrong.fir", b"\n verson \"<\n");
-    let done = fir(&["check", "--json", &bad, &wrong, "missing"], b"");
+    let done = fir(
+        &["check", "--json", "--no-mend", &bad, &wrong, "missing"],
+        b"",
+    );
     let text = done.text();
     let lines: Vec<&str> = text.lines().collect();
     let begin = format!(r#"{{"file":"{bad}","accepted":false,"question":8,"offset":"#);

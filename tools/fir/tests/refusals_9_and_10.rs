@@ -144,7 +144,7 @@ fn a_text_gets_its_lines_named() {
     let text = "# a comment\n\nversion 0.0(r0: vector, r1: int) -> int\n  level portal\n  block 0 quiet -> r1\n    set r0[r1] = r1 # shared\n";
     let file = file("lines", "wrong.fir", text.as_bytes());
     assert_eq!(
-        fir(&["check", &file], b"").text(),
+        fir(&["check", &file, "--no-mend"], b"").text(),
         format!(
             "{file}:6:5: refused by 8 at 24: SET needs an owned vector, r0 is a shared vector\n"
         )
@@ -152,7 +152,7 @@ fn a_text_gets_its_lines_named() {
     let text = "version 0.0(r0: own vector) -> int\n  registers r1: int\n  level portal\n  block 0 quiet -> r1\n\n    r1 = call 0.0(r0)\n    r1 = len r0\n";
     let file = support::file("lines", "flow.fir", text.as_bytes());
     assert_eq!(
-        fir(&["check", &file], b"").text(),
+        fir(&["check", &file, "--no-mend"], b"").text(),
         format!("{file}:7:5: refused by 10 at 0: in VERSION 0.0, r0 is emptied by CALL of 0.0 at 24 (line 6) and read again by LEN at 33 (line 7)\n")
     );
 }

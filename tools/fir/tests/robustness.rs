@@ -111,8 +111,8 @@ fn add_run(random: &mut Random, line: &mut Vec<OsString>, files: &[String]) {
 /// A command line; what is written goes to a file of the test's own.
 fn line(random: &mut Random, files: &[String], out: &str) -> Vec<OsString> {
     let command = random.pick(&[
-        "check", "check", "run", "run", "trace", "debug", "lint", "bounds", "move", "join", "asm",
-        "dis", "help",
+        "check", "check", "run", "run", "trace", "debug", "lint", "bounds", "move", "join", "mend",
+        "asm", "dis", "help",
     ]);
     let mut line: Vec<OsString> = vec![command.into(), random.pick(files).into()];
     if ["run", "trace", "debug"].contains(&command) {
@@ -121,13 +121,15 @@ fn line(random: &mut Random, files: &[String], out: &str) -> Vec<OsString> {
     if command == "join" {
         line.extend((0..1 + random.below(3)).map(|_| random.pick(files).into()));
     }
-    if ["check", "run", "trace", "lint", "bounds", "join"].contains(&command) && random.one_in(4) {
+    if ["check", "run", "trace", "lint", "bounds", "join", "mend"].contains(&command)
+        && random.one_in(4)
+    {
         line.push("--json".into());
     } else if command == "trace" && random.one_in(3) {
         line.push(format!("--html={out}").into());
     }
     line.extend(own_options(random, command));
-    if ["asm", "dis", "move", "join"].contains(&command) {
+    if ["asm", "dis", "move", "join", "mend"].contains(&command) {
         line.extend(["-o".into(), out.into()]);
     }
     match random.below(12) {
@@ -195,6 +197,7 @@ fn no_text_makes_it_panic() {
         for call in [
             &["check", &file][..],
             &["asm", &file],
+            &["mend", &file],
             &["run", &file, "0.0", "--budget", "9"],
         ] {
             let done = fir(call, b"");

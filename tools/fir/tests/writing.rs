@@ -17,6 +17,12 @@ const TEXT: &str = "version 0.0(r0: int) -> int
   block 0 quiet -> r0
 ";
 
+/// The text of an image that one type mends.
+const WRONG: &str = "version 0.0(r0: vector) -> int # a reading
+  level portal
+  block 0 quiet -> r0
+";
+
 /// A command that writes a file.
 struct Writer {
     command: &'static str,
@@ -59,6 +65,12 @@ const JOIN: Writer = Writer {
     option: "-o",
     content: &IDENTITY,
 };
+const MEND: Writer = Writer {
+    command: "mend",
+    behind: &[],
+    option: "-o",
+    content: WRONG.as_bytes(),
+};
 const TRACE: Writer = Writer {
     command: "trace",
     behind: &["0.0", "7"],
@@ -67,7 +79,7 @@ const TRACE: Writer = Writer {
 };
 
 /// All commands that write a file.
-const WRITERS: [Writer; 5] = [ASM, DIS, MOVE, JOIN, TRACE];
+const WRITERS: [Writer; 6] = [ASM, DIS, MOVE, JOIN, MEND, TRACE];
 
 /// An empty folder of the test's own, for one command.
 fn folder(test: &str, writer: &Writer) -> String {
@@ -231,7 +243,7 @@ fn a_pipe_is_written_to_and_stays_one() {
 
 #[test]
 fn a_folder_is_not_replaced() {
-    for writer in &[ASM, DIS, TRACE] {
+    for writer in &[ASM, DIS, MEND, TRACE] {
         let content = writer.content;
         let folder = folder("folder", writer);
         let (file, out) = (put(&folder, "read", content), format!("{folder}/out"));

@@ -90,6 +90,14 @@ pub const FIR_FIRST_IMAGE: u8 = 1;
 /// Of two images that are to be joined, the second is refused.
 pub const FIR_SECOND_IMAGE: u8 = 2;
 
+/// No mend is looked for: the image is accepted, or refused by another question than 6, 8,
+/// 9 and 10.
+pub const FIR_NOT_SOUGHT: u8 = 0;
+/// A register type byte, changed, makes the image accepted.
+pub const FIR_MENDED: u8 = 1;
+/// No register type byte does.
+pub const FIR_NOT_MENDED: u8 = 2;
+
 /// The rows of bounds that are lent: one for each version that an image may have.
 pub const FIR_ROWS: usize = 64;
 /// In place of a bound: it is above 4,294,967,295.

@@ -1,5 +1,5 @@
-//! The proved FIR library, safe to call: it checks images, moves, joins and runs them,
-//! and says how many steps their runs can take.
+//! The proved FIR library, safe to call: it checks images, mends, moves, joins and
+//! runs them, and says how many steps their runs can take.
 //!
 //! What `fir.h` asks of its caller holds by construction: slices and `&mut` rule
 //! out null, misaligned and overlapping memory, that a state has the layout that
@@ -12,6 +12,7 @@ mod bounding;
 mod checking;
 mod constants;
 mod joining;
+mod mending;
 mod moving;
 mod parts;
 mod raw;
@@ -24,12 +25,13 @@ pub use bounding::{bounds, bounds_into, Bound, Row, ROW_NUMBERS};
 pub use checking::{report, verdict};
 pub use constants::*;
 pub use joining::join;
+pub use mending::{mend, Mended};
 pub use moving::{narrow, report_in, verdict_in, widen, Form};
 pub use parts::{Activation, Opener, Promise};
 #[cfg(feature = "stand_in")]
 pub use raw::{
-    FirAnswer, FirEntry, FirJoined, FirPosition, FirSaid, FirSearched, FirValue, FirVerdict,
-    FirVersions,
+    FirAnswer, FirEntry, FirJoined, FirMended, FirPosition, FirSaid, FirSearched, FirValue,
+    FirVerdict, FirVersions,
 };
 pub use run::{Entry, Run, FACTORY, PORTAL, STAFF};
 pub use state::{version, State, Versions, ACTIVATION, CELLS, OWNER, PROMISE};

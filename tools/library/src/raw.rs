@@ -24,6 +24,22 @@ pub struct FirJoined {
     pub image: u8,
 }
 
+/// What can be done for an image: `FIR_ACCEPTED` and the number of versions, or a question
+/// and its offset, and beside it the change of a byte.
+#[repr(C)]
+pub struct FirMended {
+    /// How many versions, or the offset.
+    pub detail: usize,
+    /// With `FIR_MENDED` the offset of the byte, else 0.
+    pub place: usize,
+    /// The question, or `FIR_ACCEPTED`.
+    pub question: u8,
+    /// `FIR_NOT_SOUGHT`, `FIR_MENDED` or `FIR_NOT_MENDED`.
+    pub mend: u8,
+    /// With `FIR_MENDED` the new value of the byte, else 0.
+    pub value: u8,
+}
+
 /// Whether a run has begun, or goes on under a new image: `FIR_ACCEPTED`, or a
 /// question and its offset.
 #[repr(C)]
@@ -151,6 +167,7 @@ extern "C" {
         out: *mut u8,
         out_length: usize,
     ) -> FirJoined;
+    pub fn fir_mend(image: *const u8, image_length: usize) -> FirMended;
     pub fn fir_bounds(
         image: *const u8,
         image_length: usize,

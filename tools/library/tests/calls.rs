@@ -1,11 +1,11 @@
 //! Each call of the proved library, on images whose answers are worked out by hand.
 
 use library::{
-    answer_text, bounds, bounds_into, join, narrow, question_text, report, report_in, verdict,
-    verdict_in, version, widen, Activation, Answer, At, Bound, End, Entry, Form, Held, Opener,
-    Position, Promise, Ran, Refusal, Row, Run, Said, Search, State, Unjoined, Verdict, Versions,
-    CELLS, FACTORY, FIR_ANSWER_TEXT_BYTES, FIR_ITEMS, FIR_LARGE, FIR_NONE, FIR_QUESTION_TEXT_BYTES,
-    FIR_REGISTERS, FIR_ROWS, PORTAL, ROW_NUMBERS, STAFF,
+    answer_text, bounds, bounds_into, join, mend, narrow, question_text, report, report_in,
+    verdict, verdict_in, version, widen, Activation, Answer, At, Bound, End, Entry, Form, Held,
+    Mended, Opener, Position, Promise, Ran, Refusal, Row, Run, Said, Search, State, Unjoined,
+    Verdict, Versions, CELLS, FACTORY, FIR_ANSWER_TEXT_BYTES, FIR_ITEMS, FIR_LARGE, FIR_NONE,
+    FIR_QUESTION_TEXT_BYTES, FIR_REGISTERS, FIR_ROWS, PORTAL, ROW_NUMBERS, STAFF,
 };
 
 /// The version that the runs enter.
@@ -185,6 +185,38 @@ fn a_refusal_to_join_says_of_which_image_and_writes_nothing() {
     let no = Unjoined::Together(no(23, 0));
     assert_eq!(join(&first, &first, short), Err(no));
     assert_eq!(out, [7; 400]);
+}
+
+/// A text whose r1 is of this type, and which adds.
+fn adding_to(ty: &str) -> Vec<u8> {
+    let text = format!(
+        "version 0.0(r0: int) -> int
+           registers r1: {ty}
+           level portal
+           block 0 quiet -> r0
+             r1 = add r0, r0
+             r0 = add r1, r0"
+    );
+    text::assemble(&text).expect("a text that is well formed")
+}
+
+#[test]
+fn a_wrong_type_is_mended_by_one_byte() {
+    let (right, wrong) = (adding_to("int"), adding_to("vector"));
+    assert_eq!(mend(&right), Mended::Accepted { versions: 1 });
+    let refusal = no(8, 24);
+    let byte = Mended::Byte {
+        refusal,
+        offset: 11,
+        value: 2,
+    };
+    assert_eq!(mend(&wrong), byte);
+    assert_eq!(wrong, adding_to("vector"));
+    let mut twice = wrong.clone();
+    twice[10] = 3;
+    assert_eq!(mend(&twice), Mended::Unmended(no(8, 17)));
+    let cut = &wrong[..wrong.len() - 1];
+    assert_eq!(mend(cut), Mended::Refused(no(2, wrong.len() - 8)));
 }
 
 #[test]

@@ -98,6 +98,9 @@ fn constants() -> Vec<(&'static str, usize)> {
         FIR_FORM_32,
         FIR_FIRST_IMAGE,
         FIR_SECOND_IMAGE,
+        FIR_NOT_SOUGHT,
+        FIR_MENDED,
+        FIR_NOT_MENDED,
     ];
     [&bounds_and_questions()[..], &answers].concat()
 }

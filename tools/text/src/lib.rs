@@ -96,7 +96,7 @@ mod line;
 mod vocabulary;
 
 pub use assemble::{assemble, assemble_lined, first_column, Lined};
-pub use declarations::declaration;
+pub use declarations::{byte_digits, declaration, declared_type, Words};
 pub use disassemble::{disassemble, listing};
 pub use error::Error;
 pub use instruction::print as instruction_text;

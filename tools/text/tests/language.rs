@@ -5,8 +5,8 @@ use cases::exact;
 use reference::bounds::{Steps, BUFFER, MAX_IMAGE};
 use reference::questions::QUESTIONS;
 use reference::{
-    bounds_of, change, join, move_from, report, verdict, Answer, Bound, End, Form, Integer,
-    Program, Refusal, State, Unjoined, Verdict,
+    bounds_of, change, join, mend, move_from, report, verdict, Answer, Bound, End, Form, Integer,
+    Mended, Program, Refusal, State, Type, Unjoined, Verdict,
 };
 use std::fs;
 use std::path::{Path, PathBuf};
@@ -242,6 +242,28 @@ fn listed(image: &[u8]) -> Result<String, Refusal> {
     Ok(rows.collect::<Vec<_>>().join(", "))
 }
 
+/// What is offered for a refused image: `; mend: r1 of 0.0: int in place of vector`, or
+/// that nothing is; nothing for those that no mend is looked for.
+fn mended(image: &[u8]) -> String {
+    let (offset, value) = match mend(image) {
+        Mended::Byte { offset, value, .. } => (offset, value),
+        Mended::Unmended(_) => return "; no mend".to_string(),
+        Mended::Accepted(_) | Mended::Refused(_) => return String::new(),
+    };
+    let program = Program::ordered(image).expect("6 or a later question refuses it");
+    let mut versions = program.versions.iter().rev();
+    let version = versions.find(|version| version.offset < offset);
+    let version = version.expect("a register type of a version");
+    let (head, register) = (&version.head, offset - version.offset - 10);
+    let sort = match register < usize::from(head.parameters) {
+        true => "parameter ",
+        false => "",
+    };
+    let [new, old] = [value, image[offset]].map(|byte| text::type_text(Type(byte)));
+    let (function, number) = (head.function, head.version);
+    format!("; mend: {sort}r{register} of {function}.{number}: {new} in place of {old}")
+}
+
 /// What comes of a trial of an image; a run is kept for the changes behind it.
 fn outcome(trial: &Trial, image: Vec<u8>, run: &mut Option<Run>) -> Result<String, Refusal> {
     match *trial {
@@ -282,7 +304,13 @@ fn each_script_does_what_the_line_above_it_says() {
     {
         let (trial, said) = trial(caption).unwrap_or_else(|| panic!("no trial: {caption}"));
         let found = outcome(&trial, exact(&script), &mut run);
-        let found = found.unwrap_or_else(|no| format!("refused by {} at {}", no.number, no.offset));
+        let found = found.unwrap_or_else(|no| {
+            let mend = match trial {
+                Trial::Checked => mended(&exact(&script)),
+                _ => String::new(),
+            };
+            format!("refused by {} at {}{mend}", no.number, no.offset)
+        });
         if found != said {
             wrong.push(format!("{caption}, but: {found}\n{script}"));
         }
@@ -309,6 +337,16 @@ fn each_refusal_has_a_wrong_script_and_a_mended_one_behind_it() {
             refused[first..].iter().any(|refused| !refused),
             "no mended script of {number}"
         );
+    }
+}
+
+#[test]
+fn refusals_that_a_type_mends_show_one() {
+    let examples = examples();
+    for number in reference::mends::MENDED {
+        let mut here = examples.iter().filter(|example| example.section == number);
+        let mended = here.any(|one| one.caption.contains("; mend: "));
+        assert!(mended, "no mend is shown of {number}");
     }
 }
 

@@ -1,6 +1,6 @@
 //! Where in a text something is wrong, and where registers are declared.
 
-use text::{assemble, declaration};
+use text::{assemble, byte_digits, declaration, declared_type};
 
 /// The line and the column of what is wrong in a text.
 #[track_caller]
@@ -63,4 +63,34 @@ fn a_register_that_is_not_declared_is_nowhere() {
     assert_eq!(declaration(TEXT, 3, 4), None, "behind a block");
     assert_eq!(declaration(TEXT, 0, 0), None);
     assert_eq!(declaration(TEXT, 99, 0), None);
+}
+
+/// The words of a register's type, with their line and column.
+fn type_of(version: usize, register: u8) -> Option<(usize, usize, &'static str)> {
+    let words = declared_type(TEXT, version, register)?;
+    Some((words.line, words.column, &TEXT[words.bytes]))
+}
+
+#[test]
+fn the_words_of_a_type_are_found_behind_its_register() {
+    assert_eq!(type_of(1, 0), Some((1, 17, "int")));
+    assert_eq!(type_of(1, 1), Some((1, 26, "vector")));
+    assert_eq!(type_of(1, 2), None);
+    assert_eq!(type_of(3, 1), Some((5, 17, "int")));
+    assert_eq!(type_of(3, 2), Some((5, 26, "own vector")));
+    assert_eq!(type_of(3, 13), Some((7, 27, "int")));
+    let text = "# é\r\nversion 0.0(r0: borrow  vector ) -> int\r\n";
+    let words = declared_type(text, 2, 0).expect("it is declared");
+    assert_eq!((words.line, words.column), (2, 17));
+    assert_eq!(&text[words.bytes], "borrow  vector");
+}
+
+#[test]
+fn the_digits_of_a_byte_are_found_by_its_place() {
+    let text = "version 0.0() -> int\n  bytes 0b  00 # 01\n";
+    let found = |place| byte_digits(text, 2, place).map(|words| (words.column, &text[words.bytes]));
+    assert_eq!(found(0), Some((9, "0b")));
+    assert_eq!(found(1), Some((13, "00")));
+    assert_eq!(found(2), None);
+    assert_eq!(byte_digits(text, 1, 0), None);
 }

@@ -1,13 +1,15 @@
 //! How long a verdict takes, by the proved library and by the reference, how long the
 //! move of an image to the form of 32 bits and the bounds of its versions, which ask
-//! for one, and how long joining two images, which asks for two.
+//! for one, how long joining two images, which asks for two, and how long the search for
+//! a mend.
 
 use cases::image;
+use differential::broken::{misfit, unassigned, uncovered, Long};
 use differential::engine;
 use library::FIR_IMAGE_BYTES;
 use reference::bounds::VERSIONS;
 use reference::questions::records;
-use reference::{bounds_of, move_from, verdict, Bound, Form, Program, Verdict};
+use reference::{bounds_of, mend, move_from, verdict, Bound, Form, Mended, Program, Verdict};
 use std::fmt::Write;
 use std::hint::black_box;
 use std::time::Instant;
@@ -57,6 +59,68 @@ fn main() {
     compare_bounds("crowd", &crowd(), 20);
     compare_bounds("calls", &calls(), 20);
     compare_bounds("largest", &largest(), 20);
+    println!("microseconds for a mend, the verdict among them\n");
+    compare_mend("script of 1 KB, mended", &wrong(2, &[9]), 20, true);
+    compare_mend("script of 1 KB, not mended", &wrong(2, &[9, 10]), 20, true);
+    compare_mend(
+        "largest, mended in its last version",
+        &wrong(VERSIONS, &[9]),
+        5,
+        false,
+    );
+    compare_mend("largest, not mended", &wrong(VERSIONS, &[9, 10]), 5, false);
+    compare_mend("8 in the last of 64 versions", &misfit(), 5, false);
+    compare_mend("9 in the last of 64 versions", &uncovered(), 5, false);
+    for long in [Long::Calls, Long::Dispatches, Long::Skips] {
+        for owned in [true, false] {
+            let sort = if owned { "owned" } else { "shared" };
+            let name = format!("10, {long:?}, {sort}");
+            compare_mend(&name, &unassigned(long, owned), 1, false);
+        }
+    }
+}
+
+/// Versions of 512 bytes, with these registers of the last one vectors in place of integers.
+fn wrong(count: usize, registers: &[usize]) -> Vec<u8> {
+    let mut image = versions(count);
+    let last = 512 * (count - 1);
+    for register in registers {
+        image[last + 10 + register] = 3;
+    }
+    image
+}
+
+/// Times the verdict on a refused image and its mend, so many in a round, and the plain
+/// search of the reference once, where that is asked for.
+fn compare_mend(name: &str, image: &[u8], times: u32, plainly: bool) {
+    let found = engine::mend(image);
+    let what = match found {
+        Mended::Byte {
+            refusal,
+            offset,
+            value,
+        } => {
+            format!(
+                "refused by {}, mended by {value} at {offset}",
+                refusal.number
+            )
+        }
+        Mended::Unmended(no) => format!("refused by {}, not mended", no.number),
+        other => panic!("{name}: {other:?}"),
+    };
+    println!("{name}: {} bytes, {what}", image.len());
+    let [mut verdict, mut mended, mut plain] = [const { Times(Vec::new()) }; 3];
+    for _ in 0..ROUNDS {
+        verdict.add(times, || library::verdict(black_box(image)));
+        mended.add(times, || library::mend(black_box(image)));
+    }
+    print_line("verdict", verdict.min(), verdict.median());
+    print_line("mend", mended.min(), mended.median());
+    if plainly {
+        plain.add(1, || assert_eq!(mend(black_box(image)), found));
+        print_line("reference", plain.min(), plain.median());
+    }
+    println!();
 }
 
 /// Times the verdict on an accepted image and the bounds of its versions, so many in a

@@ -10,6 +10,7 @@ mod ends;
 mod events;
 mod joins;
 mod levels;
+mod mends;
 mod moves;
 mod refill;
 mod round_trip;

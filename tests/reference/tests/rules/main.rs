@@ -7,6 +7,7 @@ mod joins;
 mod levels;
 mod levels_runs;
 mod longest;
+mod mends;
 mod mistakes;
 mod moves;
 mod proved_cases;

@@ -82,7 +82,7 @@ pub fn file(test: &str, name: &str, content: &[u8]) -> String {
 /// Asserts what `fir check` prints for an image that is refused.
 #[track_caller]
 pub fn refused(image: &[u8], line: &str) {
-    let done = fir(&["check", "-"], image);
+    let done = fir(&["check", "-", "--no-mend"], image);
     assert_eq!(done.text(), format!("{line}\n"));
     assert_eq!((done.status, done.errors.as_str()), (1, ""));
 }
