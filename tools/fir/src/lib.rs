@@ -27,6 +27,7 @@ mod page;
 mod place;
 mod refusal;
 mod running;
+mod several;
 mod single;
 mod source;
 mod stats;

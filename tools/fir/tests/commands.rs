@@ -4,7 +4,7 @@ mod support;
 
 use cases::image;
 use std::fs;
-use support::{file, fir, Done, STEPS, STOPPED, UNDEF};
+use support::{did, file, fir, STEPS, STOPPED, UNDEF};
 
 /// The identity on integers.
 const IDENTITY: &str = "version 0.0(r0: int) -> int\n  level portal\n  block 0 quiet -> r0\n";
@@ -19,14 +19,6 @@ version 0.0(r0: vector, r1: int) -> own vector
     r3 = lit 0
     set r2[r3] = r1
 ";
-
-/// Asserts all that a command did.
-#[track_caller]
-fn did(done: &Done, status: u8, output: &str, errors: &str) {
-    assert_eq!(done.text(), output);
-    assert_eq!(done.errors, errors);
-    assert_eq!(done.status, status);
-}
 
 #[test]
 fn check_prints_the_report_of_an_accepted_image() {

@@ -5,8 +5,7 @@ mod support;
 
 use cases::{exact, IDENTITY};
 use std::fs;
-use std::path::Path;
-use support::{fir, Done};
+use support::{did, fir, names, put};
 
 /// One function that calls itself, and one that is searched for.
 const CALLER: &str = "
@@ -46,40 +45,9 @@ version 0.1(r0: int) -> int
 const WHY: &str =
     "refused by 18 at 23: CALL of 0.1 goes up: 0.0 is of level portal, and 0.1 of staff";
 
-/// Asserts all that a command did.
-#[track_caller]
-fn did(done: &Done, status: u8, output: &str, errors: &str) {
-    assert_eq!(done.text(), output);
-    assert_eq!(done.errors, errors);
-    assert_eq!(done.status, status);
-}
-
 /// An empty folder of the test's own.
 fn folder(test: &str) -> String {
-    let folder = Path::new(env!("CARGO_TARGET_TMPDIR"))
-        .join("joins")
-        .join(test);
-    let _ = fs::remove_dir_all(&folder);
-    fs::create_dir_all(&folder).expect("a folder is made");
-    folder.to_str().expect("a plain path").to_string()
-}
-
-/// A file in a folder.
-fn put(folder: &str, name: &str, content: &[u8]) -> String {
-    let path = format!("{folder}/{name}");
-    fs::write(&path, content).expect("a file is written");
-    path
-}
-
-/// The names in a folder, in order.
-fn names(folder: &str) -> Vec<String> {
-    let entries = fs::read_dir(folder).expect("a folder");
-    let name = |entry: std::io::Result<fs::DirEntry>| entry.expect("an entry").file_name();
-    let mut names: Vec<String> = entries
-        .map(|entry| name(entry).to_string_lossy().into_owned())
-        .collect();
-    names.sort();
-    names
+    support::folder("joins", test)
 }
 
 /// What the reference makes of two images.

@@ -8,7 +8,7 @@ use generator::to_mend;
 use library::Mended;
 use std::fs;
 use support::json::Value;
-use support::{file, fir, Done};
+use support::{did, file, fir};
 
 /// How many generated images are mended as texts.
 const IMAGES: u64 = 1_500;
@@ -27,14 +27,6 @@ version 0.0(r0: int) -> int
 /// Why it is refused, and its mend.
 const WHY: &str = "refused by 8 at 24: LIT gives an integer, r1 is a shared vector";
 const MEND: &str = "mend: r1 of 0.0: int in place of vector";
-
-/// Asserts all that a command did.
-#[track_caller]
-fn did(done: &Done, status: u8, output: &str, errors: &str) {
-    assert_eq!(done.text(), output);
-    assert_eq!(done.errors, errors);
-    assert_eq!(done.status, status);
-}
 
 /// What `fir check` offers for a text: its last line, without the file's name.
 #[track_caller]

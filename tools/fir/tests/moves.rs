@@ -6,8 +6,7 @@ mod support;
 use cases::image;
 use std::ffi::OsString;
 use std::fs;
-use std::path::Path;
-use support::{file, fir, fir_on, Done};
+use support::{did, file, fir, fir_on, names, put};
 
 /// Gives a literal of 32 bits, a negative one.
 const MINUS: &str = "
@@ -60,40 +59,9 @@ fn too_long() -> Vec<u8> {
     (0..64).flat_map(version).collect()
 }
 
-/// Asserts all that a command did.
-#[track_caller]
-fn did(done: &Done, status: u8, output: &str, errors: &str) {
-    assert_eq!(done.text(), output);
-    assert_eq!(done.errors, errors);
-    assert_eq!(done.status, status);
-}
-
 /// An empty folder of the test's own.
 fn folder(test: &str) -> String {
-    let folder = Path::new(env!("CARGO_TARGET_TMPDIR"))
-        .join("moves")
-        .join(test);
-    let _ = fs::remove_dir_all(&folder);
-    fs::create_dir_all(&folder).expect("a folder is made");
-    folder.to_str().expect("a plain path").to_string()
-}
-
-/// A file in a folder.
-fn put(folder: &str, name: &str, content: &[u8]) -> String {
-    let path = format!("{folder}/{name}");
-    fs::write(&path, content).expect("a file is written");
-    path
-}
-
-/// The names in a folder, in order.
-fn names(folder: &str) -> Vec<String> {
-    let entries = fs::read_dir(folder).expect("a folder");
-    let name = |entry: std::io::Result<fs::DirEntry>| entry.expect("an entry").file_name();
-    let mut names: Vec<String> = entries
-        .map(|entry| name(entry).to_string_lossy().into_owned())
-        .collect();
-    names.sort();
-    names
+    support::folder("moves", test)
 }
 
 #[test]

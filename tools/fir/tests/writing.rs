@@ -9,7 +9,7 @@ use std::io::Read;
 use std::os::unix::fs::{symlink, FileTypeExt, PermissionsExt};
 use std::path::Path;
 use std::process::{Command, Output};
-use support::fir;
+use support::{fir, put};
 
 /// The text of the image that is read.
 const TEXT: &str = "version 0.0(r0: int) -> int
@@ -90,13 +90,6 @@ fn folder(test: &str, writer: &Writer) -> String {
     let _ = fs::remove_dir_all(&folder);
     fs::create_dir_all(&folder).expect("a folder is made");
     folder.to_str().expect("a plain path").to_string()
-}
-
-/// A file in a folder.
-fn put(folder: &str, name: &str, content: &[u8]) -> String {
-    let path = format!("{folder}/{name}");
-    fs::write(&path, content).expect("a file is written");
-    path
 }
 
 /// What a file holds.

@@ -10,42 +10,21 @@ use crate::number::many;
 use crate::place::{beginning, version_name, Position};
 use crate::refusal::{self, Refused};
 use crate::running::answered;
-use crate::source::{self, Source};
+use crate::several;
+use crate::source::Source;
 use crate::streams::Streams;
 use chain::Dependence;
 use library::{Bound, Entry, Row};
 use made::Made;
 use reference::program::{Program, Version};
 use reference::Form;
-use std::ffi::OsStr;
 
 /// Lists the versions of all images that are asked for; the exit status.
 pub fn all(asked: &Bounds, streams: &mut Streams) -> Result<Status, Failure> {
-    let mut status = Status::Yes;
-    for file in &asked.files {
-        let found = match Source::read(file, streams) {
-            Ok(source) => one(asked, &source, streams)?,
-            Err(failure) => {
-                match asked.json {
-                    true => streams.line(&failed_json(file, &failure).to_string())?,
-                    false => failure.tell(streams),
-                }
-                failure.status()
-            }
-        };
-        status = status.worse(found);
-    }
-    Ok(status)
-}
-
-/// A file that has no image, as an object.
-fn failed_json(file: &OsStr, failure: &Failure) -> Json {
-    let mut fields = vec![
-        ("file", Json::from(source::name(file))),
-        ("result", "failed".into()),
-    ];
-    fields.extend(failure.json());
-    Json::Object(fields)
+    let object = asked.json.then_some("result");
+    several::each(&asked.files, object, streams, |source, streams| {
+        one(asked, source, streams)
+    })
 }
 
 /// Lists the versions of an image, unless it is refused; the exit status.

@@ -11,14 +11,14 @@ use crate::json::Json;
 use crate::place::{beginning, version_name, Position};
 use crate::refusal::{self, Refused};
 use crate::running::answered;
-use crate::source::{self, Source};
+use crate::several;
+use crate::source::Source;
 use crate::streams::Streams;
 use library::{Entry, Verdict};
 use reach::Reach;
 use reference::program::{Program, Version};
 use reference::record::Placed;
 use reference::{Form, Instruction};
-use std::ffi::OsStr;
 
 /// Something that an image does not need.
 pub struct Finding {
@@ -70,31 +70,10 @@ impl Finding {
 
 /// Looks through all images that are asked for; the exit status.
 pub fn all(asked: &Lint, streams: &mut Streams) -> Result<Status, Failure> {
-    let mut status = Status::Yes;
-    for file in &asked.files {
-        let found = match Source::read(file, streams) {
-            Ok(source) => one(asked, &source, streams)?,
-            Err(failure) => {
-                match asked.json {
-                    true => streams.line(&failed_json(file, &failure).to_string())?,
-                    false => failure.tell(streams),
-                }
-                failure.status()
-            }
-        };
-        status = status.worse(found);
-    }
-    Ok(status)
-}
-
-/// A file that has no image, as an object.
-fn failed_json(file: &OsStr, failure: &Failure) -> Json {
-    let mut fields = vec![
-        ("file", Json::from(source::name(file))),
-        ("lint", "failed".into()),
-    ];
-    fields.extend(failure.json());
-    Json::Object(fields)
+    let object = asked.json.then_some("lint");
+    several::each(&asked.files, object, streams, |source, streams| {
+        one(asked, source, streams)
+    })
 }
 
 /// Looks through an image, unless it is refused.

@@ -35,6 +35,42 @@ impl Done {
     }
 }
 
+/// Asserts all that a command did.
+#[track_caller]
+pub fn did(done: &Done, status: u8, output: &str, errors: &str) {
+    assert_eq!(done.text(), output);
+    assert_eq!(done.errors, errors);
+    assert_eq!(done.status, status);
+}
+
+/// An empty folder of a test's own.
+pub fn folder(group: &str, test: &str) -> String {
+    let folder = Path::new(env!("CARGO_TARGET_TMPDIR"))
+        .join(group)
+        .join(test);
+    let _ = fs::remove_dir_all(&folder);
+    fs::create_dir_all(&folder).expect("a folder is made");
+    folder.to_str().expect("a plain path").to_string()
+}
+
+/// A file in a folder.
+pub fn put(folder: &str, name: &str, content: &[u8]) -> String {
+    let path = format!("{folder}/{name}");
+    fs::write(&path, content).expect("a file is written");
+    path
+}
+
+/// The names in a folder, in order.
+pub fn names(folder: &str) -> Vec<String> {
+    let entries = fs::read_dir(folder).expect("a folder");
+    let name = |entry: std::io::Result<fs::DirEntry>| entry.expect("an entry").file_name();
+    let mut names: Vec<String> = entries
+        .map(|entry| name(entry).to_string_lossy().into_owned())
+        .collect();
+    names.sort();
+    names
+}
+
 /// Does what the arguments say, with this standard input.
 pub fn fir_of(arguments: &[OsString], input: &[u8]) -> Done {
     fir_on(arguments, input, false)
