@@ -47,8 +47,9 @@ static const uint8_t built_in[] = {
     8, 0, 25, 0, 6, 5, 4, 3,                                        /* SELECT r6 = r5 ? r4 : r3 */
 };
 
-static uint8_t loaded[FIR_IMAGE_BYTES + 1]; /* one byte more, so that a longer file is refused and not cut */
+static uint8_t read_in[FIR_IMAGE_BYTES + 1]; /* one byte more, so that a longer file is refused and not cut */
 static uint8_t text[FIR_REPORT_BYTES];
+static uint8_t table[FIR_TABLE_BYTES(FIR_IMAGE_BYTES)]; /* of the image, which is loaded once */
 static fir_state state;
 
 static int refused(const char *what, uint8_t question, size_t offset)
@@ -64,7 +65,7 @@ static int ended(const uint8_t *image, size_t length, uint8_t code)
 {
     uint8_t words[FIR_ANSWER_TEXT_BYTES];
     size_t words_length = fir_answer_text(code, words, sizeof words);
-    fir_position at = fir_where(image, length, &state);
+    fir_position at = fir_where(image, length, table, sizeof table, &state);
     printf("%.*s", (int)words_length, (const char *)words);
     if (at.kind != FIR_NOWHERE)
         printf(", in %u.%u at %lu", at.function, at.version, (unsigned long)at.offset);
@@ -83,7 +84,8 @@ static int64_t warmed(int64_t measured, const int64_t *valves)
 static fir_entry begin(const uint8_t *image, size_t length, int64_t wanted, int64_t measured, const int64_t *valves)
 {
     const int64_t words[] = {-1, wanted, -1, measured, VALVES, valves[0], valves[1], valves[2]};
-    return fir_begin(image, length, FIR_STAFF, 0, 0, words, sizeof words / sizeof *words, valves, FIR_ITEMS, &state);
+    return fir_begin(image, length, table, sizeof table, FIR_STAFF, 0, 0, words, sizeof words / sizeof *words, valves, FIR_ITEMS,
+                     &state);
 }
 
 static int control(const uint8_t *image, size_t length)
@@ -97,7 +99,7 @@ static int control(const uint8_t *image, size_t length)
     if (entry.question != FIR_ACCEPTED)
         return refused("run", entry.question, entry.offset);
     for (tick = 0; tick < TICKS; tick++) {
-        answer = fir_budget(image, length, &state, BUDGET, valves, FIR_ITEMS);
+        answer = fir_budget(image, length, table, sizeof table, &state, BUDGET, valves, FIR_ITEMS);
         printf("tick %2d, %2lu steps: ", tick, (unsigned long)answer.steps);
         switch (answer.code) {
         case FIR_STEPS:
@@ -125,7 +127,7 @@ int main(int count, char **arguments)
 {
     const uint8_t *image = built_in;
     size_t length = sizeof built_in;
-    fir_verdict verdict;
+    fir_loaded loaded;
     fir_versions built = fir_version();
     if (built.interface_number != FIR_INTERFACE || built.state_layout != FIR_STATE_LAYOUT) {
         printf("the library is not the one of the header\n");
@@ -137,13 +139,13 @@ int main(int count, char **arguments)
             perror(arguments[1]);
             return 2;
         }
-        image = loaded;
-        length = fread(loaded, 1, sizeof loaded, file);
+        image = read_in;
+        length = fread(read_in, 1, sizeof read_in, file);
         fclose(file);
     }
-    verdict = fir_check(image, length);
-    if (verdict.question != FIR_ACCEPTED)
-        return refused("image", verdict.question, verdict.detail);
+    loaded = fir_load(image, length, table, sizeof table);
+    if (loaded.code != FIR_LOADED)
+        return refused("image", loaded.question, loaded.detail);
     fwrite(text, 1, fir_report(image, length, text, sizeof text), stdout);
     return control(image, length);
 }

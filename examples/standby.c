@@ -58,7 +58,8 @@ static const uint8_t later[] = IMAGE(20);
 /* What is measured in each tick. */
 static const int64_t measured[TICKS] = {180, 181, 183, 186, 188, 190, 193, 196, 198, 201, 204, 207, 209, 212, 214, 216};
 
-/* A box: all that it needs to go on. It is cleared before its first use, so that its bytes can be summed and compared. */
+/* A box: all that it needs to go on. It is cleared before its first use, so that its bytes can be summed and compared; those of the
+ * state can be without that. */
 typedef struct box {
     uint32_t layout; /* of the state */
     uint32_t tick;   /* the next one */
@@ -69,14 +70,20 @@ typedef struct box {
     uint8_t image[FIR_IMAGE_BYTES];
 } box;
 
-/* A copy of a box, as it is sent or stored: its number, and a sum over all before it. */
+/* A copy of a box, as it is sent or stored: its number, and a sum over all before it. The table of the image is not in it. */
 typedef struct copy {
     uint64_t number;
     box box;
     uint64_t sum;
 } copy;
 
-static box alone, first, second;
+/* A box at work, and the table of its image, which it makes itself. */
+typedef struct unit {
+    box box;
+    uint8_t table[FIR_TABLE_BYTES(FIR_IMAGE_BYTES)];
+} unit;
+
+static unit alone, first, second;
 static copy sent, slots[SLOTS];
 static uint64_t stored; /* how many copies were */
 static int64_t wanted[TICKS][FIR_ITEMS]; /* the positions of a box that nothing happens to */
@@ -113,8 +120,21 @@ static void store(const box *from, size_t bytes)
     memcpy(&slots[stored % SLOTS], &next, bytes);
 }
 
+/* Loads the image of a unit. */
+static int load(unit *unit)
+{
+    return fir_load(unit->box.image, (size_t)unit->box.length, unit->table, sizeof unit->table).code == FIR_LOADED;
+}
+
+/* Goes on from a copy. */
+static int take_over(unit *to, const copy *from)
+{
+    memcpy(&to->box, &from->box, sizeof to->box);
+    return load(to);
+}
+
 /* Brings back the newest copy that is whole; 0 where there is none. */
-static int restore(box *to)
+static int restore(unit *to)
 {
     const copy *newest = NULL;
     int i;
@@ -123,9 +143,8 @@ static int restore(box *to)
             newest = &slots[i];
     if (newest == NULL)
         return 0;
-    memcpy(to, &newest->box, sizeof *to);
     stored = newest->number;
-    return 1;
+    return take_over(to, newest);
 }
 
 static void put(box *box, const uint8_t *image, size_t length)
@@ -134,50 +153,63 @@ static void put(box *box, const uint8_t *image, size_t length)
     box->length = length;
 }
 
-static void start(box *box)
+static int start(unit *unit)
 {
-    memset(box, 0, sizeof *box);
-    box->layout = FIR_STATE_LAYOUT;
-    put(box, script, sizeof script);
+    memset(&unit->box, 0, sizeof unit->box);
+    unit->box.layout = FIR_STATE_LAYOUT;
+    put(&unit->box, script, sizeof script);
+    return load(unit);
 }
 
 /* Begins the run of a new set of positions where none goes on; 0 where it is refused. */
-static int begin(box *box)
+static int begin(unit *unit)
 {
+    box *const box = &unit->box;
     const int64_t *valves = box->valves;
     const int64_t words[] = {-1, 215, -1, measured[box->tick], 3, valves[0], valves[1], valves[2]};
     fir_entry entry;
     if (box->running)
         return 1;
-    entry = fir_begin(box->image, (size_t)box->length, FIR_PORTAL, 0, 0, words, sizeof words / sizeof *words, valves, FIR_ITEMS,
-                      &box->state);
+    entry = fir_begin(box->image, (size_t)box->length, unit->table, sizeof unit->table, FIR_PORTAL, 0, 0, words,
+                      sizeof words / sizeof *words, valves, FIR_ITEMS, &box->state);
     box->running = entry.question == FIR_ACCEPTED;
     return entry.question == FIR_ACCEPTED;
 }
 
-/* One tick of a box, with the update once it has arrived; 0 where the script failed. */
-static int tick(box *box)
+/* Takes so many steps at most. */
+static fir_answer spend(unit *unit, uint32_t budget)
 {
+    box *const box = &unit->box;
+    return fir_budget(box->image, (size_t)box->length, unit->table, sizeof unit->table, &box->state, budget, box->valves, FIR_ITEMS);
+}
+
+/* One tick of a box, with the update once it has arrived; 0 where the script failed. */
+static int tick(unit *unit)
+{
+    box *const box = &unit->box;
     fir_answer answer;
-    if (!begin(box))
+    if (!begin(unit))
         return 0;
-    answer = fir_budget(box->image, (size_t)box->length, &box->state, BUDGET, box->valves, FIR_ITEMS);
+    answer = spend(unit, BUDGET);
     if (answer.code != FIR_STEPS && answer.code != FIR_VECTOR)
         return 0;
     box->running = answer.code == FIR_STEPS;
     box->tick++;
     if (box->tick > UPDATE && memcmp(box->image, later, sizeof later) != 0 &&
-        fir_change(box->image, (size_t)box->length, later, sizeof later, &box->state).question == FIR_ACCEPTED)
+        fir_change(box->image, (size_t)box->length, later, sizeof later, &box->state).question == FIR_ACCEPTED) {
         put(box, later, sizeof later);
+        return load(unit);
+    }
     return 1;
 }
 
 /* Ticks of a box up to a tick, each shown, sent and stored; 0 where the script failed, or a position is not the one wanted. */
-static int control(const char *who, box *box, uint32_t until)
+static int control(const char *who, unit *unit, uint32_t until)
 {
+    box *const box = &unit->box;
     const int64_t *valves = box->valves;
     while (box->tick < until) {
-        if (!tick(box) || memcmp(wanted[box->tick - 1], valves, sizeof box->valves) != 0)
+        if (!tick(unit) || memcmp(wanted[box->tick - 1], valves, sizeof box->valves) != 0)
             return 0;
         printf("%-7s tick %2lu: %3lld %3lld %3lld%s\n", who, (unsigned long)box->tick - 1, (long long)valves[0],
                (long long)valves[1], (long long)valves[2], memcmp(box->image, later, sizeof later) ? "" : ", updated");
@@ -190,16 +222,12 @@ static int control(const char *who, box *box, uint32_t until)
 /* 1. Main fails after half a tick, and nothing of it is left but what it sent. */
 static int hand_over(void)
 {
-    start(&first);
-    if (!control("main", &first, FAILS) || !begin(&first))
+    if (!start(&first) || !control("main", &first, FAILS) || !begin(&first))
         return 0;
-    fir_budget(first.image, (size_t)first.length, &first.state, BUDGET / 2, first.valves, FIR_ITEMS);
+    spend(&first, BUDGET / 2);
     memset(&first, 0xa5, sizeof first);
     printf("main fails in tick %d\n", FAILS);
-    if (!is_whole(&sent))
-        return 0;
-    memcpy(&second, &sent.box, sizeof second);
-    return control("standby", &second, CUT);
+    return is_whole(&sent) && take_over(&second, &sent) && control("standby", &second, CUT);
 }
 
 /* 2. The power fails after the next tick, in the middle of a copy. */
@@ -207,7 +235,7 @@ static int power_cut(void)
 {
     if (!tick(&second))
         return 0;
-    store(&second, sizeof(copy) / 2);
+    store(&second.box, sizeof(copy) / 2);
     memset(&second, 0xa5, sizeof second);
     printf("the power fails after tick %d\n", CUT);
     return restore(&second) && control("standby", &second, TICKS);
@@ -225,18 +253,18 @@ static int wrong_image(void)
 int main(void)
 {
     int i;
-    start(&alone);
+    if (!start(&alone))
+        return 1;
     for (i = 0; i < TICKS; i++) {
         if (!tick(&alone))
             return 1;
-        memcpy(wanted[i], alone.valves, sizeof alone.valves);
+        memcpy(wanted[i], alone.box.valves, sizeof alone.box.valves);
     }
     if (!hand_over() || !power_cut())
         return 1;
-    printf("the positions of a box alone, and %s state\n", memcmp(&alone, &second, sizeof alone) == 0 ? "its" : "another");
+    printf("the positions of a box alone, and %s state\n", memcmp(&alone.box, &second.box, sizeof alone.box) == 0 ? "its" : "another");
     if (!wrong_image())
         return 1;
     printf("another image in the store is noticed\n");
-    start(&second);
-    return !control("anew", &second, 3);
+    return !start(&second) || !control("anew", &second, 3);
 }

@@ -49,13 +49,16 @@ static void say(const char *what, fir_verdict verdict, const char *counted)
         printf("%s: refused by question %u at %lu\n", what, verdict.question, (unsigned long)verdict.detail);
 }
 
-/* Runs the moved image for three rooms. */
+/* Loads the moved image and runs it for three rooms. */
 static void run(size_t length)
 {
     static const int64_t words[] = {-1, 210, 3, 200, 195, 225};
     static int64_t buffer[FIR_ITEMS];
+    static uint8_t table[FIR_TABLE_BYTES(FIR_IMAGE_BYTES)];
     static fir_state state;
-    fir_answer answer = fir_run(moved, length, FIR_PORTAL, 0, 0, words, 6, BUDGET, buffer, FIR_ITEMS, &state);
+    fir_answer answer;
+    fir_load(moved, length, table, sizeof table);
+    answer = fir_run(moved, length, table, sizeof table, FIR_PORTAL, 0, 0, words, 6, BUDGET, buffer, FIR_ITEMS, &state);
     if (answer.code == FIR_INTEGER)
         printf("the speed is %ld, after %lu steps\n", (long)answer.value, (unsigned long)answer.steps);
     else

@@ -1,6 +1,7 @@
 /*
  * A controller whose script is updated while it runs, and whose power may be cut at any time. After each tick it stores the
- * state of its run and the image that the run goes on under; what is stored is all that a power cut leaves. A new image is
+ * state of its run and the image that the run goes on under; what is stored is all that a power cut leaves, and the table of the
+ * image is made again from it. A new image is
  * tried by fir_change until it is accepted: where a version with a live call differs, the run goes on under the old image,
  * and the new one is tried again after the next tick.
  *
@@ -69,6 +70,9 @@ static struct {
     uint8_t image[FIR_IMAGE_BYTES];
 } memory;
 
+/* The table of the image in force. It is not stored. */
+static uint8_t table[FIR_TABLE_BYTES(FIR_IMAGE_BYTES)];
+
 /* What a power cut leaves. One copy will do here; a plant keeps two and writes them in turn, since a cut may come while it
  * writes. */
 static FILE *stored;
@@ -80,25 +84,34 @@ static int store(void)
     return fwrite(&memory, sizeof memory, 1, stored) == 1 && fflush(stored) == 0;
 }
 
+/* Loads the image in force. */
 static int load(void)
 {
+    return fir_load(memory.image, memory.length, table, sizeof table).code == FIR_LOADED;
+}
+
+static int restore(void)
+{
     rewind(stored);
-    return fread(&memory, sizeof memory, 1, stored) == 1 && memory.layout == FIR_STATE_LAYOUT;
+    return fread(&memory, sizeof memory, 1, stored) == 1 && memory.layout == FIR_STATE_LAYOUT && load();
 }
 
 static void lose_power(void)
 {
     memset(&memory, 0xa5, sizeof memory);
+    memset(table, 0xa5, sizeof table);
 }
 
 /* Puts an image in force. */
-static void put(const uint8_t *image, size_t length)
+static int put(const uint8_t *image, size_t length)
 {
     memcpy(memory.image, image, length);
     memory.length = length;
+    return load();
 }
 
-/* Goes on under a new image where it is accepted: its bytes take the place of the old ones, the state stays as it is. */
+/* Goes on under a new image where it is accepted: its bytes and its table take the place of the old ones, the state stays as it
+ * is. */
 static int update(const uint8_t *image, size_t length)
 {
     const fir_entry entry = fir_change(memory.image, memory.length, image, length, &memory.state);
@@ -107,10 +120,10 @@ static int update(const uint8_t *image, size_t length)
     } else if (entry.question != FIR_ACCEPTED) {
         printf("  update refused by question %u at %u\n", (unsigned)entry.question, (unsigned)entry.offset);
     } else {
-        put(image, length);
         printf("  update accepted\n");
+        return put(image, length);
     }
-    return entry.question == FIR_ACCEPTED;
+    return 0;
 }
 
 /* One tick under the image in force. */
@@ -118,7 +131,7 @@ static fir_answer tick(int number)
 {
     int64_t buffer[FIR_ITEMS];
     const fir_answer answer =
-        fir_budget(memory.image, memory.length, &memory.state, BUDGET, buffer, FIR_ITEMS);
+        fir_budget(memory.image, memory.length, table, sizeof table, &memory.state, BUDGET, buffer, FIR_ITEMS);
     printf("tick %d, %lu steps", number, (unsigned long)answer.steps);
     return answer;
 }
@@ -129,7 +142,7 @@ static int cut(int number)
     tick(number);
     printf(", and the power is cut\n");
     lose_power();
-    return load();
+    return restore();
 }
 
 static int control(void)
@@ -139,9 +152,10 @@ static int control(void)
     int number;
     fir_answer answer;
     fir_entry entry;
-    put(pump, sizeof pump);
-    entry = fir_begin(memory.image, memory.length, FIR_PORTAL, 0, 0, words, sizeof words / sizeof *words, buffer,
-                      FIR_ITEMS, &memory.state);
+    if (!put(pump, sizeof pump))
+        return 1;
+    entry = fir_begin(memory.image, memory.length, table, sizeof table, FIR_PORTAL, 0, 0, words, sizeof words / sizeof *words,
+                      buffer, FIR_ITEMS, &memory.state);
     if (entry.question != FIR_ACCEPTED || !store())
         return 1;
     for (number = 0; number < 10; number++) {

@@ -9,29 +9,34 @@
  *   - A pointer with a length points to that many elements, aligned for their type; where the length is 0 it need not
  *     point to anything, but it is not NULL.
  *   - A pointer to a fir_state points to one, aligned as fir_state_alignment says. Its content may be anything.
- *   - What a call writes (a state, a text, a result buffer, a moved or joined image, rows) overlaps nothing else that the
- *     call is lent.
+ *   - What a call writes (a state, a table, a text, a result buffer, a moved or joined image, rows) overlaps nothing else that
+ *     the call is lent.
  *   - Until the call returns, nobody else writes what is lent, and nobody else reads what the call writes.
- *   - A step, a budget, fir_search, fir_where and, as its old image, fir_change are lent the image in force: the one that the
- *     run was begun with, or the last one that fir_change accepted for it. The caller keeps it, byte for byte, until another
- *     is accepted or the run is given up.
- * Nothing of this can be tested by the library. All else is: every image, entry, argument list, budget, buffer and state
+ *   - An image that is lent with a table was loaded into it: fir_load answered FIR_LOADED, and neither was written since.
+ *   - A step, a budget, fir_search and fir_where are lent the image in force, and its table; fir_change, as its old image, the
+ *     image in force. That is the one that the run was begun with, or the last one that fir_change accepted for it. The caller
+ *     keeps it, byte for byte, until another is accepted or the run is given up.
+ * Nothing of this can be tested by the library. All else is: every image, table, entry, argument list, budget, buffer and state
  * gets an answer that is listed here, and nothing outside the lent memory is read or written.
  *
  * Threads: every function may be called from several threads at once, each with its own states, texts and buffers. What calls
- * only read they may share: an image, and a state behind a pointer to const.
+ * only read they may share: an image, its table once it is loaded, and a state behind a pointer to const.
  *
  * Linking: the archive that `rt staticlib` makes is for x86-64 and its calling convention of System V; tools/dist makes it for
  * aarch64, ARMv7 and riscv64 too. It needs two functions of the C library, memcpy and memset, on ARMv7 and riscv64 also memmove, on
  * ARMv7 also libgcc, and nothing else.
  *
- * Costs: a call that is lent an image reads all of it. fir_check, fir_begin, fir_run, fir_change, fir_widen and fir_narrow put it to
- * its questions: 3 to 7 microseconds for an image of 414 bytes, 170 to 310 for one of 26,496, measured on one core of a busy x86-64;
- * fir_bounds likewise; fir_join is two of these; fir_report 5 to 6, and 1,030 to 1,080. fir_mend costs 5 and 330 where one type of
- * the last version is wrong; the worst image that was made takes 13,500. fir_step, fir_budget, fir_search and fir_where find its
- * versions anew: 0.3 to 0.6 and 10, beside the steps taken. So one budget costs less than as many single steps. fir_look,
- * fir_question_text and fir_answer_text are lent no image and cost below 0.01. tests/interface/costs.c measures all of these but the
- * worst image, which tests/differential does.
+ * Costs: fir_check, fir_load, fir_change, fir_widen, fir_narrow and fir_bounds put an image to its questions and read all of it;
+ * fir_join does so with two; fir_report and fir_mend take longer. The calls with a table look up what they need, so that what they
+ * cost does not grow with the image: fir_begin writes a state, a step or a budget costs something of its own beside the steps
+ * taken. So an image is loaded once, and one budget costs less than as many single steps. tests/interface/costs.c measures all of
+ * these. On a machine of 2026 for x86-64, microseconds, with an image of 512 bytes and with the longest:
+ *   fir_check, which reads the image         3.6    214      fir_begin                            0.13   0.13
+ *   fir_load, once for an image              3.9    226      fir_step; fir_budget of 0, 1 steps   0.06   0.04
+ *   fir_change, the new image                4.5    230      fir_budget of 10 steps               0.08   0.07
+ *   fir_join, with itself                    8.1    401      fir_budget of 100 steps              0.55   0.56
+ *   fir_report, fir_mend, at most            5.6  1,225      fir_where, fir_look                  0.01   0.01
+ *                                                           fir_search, four versions in vain    0.16   0.16
  *
  * The examples below are compiled and run by the tests, as they stand, behind <stdio.h> and this header.
  */
@@ -48,10 +53,10 @@ extern "C" {
 /* ---- Which library this is ---- */
 
 /* The number of the interface: it is another one where a host that was compiled with the header before would go wrong. */
-#define FIR_INTERFACE 1
+#define FIR_INTERFACE 2
 
 /* The number of the layout of a stored state: it is another one where bytes that were stored before mean something else. */
-#define FIR_STATE_LAYOUT 1
+#define FIR_STATE_LAYOUT 2
 
 typedef struct fir_versions {
     uint32_t interface_number; /* FIR_INTERFACE */
@@ -78,10 +83,8 @@ fir_versions fir_version(void);
  *
  * Integers once had 32 bits, and a literal was a record of kind 16 with a number of 4 bytes. An image of that form is refused
  * by question 3 at its first literal; fir_widen moves it to the form in force. (Both forms carry levels, and an image without
- * them is refused by 4 in both: its versions need LEVEL records first.) A state that the library of that time stored
- * cannot be read: it has 9,544 bytes and not 17,040, its fields stand elsewhere, and bytes do not show which library wrote
- * them. Such a run is begun anew. Whoever called that library compiles again with this header: structs and arrays have
- * other widths. */
+ * them is refused by 4 in both: its versions need LEVEL records first.) A state that the library of that time stored is
+ * not read, as none of another layout is: such a run is begun anew. */
 
 /* ---- Bounds ---- */
 
@@ -93,6 +96,7 @@ fir_versions fir_version(void);
 #define FIR_ACTIVATIONS 32    /* calls and forces that live at once */
 #define FIR_ITEMS 16          /* items of a vector, and the fewest places of a result buffer */
 #define FIR_PLACES 64         /* places for vectors, and for promises */
+#define FIR_STRIDE 32         /* places of a call in a state: 16 registers, 8 names, and 8 that are for neither */
 
 /* ---- Levels of staff ---- */
 
@@ -172,8 +176,8 @@ typedef struct fir_verdict {
     uint8_t question;
 } fir_verdict;
 
-/* Whether a run has begun, or goes on under a new image: FIR_ACCEPTED, or the question that refuses it, 1 to 15, 18 or 19,
- * and the offset. With FIR_ACCEPTED, 11 to 13 and 19 the offset is 0. */
+/* Whether a run has begun, or goes on under a new image: FIR_ACCEPTED, or the question that refuses it and the offset. A run is
+ * refused by 11, 19, 12 or 13, a new image by 1 to 10, 14, 15 or 18. With FIR_ACCEPTED, 11 to 13 and 19 the offset is 0. */
 typedef struct fir_entry {
     uint16_t offset;
     uint8_t question;
@@ -190,7 +194,7 @@ typedef struct fir_entry {
 #define FIR_DEEP 4      /* DEEP: a 33rd activation is needed */
 #define FIR_VECTORS 5   /* VECTORS: a 65th vector is needed */
 #define FIR_PROMISES 6  /* PROMISES: a 65th promise is needed */
-#define FIR_STUCK 7     /* the state is none of a begun run that this image is in force for; what it stands for stays */
+#define FIR_STUCK 7     /* the state is none of a begun run that this image is in force for; a stuck step leaves it as it was */
 #define FIR_REFUSED 8   /* refused by `question` at `offset`; state and buffer are as they were */
 
 #define FIR_ANSWER_TEXT_BYTES 64 /* room for the words of every answer */
@@ -211,8 +215,8 @@ typedef struct fir_entry {
 size_t fir_answer_text(uint8_t code, uint8_t *text, size_t text_length);
 
 /* A run that has ended gives its end again: each further step says the same code, value and length, and each further budget,
- * of 0 steps too, answers them with 0 steps and writes the items of a vector to its buffer as before. The state stays. Only
- * the length of the buffer is still asked (FIR_REFUSED_BUFFER). */
+ * of 0 steps too, answers them with 0 steps and writes the items of a vector to its buffer as before. The state stays, byte for
+ * byte. Only the length of the buffer is still asked (FIR_REFUSED_BUFFER). */
 
 /* What a single step says: FIR_STEPS to FIR_STUCK. */
 typedef struct fir_said {
@@ -233,58 +237,60 @@ typedef struct fir_answer {
 
 /* ---- The state of a run ---- */
 
-/* Numbers alone: it may be copied, stored and compared as bytes. Write it by the functions below only; its fields are here
- * so that it can be declared and read. What lies above a count means nothing. The 4 bytes of padding before `value` mean
- * nothing either: no call writes them, so where states are compared as bytes, clear each once before its first use, and
- * copy them by memcpy. Then two boxes that do the same run have the same bytes, however it is divided into steps and budgets
- * and whatever the memory held before: that is tested; what is proved is that the two stand for the same state.
+/* Numbers alone, without padding: it may be copied, stored and compared as bytes, whole. Write it by the functions below only; its
+ * fields are here so that it can be declared and read. What lies above a count means nothing.
+ *
+ * What is promised of its bytes:
+ *   - The bytes that fir_begin leaves depend on what it was given alone, and not on what the memory held before, where it
+ *     does not refuse.
+ *   - Equal calls on equal bytes leave equal bytes. So two boxes that get the same calls compare their states by memcmp. No
+ *     contract says so: it rests on the language, in which no function keeps anything between calls.
+ *   - A stuck step, a step or a budget of a run that has ended, a budget of 0 steps, and a refusal leave every byte as it was.
+ *     Where a budget gets stuck, the steps before it stay taken.
+ *   - Into however many steps and budgets a run is divided, the same state is stood for, and all that the functions below say of
+ *     it is the same. Bytes that mean nothing may differ then.
  *
  * A stored state is these fir_state_size() bytes, kept anywhere and read back at any time, by another program too whose
- * library has the same FIR_STATE_LAYOUT. There are no bytes that cannot be loaded: all of them stand for some state. So damage
- * is not noticed, and a damaged state may answer any code: whoever may lose bytes stores a checksum over state and image, and
- * compares it. A state does not hold its image: whoever stores it stores the image in force with it, or knows which one
- * that was.
+ * library has the same FIR_STATE_LAYOUT. There are no bytes that cannot be gone on from: all of them stand for some state. So
+ * damage is not noticed, and a damaged state may answer any code: whoever may lose bytes stores a checksum over state and image,
+ * and compares it. A state does not hold its image, nor the table: whoever stores it stores the image in force with it, or knows
+ * which one that was. The table need not be stored; it is made again from the image (fir_load).
  *
  * Where the image was exchanged without an accepted fir_change, every step and budget still gives an answer that is listed
  * here and keeps to the lent memory, but nothing that is promised of a begun run holds any more: a step may be stuck, and
  * what registers hold may be of other types than the image declares.
  *
- * A cell stands for a register or a name: code 1 is the integer in `numbers`, 256 + v the vector v, 512 + p the promise p;
- * all else is nothing. The call k has the cells 24 k to 24 k + 23, its registers and then its names. */
+ * The call k has the places 32 k to 32 k + 31 in `numbers`, `tags` and `places`: 32 k + r is register r, 32 k + 16 + x the name
+ * x. Tag 1 is the integer in `numbers`, 2 the vector whose number stands in `places`, 3 the promise whose number stands there;
+ * all else is nothing. The tags at 32 k + 24 and 32 k + 25 are the function and the version of the call. */
 typedef struct fir_state {
-    /* the integers of the cells */
-    int64_t numbers[FIR_ACTIVATIONS * (FIR_REGISTERS + FIR_NAMES)];
-    /* 16 items of each vector */
-    int64_t items[FIR_PLACES * FIR_ITEMS];
-    /* the integer of each promise that was forced */
-    int64_t caches[FIR_PLACES];
-    /* the items of a vector that the run is DONE with */
-    int64_t result[FIR_ITEMS];
-    /* the codes of the cells */
-    uint16_t codes[FIR_ACTIVATIONS * (FIR_REGISTERS + FIR_NAMES)];
-    /* of each call: its function and its version */
-    uint8_t owners[FIR_ACTIVATIONS * 2];
-    /* of each activation: 0 call or 1 force, the promise, d, its call, block, next instruction */
-    uint8_t stack[FIR_ACTIVATIONS * 6];
-    /* of each vector */
-    uint8_t lengths[FIR_PLACES];
-    /* of each promise: its call, its block, 1 where it was forced */
-    uint8_t promises[FIR_PLACES * 3];
-    uint8_t calls;  /* how many calls are live */
-    uint8_t depth;  /* how many activations are live */
-    uint8_t status; /* FIR_STEPS while the run goes on, else its end: FIR_INTEGER to FIR_PROMISES */
-    uint8_t length; /* of the vector that the run is DONE with */
-    int64_t value;  /* the integer that the run is DONE with */
+    int64_t numbers[FIR_ACTIVATIONS * FIR_STRIDE]; /* the integers of registers and names */
+    int64_t items[FIR_PLACES * FIR_ITEMS];         /* 16 items of each vector */
+    int64_t caches[FIR_PLACES];                    /* the integer of each promise that was forced */
+    int64_t result[FIR_ITEMS];                     /* the items of a vector that the run is DONE with */
+    int64_t value;                                 /* the integer that the run is DONE with */
+    uint8_t tags[FIR_ACTIVATIONS * FIR_STRIDE];    /* what registers and names hold, and the version of each call */
+    uint8_t places[FIR_ACTIVATIONS * FIR_STRIDE];  /* which vector or promise they hold */
+    uint8_t stack[FIR_ACTIVATIONS * 8];            /* of each activation: 0 call, else force, the promise, d, its call, block, next
+                                                    * instruction, and two spare */
+    uint8_t promises[FIR_PLACES * 4];              /* of each promise: its call, its block, 0 where it was not forced, one spare */
+    uint8_t lengths[FIR_PLACES];                   /* of each vector */
+    uint8_t calls;                                 /* how many calls are live */
+    uint8_t depth;                                 /* how many activations are live */
+    uint8_t status;                                /* FIR_STEPS while the run goes on, else its end: FIR_INTEGER to FIR_PROMISES */
+    uint8_t length;                                /* of the vector that the run is DONE with */
+    uint8_t spare[4];
 } fir_state;
 
-/* The bytes of a state, in the layout that FIR_STATE_LAYOUT 1 names: the fields stand in the order above, at the offsets
+/* The bytes of a state, 19,664, in the layout that FIR_STATE_LAYOUT 2 names: the fields stand in the order above, at the offsets
  *
- *       0 numbers     14848 result     16576 stack        17024 calls      17027 length
- *    6144 items       14976 codes      16768 lengths      17025 depth      17028 padding of 4 bytes
- *   14336 caches      16512 owners     16832 promises     17026 status     17032 value
+ *       0 numbers     16896 result     18056 places       19592 lengths    19658 status
+ *    8192 items       17024 value      19080 stack        19656 calls      19659 length
+ *   16384 caches      17032 tags       19336 promises     19657 depth      19660 spare
  *
  * with each number's lowest byte first, and integers in two's complement. No field says the layout: whoever stores a state
- * stores that number with it, and compares it before the state is read back.
+ * stores that number with it, and compares it before the state is read back. A state of layout 1, which had 17,040 bytes, is not
+ * read: its fields stand elsewhere, and bytes do not show which library wrote them. Such a run is begun anew.
  *
  * Example:
  *
@@ -294,7 +300,7 @@ typedef struct fir_state {
  *         return fwrite(&layout, sizeof layout, 1, to) == 1 && fwrite(state, sizeof *state, 1, to) == 1;
  *     }
  *
- *     static int load_state(FILE *from, fir_state *state)
+ *     static int read_state(FILE *from, fir_state *state)
  *     {
  *         uint32_t layout;
  *         if (fread(&layout, sizeof layout, 1, from) != 1 || layout != FIR_STATE_LAYOUT)
@@ -491,26 +497,72 @@ fir_mended fir_mend(const uint8_t *image, size_t image_length);
  */
 fir_verdict fir_bounds(const uint8_t *image, size_t image_length, uint8_t *numbers, uint64_t *steps);
 
+/* ---- Loading ---- */
+
+/* The table of an image says where its versions, blocks and instructions stand, and holds the short ones. The caller lends it as
+ * bytes, of any alignment, and keeps it beside the image, which stays as it is and may stand in read-only memory. A table that is
+ * long enough for every image has 45,992 bytes; that of an image of 2,000 bytes needs 4,968.
+ *
+ * It need not be stored: fir_load makes it again from the image, also after a power cut. No other call writes it, so that several
+ * runs, in several threads too, share one. */
+#define FIR_TABLE_BYTES(image_length) (2304 + (image_length) / 6 * 8) /* for an image of so many bytes */
+
+/* The same number as a function. A longer image than FIR_IMAGE_BYTES is refused with any table: for it, what the longest needs. */
+size_t fir_table_size(size_t image_length);
+
+/* What became of a load: FIR_LOADED, FIR_REFUSED by `question` at the offset `detail`, or FIR_SHORT. A field that the line of its
+ * code does not name is 0. */
+#define FIR_LOADED 0 /* the table is filled; the image has `detail` versions */
+#define FIR_SHORT 9  /* the image is accepted, but the table is too short: it needs `detail` bytes */
+
+typedef struct fir_loaded {
+    size_t detail;
+    uint8_t code;
+    uint8_t question;
+} fir_loaded;
+
+/* Puts an image to its questions, 1 to 10, 14 and 18, and fills its table. With FIR_LOADED, and until image or table is written,
+ * the calls that are lent both do what the paper says of the image's program. With FIR_REFUSED and FIR_SHORT the table has no
+ * version, whatever it held before: its first 256 bytes, or as many as there are, are 0, and every run is refused by 11.
+ *
+ * Every content of a table has an answer: image and table together stand for a program, whatever they hold, and the calls that are
+ * lent both go by that one. Where it is not the table that fir_load left, nothing that is promised of an accepted image holds.
+ *
+ * Example:
+ *
+ *     static uint8_t table[FIR_TABLE_BYTES(FIR_IMAGE_BYTES)];
+ *
+ *     static int load_image(FILE *to, const uint8_t *image, size_t image_length)
+ *     {
+ *         fir_loaded loaded = fir_load(image, image_length, table, sizeof table);
+ *         if (loaded.code == FIR_REFUSED)
+ *             say_refusal(to, loaded.question, loaded.detail);
+ *         return loaded.code == FIR_LOADED;
+ *     }
+ */
+fir_loaded fir_load(const uint8_t *image, size_t image_length, uint8_t *table, size_t table_length);
+
 /* ---- Running ---- */
 
-/* Begins a run of a version of a function at a level and writes its state. The image is put to its questions first, so that no
- * fir_check need come before it. Argument words are -1 and an integer, or 0 to 16
- * and that many integers, for each parameter; a head word counts with all of its 64 bits, as a level does. The buffer is
- * asked for its length only. Where the run is refused, the state is as it was.
+/* Begins a run of a version of a function at a level and writes its state, every byte of it. The image was loaded, and is not put
+ * to its questions again: asked are 11, 19, 12 and 13. Argument words are -1 and an integer, or 0 to 16 and that many integers, for
+ * each parameter; a head word counts with all of its 64 bits, as a level does. The buffer is asked for its length only. Where the
+ * run is refused, the state is as it was.
  *
- * A version without parameters is lent no words: the length is 0, and the pointer, to anything, is still not NULL.
+ * A version without parameters is lent no words: the length is 0, and the pointer, to anything, is still not NULL. Here and below
+ * the examples use the table of the one before.
  *
  * Example:
  *
  *     static fir_entry begin_without_words(const uint8_t *image, size_t image_length, const int64_t *buffer, fir_state *state)
  *     {
  *         const int64_t none = 0;
- *         return fir_begin(image, image_length, FIR_PORTAL, 0, 0, &none, 0, buffer, FIR_ITEMS, state);
+ *         return fir_begin(image, image_length, table, sizeof table, FIR_PORTAL, 0, 0, &none, 0, buffer, FIR_ITEMS, state);
  *     }
  */
-fir_entry fir_begin(const uint8_t *image, size_t image_length, size_t level, size_t function, size_t version,
-                    const int64_t *words, size_t words_length, const int64_t *buffer, size_t buffer_length,
-                    fir_state *state);
+fir_entry fir_begin(const uint8_t *image, size_t image_length, const uint8_t *table, size_t table_length, size_t level,
+                    size_t function, size_t version, const int64_t *words, size_t words_length, const int64_t *buffer,
+                    size_t buffer_length, fir_state *state);
 
 /* Takes a single step. It is lent no buffer: the items of a vector that the run is DONE with are written by a budget of 0.
  *
@@ -520,18 +572,18 @@ fir_entry fir_begin(const uint8_t *image, size_t image_length, size_t level, siz
  *     {
  *         fir_said said;
  *         do
- *             said = fir_step(image, image_length, state);
+ *             said = fir_step(image, image_length, table, sizeof table, state);
  *         while (said.code == FIR_STEPS);
  *         if (said.code == FIR_VECTOR)
- *             fir_budget(image, image_length, state, 0, items, FIR_ITEMS);
+ *             fir_budget(image, image_length, table, sizeof table, state, 0, items, FIR_ITEMS);
  *         return said;
  *     }
  */
-fir_said fir_step(const uint8_t *image, size_t image_length, fir_state *state);
+fir_said fir_step(const uint8_t *image, size_t image_length, const uint8_t *table, size_t table_length, fir_state *state);
 
 /* Takes at most `budget` steps. A vector that the run is DONE with is written to the buffer from place 0 on; all else in
- * the buffer stays. Budgets add up: it makes no difference into how many a run is divided, but for time, since each call of a
- * step or a budget looks through the whole image once. It refuses by 13 alone: the image is not put to its questions again.
+ * the buffer stays. Budgets add up: it makes no difference into how many a run is divided, but for time, since each call costs
+ * something of its own. It refuses by 13 alone.
  *
  * Example:
  *
@@ -540,18 +592,18 @@ fir_said fir_step(const uint8_t *image, size_t image_length, fir_state *state);
  *         const uint32_t slice = 1000;
  *         fir_answer answer;
  *         do
- *             answer = fir_budget(image, image_length, state, slice, items, FIR_ITEMS);
+ *             answer = fir_budget(image, image_length, table, sizeof table, state, slice, items, FIR_ITEMS);
  *         while (answer.code == FIR_STEPS);
  *         return answer;
  *     }
  */
-fir_answer fir_budget(const uint8_t *image, size_t image_length, fir_state *state, uint32_t budget, int64_t *buffer,
-                      size_t buffer_length);
+fir_answer fir_budget(const uint8_t *image, size_t image_length, const uint8_t *table, size_t table_length, fir_state *state,
+                      uint32_t budget, int64_t *buffer, size_t buffer_length);
 
-/* Begins a run at a level and takes at most `budget` steps. Where it is refused, the state is as it was. */
-fir_answer fir_run(const uint8_t *image, size_t image_length, size_t level, size_t function, size_t version,
-                   const int64_t *words, size_t words_length, uint32_t budget, int64_t *buffer, size_t buffer_length,
-                   fir_state *state);
+/* Begins a run at a level and takes at most `budget` steps. Where it is refused, state and buffer are as they were. */
+fir_answer fir_run(const uint8_t *image, size_t image_length, const uint8_t *table, size_t table_length, size_t level,
+                   size_t function, size_t version, const int64_t *words, size_t words_length, uint32_t budget,
+                   int64_t *buffer, size_t buffer_length, fir_state *state);
 
 /* ---- A new image for a run that goes on ---- */
 
@@ -561,10 +613,21 @@ fir_answer fir_run(const uint8_t *image, size_t image_length, size_t level, size
  * differs, or at the new image's length if none differs and one is missing. A run that is DONE has no live call and may go
  * on under any accepted image.
  *
- * Nothing is written and no step is taken: the state is carried over whole, and the answer alone says under which image it
- * goes on. With FIR_ACCEPTED the new image is in force from then on, and the old one need not be kept; else the old image
- * stays in force, and the new one need not be kept. Where the state is none of a run under the old image, FIR_ACCEPTED
- * promises nothing of its steps. */
+ * It is lent the two images, and no table. Nothing is written and no step is taken: the state is carried over whole, and the
+ * answer alone says under which image it goes on. With FIR_ACCEPTED the new image is in force from then on: the caller loads it,
+ * before or after, and the old one need not be kept; else the old image stays in force, and the new one need not be kept. Where
+ * the state is none of a run under the old image, FIR_ACCEPTED promises nothing of its steps.
+ *
+ * Example:
+ *
+ *     static int change_image(const uint8_t *old_image, size_t old_length, const uint8_t *new_image, size_t new_length,
+ *                             const fir_state *state)
+ *     {
+ *         if (fir_change(old_image, old_length, new_image, new_length, state).question != FIR_ACCEPTED)
+ *             return 0;
+ *         return fir_load(new_image, new_length, table, sizeof table).code == FIR_LOADED;
+ *     }
+ */
 fir_entry fir_change(const uint8_t *old_image, size_t old_length, const uint8_t *new_image, size_t new_length,
                      const fir_state *state);
 
@@ -599,7 +662,8 @@ typedef struct fir_searched {
  * UNDEF since no version fits, or stopped with DEEP. A run that is DONE stands nowhere. Nothing is written and no step is
  * taken. Where the state is none of a run under this image, `dispatch` is 0 for a DISPATCH with an argument that is not
  * there. */
-fir_searched fir_search(const uint8_t *image, size_t image_length, const fir_state *state);
+fir_searched fir_search(const uint8_t *image, size_t image_length, const uint8_t *table, size_t table_length,
+                        const fir_state *state);
 
 #define FIR_NOWHERE 0        /* no call is live, or the state is none of a run under this image */
 #define FIR_AT_INSTRUCTION 1 /* at an instruction, `offset` its record's */
@@ -623,7 +687,7 @@ typedef struct fir_position {
  *
  *     static void say_position(FILE *to, const uint8_t *image, size_t image_length, const fir_state *state)
  *     {
- *         fir_position at = fir_where(image, image_length, state);
+ *         fir_position at = fir_where(image, image_length, table, sizeof table, state);
  *         if (at.kind == FIR_NOWHERE) {
  *             fprintf(to, "nowhere\n");
  *             return;
@@ -636,7 +700,8 @@ typedef struct fir_position {
  *         fprintf(to, ", at %lu\n", (unsigned long)at.offset);
  *     }
  */
-fir_position fir_where(const uint8_t *image, size_t image_length, const fir_state *state);
+fir_position fir_where(const uint8_t *image, size_t image_length, const uint8_t *table, size_t table_length,
+                       const fir_state *state);
 
 #ifdef __cplusplus
 }

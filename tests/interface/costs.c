@@ -1,5 +1,7 @@
 /* What each function of the interface costs: microseconds of the processor's time for a call, the median of some rounds of many calls,
- * with an image of one version and with one of 64, each of 48 instructions. A run stands in the middle of its first version. */
+ * with an image of one version and with the longest, of 64 such versions, and beside each how often that is what fir_check costs with
+ * the same image. A run stands in the middle of its first version; for one search, which is of an image of its own, at a DISPATCH of
+ * eight arguments that four versions do not fit. */
 #include <stdio.h>
 #include <stdlib.h>
 #include <time.h>
@@ -8,15 +10,18 @@
 
 #define ROUNDS 5
 #define ROUND (CLOCKS_PER_SEC / 100) /* the least time of a round */
-#define INSTRUCTIONS 48
-#define MIDWAY 24 /* steps of a run that takes 49 */
-#define LAST_SUMS (5 + 7 + 13 + 8 * (INSTRUCTIONS - 1)) /* the bytes behind the types of the last version */
+#define LITERALS 27 /* of a version, and beside them */
+#define SUMS 17     /* so many sums: 512 bytes in all */
+#define MIDWAY 24   /* steps of a run that takes more than 1,000 */
 #define IMAGES 2
 
 static image images[IMAGES];
 static image narrow_images[IMAGES];
 static image wrong_images[IMAGES]; /* with one wrong type, in the last version */
+static size_t last_types[IMAGES];  /* where that type stands */
 static fir_state midways[IMAGES];
+static image dispatching; /* its DISPATCH looks at four versions, and none fits */
+static fir_state waiting; /* a run of it that stands there */
 static const image *tried;
 static const image *narrow_tried;
 static const image *wrong_tried;
@@ -26,17 +31,21 @@ static int64_t buffer[FIR_ITEMS];
 static const int64_t words[] = {-1, 40};
 static uint8_t text[FIR_REPORT_BYTES];
 static uint8_t out[FIR_IMAGE_BYTES];
+static uint8_t table[FIR_TABLE_BYTES(FIR_IMAGE_BYTES)];
 static uint8_t row_numbers[2 * FIR_ROWS];
 static uint64_t row_steps[FIR_ROWS];
 static volatile uint64_t seen; /* of each answer, so that no call is left out */
 
 static void nothing(void) { seen++; }
 static void check(void) { seen += fir_check(tried->bytes, tried->length).detail; }
+static void loads(void) { seen += fir_load(tried->bytes, tried->length, table, sizeof table).detail; }
+static void table_size(void) { seen += fir_table_size(tried->length); }
 static void report(void) { seen += fir_report(tried->bytes, tried->length, text, sizeof text); }
 static void change(void) { seen += fir_change(tried->bytes, tried->length, tried->bytes, tried->length, midway).question; }
 static void look(void) { seen += (uint64_t)fir_look(midway, 0, 1).number; }
-static void search(void) { seen += fir_search(tried->bytes, tried->length, midway).versions; }
-static void where(void) { seen += fir_where(tried->bytes, tried->length, midway).offset; }
+static void search(void) { seen += fir_search(LENT(*tried), midway).versions; }
+static void search_all(void) { seen += fir_search(LENT(dispatching), &waiting).versions; }
+static void where(void) { seen += fir_where(LENT(*tried), midway).offset; }
 static void question_text(void) { seen += fir_question_text(FIR_REFUSED_BOUNDS, text, sizeof text); }
 static void answer_text(void) { seen += fir_answer_text(FIR_STUCK, text, sizeof text); }
 static void narrow(void) { seen += fir_narrow(tried->bytes, tried->length, out, sizeof out).detail; }
@@ -47,12 +56,12 @@ static void mend(void) { seen += fir_mend(wrong_tried->bytes, wrong_tried->lengt
 
 static void begin(void)
 {
-    seen += fir_begin(tried->bytes, tried->length, FIR_PORTAL, 0, 0, words, 2, buffer, FIR_ITEMS, &state).question;
+    seen += fir_begin(LENT(*tried), FIR_PORTAL, 0, 0, words, 2, buffer, FIR_ITEMS, &state).question;
 }
 
 static void run(void)
 {
-    seen += fir_run(tried->bytes, tried->length, FIR_PORTAL, 0, 0, words, 2, 1, buffer, FIR_ITEMS, &state).steps;
+    seen += fir_run(LENT(*tried), FIR_PORTAL, 0, 0, words, 2, 1, buffer, FIR_ITEMS, &state).steps;
 }
 
 /* The state brought back to the middle of the run: what a step and a budget cost besides. */
@@ -61,28 +70,39 @@ static void bring_back(void) { memcpy(&state, midway, sizeof state); }
 static void step(void)
 {
     bring_back();
-    seen += fir_step(tried->bytes, tried->length, &state).code;
+    seen += fir_step(LENT(*tried), &state).code;
 }
 
-static void budget(void)
+static void budget_of(uint32_t steps)
 {
     bring_back();
-    seen += fir_budget(tried->bytes, tried->length, &state, 1, buffer, FIR_ITEMS).steps;
+    seen += fir_budget(LENT(*tried), &state, steps, buffer, FIR_ITEMS).steps;
 }
 
-/* Versions that are each a literal and sums of it and r0. */
-static void sums(image *to, unsigned versions)
+static void budget_0(void) { budget_of(0); }
+static void budget_1(void) { budget_of(1); }
+static void budget_10(void) { budget_of(10); }
+static void budget_100(void) { budget_of(100); }
+
+/* Versions of literals and sums, the first of which calls itself at its end; where the last type of the last version stands. */
+static size_t sums(image *to, unsigned versions)
 {
     unsigned v, i;
+    size_t last = 0;
     to->length = 0;
     for (v = 0; v < versions; v++) {
         RECORD(to, VERSION, (uint8_t)(v / FIR_VERSIONS), (uint8_t)(v % FIR_VERSIONS), 1, 3, 2, 1, 2, 2, 2);
+        last = to->length - 1;
         RECORD(to, LEVEL, FIR_PORTAL);
-        RECORD(to, BLOCK, 0, 2, INSTRUCTIONS);
-        RECORD(to, LIT, 1, 1, 0, 0, 0, 0, 0, 0, 0);
-        for (i = 1; i < INSTRUCTIONS; i++)
+        RECORD(to, BLOCK, 0, 2, v == 0 ? LITERALS - 5 + SUMS + 7 + 1 : LITERALS + SUMS);
+        for (i = 0; i < (v == 0 ? LITERALS - 5 : LITERALS); i++)
+            RECORD(to, LIT, 1, 1, 0, 0, 0, 0, 0, 0, 0);
+        for (i = 0; i < (v == 0 ? SUMS + 7 : SUMS); i++)
             RECORD(to, ARITH, 2, 0, 0, 1);
+        if (v == 0)
+            RECORD(to, CALL, 2, 0, 0, 1, 0);
     }
+    return last;
 }
 
 static int later(const void *one, const void *other)
@@ -118,15 +138,23 @@ static double cost(void (*function)(void))
 static int prepare(void)
 {
     int i;
-    sums(&images[0], 1);
-    sums(&images[1], FIR_PLACES);
+    last_types[0] = sums(&images[0], 1);
+    last_types[1] = sums(&images[1], FIR_PLACES);
+    searching(&dispatching, FIR_VERSIONS, FIR_VERSIONS);
+    if (load(&dispatching) != FIR_LOADED)
+        return 0;
+    fir_run(LENT(dispatching), FIR_PORTAL, 0, 0, words, 2, SEARCH_STEPS, buffer, FIR_ITEMS, &waiting);
+    if (fir_search(LENT(dispatching), &waiting).looked != FIR_VERSIONS)
+        return 0;
     for (i = 0; i < IMAGES; i++) {
-        const image *image = &images[i];
+        image *image = &images[i];
         const fir_verdict moved = fir_narrow(image->bytes, image->length, narrow_images[i].bytes, FIR_IMAGE_BYTES);
         narrow_images[i].length = moved.detail;
-        fir_run(image->bytes, image->length, FIR_PORTAL, 0, 0, words, 2, MIDWAY, buffer, FIR_ITEMS, &midways[i]);
+        if (load(image) != FIR_LOADED)
+            return 0;
+        fir_run(LENT(*image), FIR_PORTAL, 0, 0, words, 2, MIDWAY, buffer, FIR_ITEMS, &midways[i]);
         wrong_images[i] = *image;
-        wrong_images[i].bytes[image->length - LAST_SUMS - 1] = 3;
+        wrong_images[i].bytes[last_types[i]] = 3;
         if (fir_mend(wrong_images[i].bytes, image->length).mend != FIR_MENDED)
             return 0;
         if (moved.question != FIR_ACCEPTED || midways[i].status != FIR_STEPS || midways[i].calls != 1)
@@ -135,33 +163,49 @@ static int prepare(void)
     return 1;
 }
 
+/* Turns to one of the images. */
+static void turn_to(size_t i)
+{
+    tried = &images[i];
+    narrow_tried = &narrow_images[i];
+    wrong_tried = &wrong_images[i];
+    midway = &midways[i];
+}
+
 int main(void)
 {
     static const struct {
         const char *name;
         void (*function)(void);
         void (*besides)(void);
-    } calls[] = {{"fir_check", check, nothing}, {"fir_report", report, nothing}, {"fir_begin", begin, nothing},
-                 {"fir_run, 1 step", run, nothing}, {"fir_change", change, nothing}, {"fir_widen", widen, nothing},
-                 {"fir_narrow", narrow, nothing}, {"fir_join, with itself", join, nothing}, {"fir_bounds", bounds, nothing},
-                 {"fir_mend", mend, nothing}, {"fir_step", step, bring_back}, {"fir_budget, 1 step", budget, bring_back},
-                 {"fir_where", where, nothing}, {"fir_search", search, nothing}, {"fir_look", look, nothing},
-                 {"fir_question_text", question_text, nothing}, {"fir_answer_text", answer_text, nothing}};
+    } calls[] = {{"fir_check", check, nothing}, {"fir_load", loads, nothing}, {"fir_report", report, nothing},
+                 {"fir_change", change, nothing}, {"fir_widen", widen, nothing}, {"fir_narrow", narrow, nothing},
+                 {"fir_join, with itself", join, nothing}, {"fir_bounds", bounds, nothing}, {"fir_mend", mend, nothing},
+                 {"fir_begin", begin, nothing}, {"fir_run, 1 step", run, nothing}, {"fir_step", step, bring_back},
+                 {"fir_budget, 0 steps", budget_0, bring_back}, {"fir_budget, 1 step", budget_1, bring_back},
+                 {"fir_budget, 10 steps", budget_10, bring_back}, {"fir_budget, 100 steps", budget_100, bring_back},
+                 {"fir_where", where, nothing}, {"fir_search", search, nothing},
+                 {"fir_search, 4 in vain", search_all, nothing}, {"fir_look", look, nothing},
+                 {"fir_table_size", table_size, nothing}, {"fir_question_text", question_text, nothing},
+                 {"fir_answer_text", answer_text, nothing}};
+    double checked[IMAGES], taken;
     size_t i, k;
     if (!prepare()) {
         printf("costs: an image is refused\n");
         return 1;
     }
-    printf("costs: microseconds of a call, with an image of %lu bytes and with one of %lu\n", (unsigned long)images[0].length,
-           (unsigned long)images[1].length);
+    printf("costs: microseconds of a call, and that by fir_check, with an image of %lu bytes and with one of %lu\n",
+           (unsigned long)images[0].length, (unsigned long)images[1].length);
+    for (k = 0; k < IMAGES; k++) {
+        turn_to(k);
+        checked[k] = cost(check) - cost(nothing);
+    }
     for (i = 0; i < sizeof calls / sizeof *calls; i++) {
         printf("costs: %-22s", calls[i].name);
         for (k = 0; k < IMAGES; k++) {
-            tried = &images[k];
-            narrow_tried = &narrow_images[k];
-            wrong_tried = &wrong_images[k];
-            midway = &midways[k];
-            printf(" %8.2f", cost(calls[i].function) - cost(calls[i].besides));
+            turn_to(k);
+            taken = cost(calls[i].function) - cost(calls[i].besides);
+            printf(" %9.2f %7.3f", taken, taken / checked[k]);
         }
         printf("\n");
     }

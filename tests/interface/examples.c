@@ -8,6 +8,9 @@
 
 enum { PRINTED = 2048 };
 
+/* The four arguments of an image with the table of the examples. */
+#define TABLED(image) (image).bytes, (image).length, table, sizeof table
+
 static unsigned tests;
 static image tried;
 static fir_state state;
@@ -50,10 +53,12 @@ static void printed(FILE *file, const char *wanted)
     }
 }
 
+/* Loads the image into the table of the examples, and begins a run. */
 static void begins(const int64_t *arguments, size_t length)
 {
+    same("whether the image is loaded", (size_t)load_image(stdout, tried.bytes, tried.length), 1);
     same("a beginning's question",
-         fir_begin(tried.bytes, tried.length, FIR_PORTAL, 0, 0, arguments, length, items, FIR_ITEMS, &state).question,
+         fir_begin(TABLED(tried), FIR_PORTAL, 0, 0, arguments, length, items, FIR_ITEMS, &state).question,
          FIR_ACCEPTED);
 }
 
@@ -64,8 +69,9 @@ static void texts(void)
     printed(file, "refused by 13 at 0: the result buffer has fewer than 16 places\n");
     calling(&tried, FIR_PORTAL, FIR_PORTAL);
     file = opened();
-    say_answer(file, fir_run(tried.bytes, tried.length, FIR_PORTAL, 0, 0, words, 2, 2, items, FIR_ITEMS, &state));
-    say_answer(file, fir_budget(tried.bytes, tried.length, &state, 100, items, FIR_ITEMS));
+    same("whether the image is loaded", (size_t)load_image(file, tried.bytes, tried.length), 1);
+    say_answer(file, fir_run(TABLED(tried), FIR_PORTAL, 0, 0, words, 2, 2, items, FIR_ITEMS, &state));
+    say_answer(file, fir_budget(TABLED(tried), &state, 100, items, FIR_ITEMS));
     printed(file, "the run goes on, steps taken: 2\nDONE with an integer, steps taken: 1\n");
     file = opened();
     print_report(file, tried.bytes, tried.length);
@@ -78,17 +84,17 @@ static void stored(void)
     FILE *file = opened();
     calling(&tried, FIR_PORTAL, FIR_PORTAL);
     begins(words, 2);
-    fir_step(tried.bytes, tried.length, &state);
+    fir_step(TABLED(tried), &state);
     same("a state's being stored", (size_t)store_state(file, &state), 1);
     memset(&state, 0, sizeof state);
     rewind(file);
-    same("a state's being loaded", (size_t)load_state(file, &state), 1);
+    same("a state's being read", (size_t)read_state(file, &state), 1);
     same("the steps that were left", run_by_slices(tried.bytes, tried.length, &state, items).steps, 2);
     same("the value", (size_t)state.value, 7);
     rewind(file);
     fputc(FIR_STATE_LAYOUT + 1, file);
     rewind(file);
-    same("another layout's being loaded", (size_t)load_state(file, &state), 0);
+    same("another layout's being read", (size_t)read_state(file, &state), 0);
     fclose(file);
 }
 
@@ -108,6 +114,34 @@ static void stepped(void)
     same("the second item", (size_t)items[1], 40);
 }
 
+/* An image that is loaded, and one that is not. */
+static void loading(void)
+{
+    FILE *file = opened();
+    calling(&tried, FIR_PORTAL, FIR_PORTAL);
+    same("whether an image is loaded", (size_t)load_image(file, tried.bytes, tried.length), 1);
+    same("the place of the version 0.0", table[0], 2);
+    same("whether a part of an image is loaded", (size_t)load_image(file, tried.bytes, tried.length - 1), 0);
+    same("the place of the version 0.0", table[0], 0);
+    printed(file, "refused by 2 at 48: a record has no full head, a length below 4, or an end behind the image\n");
+}
+
+/* A change of the image, refused while the version that differs has a live call, and accepted before. */
+static void changing(void)
+{
+    static image other;
+    calling(&tried, FIR_FACTORY, FIR_PORTAL);
+    calling(&other, FIR_FACTORY, FIR_STAFF);
+    same("whether the image is loaded", (size_t)load_image(stdout, tried.bytes, tried.length), 1);
+    fir_begin(TABLED(tried), FIR_FACTORY, 0, 0, words, 2, items, FIR_ITEMS, &state);
+    fir_step(TABLED(tried), &state);
+    same("a change in the call", (size_t)change_image(tried.bytes, tried.length, other.bytes, other.length, &state), 0);
+    same("the steps that were left", fir_budget(TABLED(tried), &state, 9, items, FIR_ITEMS).steps, 2);
+    fir_begin(TABLED(tried), FIR_FACTORY, 0, 0, words, 2, items, FIR_ITEMS, &state);
+    same("a change before the call", (size_t)change_image(tried.bytes, tried.length, other.bytes, other.length, &state), 1);
+    same("the steps of the run", run_by_slices(other.bytes, other.length, &state, items).steps, 3);
+}
+
 /* A run of a version without parameters, and that one with a parameter is refused without words. */
 static void without_words(void)
 {
@@ -116,10 +150,12 @@ static void without_words(void)
     RECORD(&tried, LEVEL, FIR_PORTAL);
     RECORD(&tried, BLOCK, 0, 0, 1);
     RECORD(&tried, LIT, 0, 9, 0, 0, 0, 0, 0, 0, 0);
+    same("whether the image is loaded", (size_t)load_image(stdout, tried.bytes, tried.length), 1);
     same("a beginning without words", begin_without_words(tried.bytes, tried.length, items, &state).question, FIR_ACCEPTED);
     run_by_slices(tried.bytes, tried.length, &state, items);
     same("the literal", (size_t)state.value, 9);
     calling(&tried, FIR_PORTAL, FIR_PORTAL);
+    same("whether the image is loaded", (size_t)load_image(stdout, tried.bytes, tried.length), 1);
     same("a missing word", begin_without_words(tried.bytes, tried.length, items, &state).question, FIR_REFUSED_ARGUMENTS);
 }
 
@@ -130,7 +166,7 @@ static void positions(void)
     begins(words, 2);
     do
         say_position(file, tried.bytes, tried.length, &state);
-    while (fir_step(tried.bytes, tried.length, &state).code == FIR_STEPS);
+    while (fir_step(TABLED(tried), &state).code == FIR_STEPS);
     say_position(file, tried.bytes, tried.length, &state);
     printed(file, "0.0, block 0, instruction 0, at 23\n"
                   "0.1, block 0, its end, at 48\n"
@@ -191,7 +227,9 @@ int main(void)
     same("whether the library is the header's", (size_t)library_is_the_headers(), 1);
     texts();
     stored();
+    loading();
     stepped();
+    changing();
     without_words();
     positions();
     joining();

@@ -9,7 +9,17 @@
 typedef struct image {
     uint8_t bytes[FIR_IMAGE_BYTES];
     size_t length;
+    uint8_t table[FIR_TABLE_BYTES(FIR_IMAGE_BYTES)];
 } image;
+
+/* The four arguments of an image and its table. */
+#define LENT(image) (image).bytes, (image).length, (image).table, sizeof (image).table
+
+/* Loads an image into its own table; the code of the answer. */
+static inline unsigned load(image *image)
+{
+    return fir_load(image->bytes, image->length, image->table, sizeof image->table).code;
+}
 
 static inline void record(image *to, unsigned kind, const uint8_t *body, size_t length)
 {

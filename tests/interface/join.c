@@ -146,8 +146,8 @@ static void runs_alike(const image *alone, size_t function, size_t number)
     for (level = FIR_PORTAL; level <= FIR_FACTORY; level++)
         for (version = 0; version < FIR_VERSIONS; version++) {
             fir_answer is, wanted;
-            wanted = fir_run(alone->bytes, alone->length, level, function, version, words, 2, BUDGET, items, FIR_ITEMS, &state);
-            is = fir_run(joined.bytes, joined.length, level, number, version, words, 2, BUDGET, items, FIR_ITEMS, &other);
+            wanted = fir_run(LENT(*alone), level, function, version, words, 2, BUDGET, items, FIR_ITEMS, &state);
+            is = fir_run(LENT(joined), level, number, version, words, 2, BUDGET, items, FIR_ITEMS, &other);
             same("the code of a run", is.code, wanted.code);
             same("its question", is.question, wanted.question);
             same("its steps", is.steps, wanted.steps);
@@ -164,10 +164,11 @@ static void runs(void)
     calling(&second, FIR_STAFF, FIR_PORTAL);
     joined.length = fir_join(first.bytes, first.length, second.bytes, second.length, joined.bytes, FIR_IMAGE_BYTES).detail;
     same("the versions", fir_check(joined.bytes, joined.length).detail, 8);
+    same("the loads", load(&first) + load(&second) + load(&joined), FIR_LOADED);
     runs_alike(&first, 0, 0);
     runs_alike(&first, 1, 1);
     runs_alike(&second, 0, 2);
-    same("a number behind both", fir_begin(joined.bytes, joined.length, FIR_FACTORY, 3, 0, items, 0, items, FIR_ITEMS, &state).question,
+    same("a number behind both", fir_begin(LENT(joined), FIR_FACTORY, 3, 0, items, 0, items, FIR_ITEMS, &state).question,
          FIR_REFUSED_ENTRY);
 }
 

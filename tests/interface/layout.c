@@ -1,6 +1,5 @@
 /* The layout of what crosses the interface, as this compiler has it, against what the header says and the library was built
- * with. The size of each field is that of its type; each field follows on the one before it, but for 4 bytes of padding before
- * the value of a state, which no call writes. */
+ * with. The size of each field is that of its type; each field of a state follows on the one before it, and no byte is left over. */
 #include <stdio.h>
 #include <stdlib.h>
 #include <string.h>
@@ -8,6 +7,7 @@
 #include "fir.h"
 
 static unsigned tests;
+static uint8_t table[FIR_TABLE_BYTES(FIR_IMAGE_BYTES)];
 static const uint8_t identity[] = {11, 0, 1, 0, 0, 0, 1, 1, 2, 1, 2, 5, 0, 3, 0, 0, 7, 0, 2, 0, 0, 0, 0};
 
 static void same(const char *what, size_t is, size_t wanted)
@@ -23,25 +23,6 @@ static void same(const char *what, size_t is, size_t wanted)
 #define ALIGNMENT(type) \
     offsetof(struct { char before; struct type it; }, it)
 
-/* The bytes between the length and the value of a state, which no call writes. */
-static void padding_stays(void)
-{
-    static const int64_t words[] = {-1, 7};
-    static int64_t buffer[FIR_ITEMS];
-    static fir_state state;
-    const size_t first = offsetof(fir_state, length) + 1;
-    uint8_t *bytes = (uint8_t *)&state;
-    size_t at;
-    memset(&state, 0xa5, sizeof state);
-    fir_run(identity, sizeof identity, FIR_PORTAL, 0, 0, words, 2, 9, buffer, FIR_ITEMS, &state);
-    fir_begin(identity, sizeof identity, FIR_PORTAL, 0, 0, words, 2, buffer, FIR_ITEMS, &state);
-    fir_step(identity, sizeof identity, &state);
-    fir_budget(identity, sizeof identity, &state, 9, buffer, FIR_ITEMS);
-    same("state.status", state.status, FIR_INTEGER);
-    for (at = first; at < offsetof(fir_state, value); at++)
-        same("a byte of padding", bytes[at], 0xa5);
-}
-
 /* The lowest byte of a number stands first in a state, and an integer is in two's complement. */
 static void byte_order(void)
 {
@@ -50,10 +31,10 @@ static void byte_order(void)
     static int64_t buffer[FIR_ITEMS];
     static fir_state state;
     const uint8_t *bytes = (const uint8_t *)&state;
-    fir_begin(identity, sizeof identity, FIR_PORTAL, 0, 0, words, 2, buffer, FIR_ITEMS, &state);
+    same("the load", fir_load(identity, sizeof identity, table, sizeof table).code, FIR_LOADED);
+    fir_begin(identity, sizeof identity, table, sizeof table, FIR_PORTAL, 0, 0, words, 2, buffer, FIR_ITEMS, &state);
     same("the bytes of r0", memcmp(bytes + offsetof(fir_state, numbers), wanted, sizeof wanted) != 0, 0);
-    same("the first byte of its code", bytes[offsetof(fir_state, codes)], 1);
-    same("the second byte of its code", bytes[offsetof(fir_state, codes) + 1], 0);
+    same("the tag of r0", bytes[offsetof(fir_state, tags)], FIR_IS_INTEGER);
 }
 
 int main(void)
@@ -61,21 +42,27 @@ int main(void)
     const size_t size = sizeof(size_t); /* 8, or 4 where pointers have 32 bits */
     same("fir_state_size", fir_state_size(), sizeof(fir_state));
     same("fir_state_alignment", fir_state_alignment(), ALIGNMENT(fir_state));
-    same("sizeof fir_state", sizeof(fir_state), 17040);
+    same("sizeof fir_state", sizeof(fir_state), 19664);
     AT(fir_state, numbers, 0);
-    AT(fir_state, items, 6144);
-    AT(fir_state, caches, 14336);
-    AT(fir_state, result, 14848);
-    AT(fir_state, codes, 14976);
-    AT(fir_state, owners, 16512);
-    AT(fir_state, stack, 16576);
-    AT(fir_state, lengths, 16768);
-    AT(fir_state, promises, 16832);
-    AT(fir_state, calls, 17024);
-    AT(fir_state, depth, 17025);
-    AT(fir_state, status, 17026);
-    AT(fir_state, length, 17027);
-    AT(fir_state, value, 17032);
+    AT(fir_state, items, 8192);
+    AT(fir_state, caches, 16384);
+    AT(fir_state, result, 16896);
+    AT(fir_state, value, 17024);
+    AT(fir_state, tags, 17032);
+    AT(fir_state, places, 18056);
+    AT(fir_state, stack, 19080);
+    AT(fir_state, promises, 19336);
+    AT(fir_state, lengths, 19592);
+    AT(fir_state, calls, 19656);
+    AT(fir_state, depth, 19657);
+    AT(fir_state, status, 19658);
+    AT(fir_state, length, 19659);
+    AT(fir_state, spare, 19660);
+    same("FIR_TABLE_BYTES", FIR_TABLE_BYTES(FIR_IMAGE_BYTES), 45992);
+    same("sizeof fir_loaded", sizeof(fir_loaded), 2 * size);
+    AT(fir_loaded, detail, 0);
+    AT(fir_loaded, code, size);
+    AT(fir_loaded, question, size + 1);
     same("sizeof fir_verdict", sizeof(fir_verdict), 2 * size);
     AT(fir_verdict, question, size);
     same("sizeof fir_joined", sizeof(fir_joined), 2 * size);
@@ -121,7 +108,6 @@ int main(void)
     same("fir_version().interface_number", fir_version().interface_number, FIR_INTERFACE);
     same("fir_version().state_layout", fir_version().state_layout, FIR_STATE_LAYOUT);
     byte_order();
-    padding_stays();
     printf("layout: %u passed\n", tests);
     return 0;
 }

@@ -30,10 +30,10 @@ static void refuses(size_t level, size_t version)
     fir_entry entry;
     fir_answer answer;
     memcpy(&before, &state, sizeof state);
-    entry = fir_begin(tried.bytes, tried.length, level, 0, version, words, 2, buffer, FIR_ITEMS, &state);
+    entry = fir_begin(LENT(tried), level, 0, version, words, 2, buffer, FIR_ITEMS, &state);
     same("the question of a beginning", entry.question, FIR_REFUSED_LEVEL);
     same("its offset", entry.offset, 0);
-    answer = fir_run(tried.bytes, tried.length, level, 0, version, words, 2, 100, buffer, FIR_ITEMS, &state);
+    answer = fir_run(LENT(tried), level, 0, version, words, 2, 100, buffer, FIR_ITEMS, &state);
     same("the code of a run", answer.code, FIR_REFUSED);
     same("the question of a run", answer.question, FIR_REFUSED_LEVEL);
     same("a refused state's difference", memcmp(&before, &state, sizeof state) != 0, 0);
@@ -46,16 +46,16 @@ static void enters(size_t level, size_t version)
     fir_answer answer;
     fir_searched search;
     memset(&first, 0, sizeof first);
-    memset(&state, 0, sizeof state);
-    fir_begin(tried.bytes, tried.length, FIR_FACTORY, 0, version, words, 2, buffer, FIR_ITEMS, &first);
+    memset(&state, 0xa5, sizeof state);
+    fir_begin(LENT(tried), FIR_FACTORY, 0, version, words, 2, buffer, FIR_ITEMS, &first);
     same("the question of a beginning",
-         fir_begin(tried.bytes, tried.length, level, 0, version, words, 2, buffer, FIR_ITEMS, &state).question,
+         fir_begin(LENT(tried), level, 0, version, words, 2, buffer, FIR_ITEMS, &state).question,
          FIR_ACCEPTED);
     same("a state's difference at two levels", memcmp(&first, &state, sizeof state) != 0, 0);
-    search = fir_search(tried.bytes, tried.length, &state);
+    search = fir_search(LENT(tried), &state);
     same("how many are looked at", search.looked, ALL_LEVELS - version);
     same("how many there are", search.versions, ALL_LEVELS);
-    answer = fir_budget(tried.bytes, tried.length, &state, 100, buffer, FIR_ITEMS);
+    answer = fir_budget(LENT(tried), &state, 100, buffer, FIR_ITEMS);
     same("the code of a budget", answer.code, FIR_INTEGER);
     same("the version that was called", (size_t)answer.value, 10 + FIR_FACTORY - version);
 }
@@ -64,11 +64,11 @@ static void enters(size_t level, size_t version)
 static void order(void)
 {
     same("a missing entry's question",
-         fir_begin(tried.bytes, tried.length, FIR_PORTAL, 0, 3, words, 1, buffer, 0, &state).question, FIR_REFUSED_ENTRY);
+         fir_begin(LENT(tried), FIR_PORTAL, 0, 3, words, 1, buffer, 0, &state).question, FIR_REFUSED_ENTRY);
     same("a high entry's question",
-         fir_begin(tried.bytes, tried.length, FIR_PORTAL, 0, 1, words, 1, buffer, 0, &state).question, FIR_REFUSED_LEVEL);
+         fir_begin(LENT(tried), FIR_PORTAL, 0, 1, words, 1, buffer, 0, &state).question, FIR_REFUSED_LEVEL);
     same("wrong words' question",
-         fir_begin(tried.bytes, tried.length, FIR_STAFF, 0, 1, words, 1, buffer, 0, &state).question, FIR_REFUSED_ARGUMENTS);
+         fir_begin(LENT(tried), FIR_STAFF, 0, 1, words, 1, buffer, 0, &state).question, FIR_REFUSED_ARGUMENTS);
 }
 
 /* No CALL goes up, and a level above 2 is none. */
@@ -96,10 +96,11 @@ static void changes(void)
     fir_entry is;
     calling(&tried, FIR_FACTORY, FIR_PORTAL);
     calling(&other, FIR_FACTORY, FIR_STAFF);
-    fir_begin(tried.bytes, tried.length, FIR_FACTORY, 0, 0, words, 2, buffer, FIR_ITEMS, &state);
+    same("the load", load(&tried), FIR_LOADED);
+    fir_begin(LENT(tried), FIR_FACTORY, 0, 0, words, 2, buffer, FIR_ITEMS, &state);
     is = fir_change(tried.bytes, tried.length, other.bytes, other.length, &state);
     same("the question of a change before the call", is.question, FIR_ACCEPTED);
-    fir_step(tried.bytes, tried.length, &state);
+    fir_step(LENT(tried), &state);
     is = fir_change(tried.bytes, tried.length, other.bytes, other.length, &state);
     same("the question of a change in the call", is.question, FIR_REFUSED_CHANGE);
     same("its offset", is.offset, 23 + 9);
@@ -109,6 +110,7 @@ int main(void)
 {
     size_t i, version;
     leveled(&tried);
+    same("the load", load(&tried), FIR_LOADED);
     for (i = 0; i < LEVELS; i++)
         for (version = 0; version < ALL_LEVELS; version++) {
             if (version > levels[i])

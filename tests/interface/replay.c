@@ -1,6 +1,6 @@
 /* Plays recorded cases, as the program `recorded` of tests/generator writes them, from standard input, and prints a sum over all that
- * the library answers and leaves: numbers, verdicts and texts, moves, joined images, bounds, mends, states, buffers, positions and
- * searches. On two machines the same cases print the same. */
+ * the library answers and leaves: numbers, verdicts and texts, moves, joined images, bounds, mends, tables, states, buffers, positions
+ * and searches. On two machines the same cases print the same. */
 #include <stdio.h>
 #include <stdlib.h>
 #include <string.h>
@@ -15,7 +15,11 @@
 typedef struct image {
     size_t length;
     uint8_t bytes[IMAGE];
+    uint8_t table[FIR_TABLE_BYTES(IMAGE)];
 } image;
+
+/* The four arguments of an image and its table. */
+#define LENT(image) (image).bytes, (image).length, (image).table, sizeof (image).table
 
 static image images[2];
 static uint8_t out[FIR_IMAGE_BYTES];
@@ -127,6 +131,18 @@ static void judge(const image *image)
     }
 }
 
+/* The image loaded into its table. */
+static void load(image *image)
+{
+    fir_loaded loaded;
+    memset(image->table, 0, sizeof image->table);
+    loaded = fir_load(image->bytes, image->length, image->table, sizeof image->table);
+    add(loaded.code * 256u + loaded.question);
+    add(loaded.detail);
+    add(fir_table_size(image->length));
+    add_bytes(image->table, sizeof image->table);
+}
+
 /* The image joined with itself. */
 static void join(const image *image)
 {
@@ -162,8 +178,8 @@ static void mend(const image *image)
 /* What can be asked of the state. */
 static void look(const image *image)
 {
-    fir_position at = fir_where(image->bytes, image->length, &state);
-    fir_searched searched = fir_search(image->bytes, image->length, &state);
+    fir_position at = fir_where(LENT(*image), &state);
+    fir_searched searched = fir_search(LENT(*image), &state);
     size_t place;
     add_bytes(&state, sizeof state);
     add(at.kind);
@@ -197,19 +213,20 @@ static void act(image **in_force, image **other)
     image *changed;
     switch (number()) {
     case 0:
-        said = fir_step((*in_force)->bytes, (*in_force)->length, &state);
+        said = fir_step(LENT(**in_force), &state);
         add((uint64_t)said.value);
         add(said.code * 256u + said.length);
         break;
     case 1:
         budget = number();
-        add_answer(fir_budget((*in_force)->bytes, (*in_force)->length, &state, (uint32_t)budget, buffer, (size_t)number()));
+        add_answer(fir_budget(LENT(**in_force), &state, (uint32_t)budget, buffer, (size_t)number()));
         break;
     default:
         read_image(*other, number());
         entry = fir_change((*in_force)->bytes, (*in_force)->length, (*other)->bytes, (*other)->length, &state);
         add(entry.question * 65536u + entry.offset);
         if (entry.question == FIR_ACCEPTED) {
+            load(*other);
             changed = *in_force;
             *in_force = *other;
             *other = changed;
@@ -236,15 +253,16 @@ static void play(uint64_t length)
     join(in_force);
     bound(in_force);
     mend(in_force);
+    load(in_force);
     memset(&state, 0, sizeof state);
     memset(buffer, 0, sizeof buffer);
-    entry = fir_begin(in_force->bytes, in_force->length, (size_t)level, (size_t)function, (size_t)version, words, (size_t)count,
+    entry = fir_begin(LENT(*in_force), (size_t)level, (size_t)function, (size_t)version, words, (size_t)count,
                       buffer, FIR_ITEMS, &state);
     add(entry.question * 65536u + entry.offset);
     look(in_force);
     for (i = number(); i > 0; i--)
         act(&in_force, &other);
-    add_answer(fir_run(in_force->bytes, in_force->length, (size_t)level, (size_t)function, (size_t)version, words, (size_t)count,
+    add_answer(fir_run(LENT(*in_force), (size_t)level, (size_t)function, (size_t)version, words, (size_t)count,
                        500, buffer, PLACES, &state));
     look(in_force);
 }

@@ -17,7 +17,7 @@ static void answers(const char *what, unsigned dispatch, unsigned looked, unsign
     static fir_state before;
     fir_searched is;
     memcpy(&before, &state, sizeof state);
-    is = fir_search(tried.bytes, tried.length, &state);
+    is = fir_search(LENT(tried), &state);
     tests++;
     if (is.dispatch != dispatch || is.looked != looked || is.versions != versions) {
         printf("search: %s: %u, %u of %u, and not %u, %u of %u\n", what, is.dispatch, is.looked, is.versions, dispatch, looked,
@@ -33,7 +33,7 @@ static void answers(const char *what, unsigned dispatch, unsigned looked, unsign
 /* Goes on for so many steps, or to the end. */
 static unsigned go_on(uint32_t steps)
 {
-    return fir_budget(tried.bytes, tried.length, &state, steps, buffer, FIR_ITEMS).code;
+    return fir_budget(LENT(tried), &state, steps, buffer, FIR_ITEMS).code;
 }
 
 /* Asserts the code of an answer. */
@@ -52,7 +52,8 @@ int main(void)
         for (fitting = 0; fitting <= versions; fitting++) {
             unsigned looked = fitting < versions ? fitting + 1 : versions;
             searching(&tried, versions, fitting);
-            fir_begin(tried.bytes, tried.length, FIR_PORTAL, 0, 0, words, 2, buffer, FIR_ITEMS, &state);
+            ended(load(&tried), FIR_LOADED);
+            fir_begin(LENT(tried), FIR_PORTAL, 0, 0, words, 2, buffer, FIR_ITEMS, &state);
             answers("before", 0, 0, 0);
             ended(go_on(SEARCH_STEPS), FIR_STEPS);
             answers("at a DISPATCH", 1, looked, versions);

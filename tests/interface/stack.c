@@ -30,14 +30,15 @@ static uint64_t row_steps[FIR_ROWS];
 
 static void nothing(void) { }
 static void check(void) { fir_check(tried.bytes, tried.length); }
+static void loads(void) { fir_load(tried.bytes, tried.length, tried.table, sizeof tried.table); }
 static void report(void) { fir_report(tried.bytes, tried.length, text, sizeof text); }
-static void begin(void) { fir_begin(tried.bytes, tried.length, FIR_FACTORY, 0, 0, words, 2, buffer, FIR_ITEMS, &state); }
-static void step(void) { fir_step(tried.bytes, tried.length, &state); }
-static void budget(void) { fir_budget(tried.bytes, tried.length, &state, 100000, buffer, FIR_ITEMS); }
+static void begin(void) { fir_begin(LENT(tried), FIR_FACTORY, 0, 0, words, 2, buffer, FIR_ITEMS, &state); }
+static void step(void) { fir_step(LENT(tried), &state); }
+static void budget(void) { fir_budget(LENT(tried), &state, 100000, buffer, FIR_ITEMS); }
 
 static void run(void)
 {
-    fir_run(tried.bytes, tried.length, FIR_FACTORY, 0, 0, words, 2, 100000, buffer, FIR_ITEMS, &state);
+    fir_run(LENT(tried), FIR_FACTORY, 0, 0, words, 2, 100000, buffer, FIR_ITEMS, &state);
 }
 
 static void change(void) { fir_change(tried.bytes, tried.length, tried.bytes, tried.length, &midway); }
@@ -76,28 +77,30 @@ static void look(void) { fir_look(&state, 0, 3); }
 
 static void search(void)
 {
-    fir_search(searched.bytes, searched.length, &at_dispatch);
-    fir_search(tried.bytes, tried.length, &midway);
+    fir_search(LENT(searched), &at_dispatch);
+    fir_search(LENT(tried), &midway);
 }
 
 static void where(void)
 {
-    fir_where(searched.bytes, searched.length, &at_dispatch);
-    fir_where(tried.bytes, tried.length, &midway);
+    fir_where(LENT(searched), &at_dispatch);
+    fir_where(LENT(tried), &midway);
 }
 
 static void question_text(void) { fir_question_text(FIR_REFUSED_BOUNDS, text, sizeof text); }
 static void answer_text(void) { fir_answer_text(FIR_STUCK, text, sizeof text); }
 
-/* Runs that are refused by 11, 19 where the entry is for the factory, 12 and 13, changes that are refused by 1 and by 15, moves that are by 3 and by 17,
+/* Images that are not loaded, refused by 3 and with a table that is too short, runs that are refused by 11, 19 where the entry is for the factory, 12 and 13, changes that are refused by 1 and by 15, moves that are by 3 and by 17,
  * images that are not joined, by the first, the second and 23, bounds that are refused by 3, and an image that no mend is looked for. */
 static void refusals(void)
 {
-    fir_begin(tried.bytes, tried.length, FIR_FACTORY, 31, 3, words, 2, buffer, FIR_ITEMS, &state);
-    fir_begin(tried.bytes, tried.length, FIR_PORTAL, 0, 0, words, 1, buffer, FIR_ITEMS, &state);
-    fir_begin(tried.bytes, tried.length, FIR_FACTORY, 0, 0, words, 1, buffer, FIR_ITEMS, &state);
-    fir_run(tried.bytes, tried.length, FIR_FACTORY, 0, 0, words, 2, 1000, buffer, FIR_ITEMS - 1, &state);
-    fir_budget(tried.bytes, tried.length, &state, 1000, buffer, FIR_ITEMS - 1);
+    fir_load(stored.bytes, stored.length, stored.table, sizeof stored.table);
+    fir_load(current.bytes, current.length, current.table, FIR_TABLE_BYTES(0));
+    fir_begin(LENT(tried), FIR_FACTORY, 31, 3, words, 2, buffer, FIR_ITEMS, &state);
+    fir_begin(LENT(tried), FIR_PORTAL, 0, 0, words, 1, buffer, FIR_ITEMS, &state);
+    fir_begin(LENT(tried), FIR_FACTORY, 0, 0, words, 1, buffer, FIR_ITEMS, &state);
+    fir_run(LENT(tried), FIR_FACTORY, 0, 0, words, 2, 1000, buffer, FIR_ITEMS - 1, &state);
+    fir_budget(LENT(tried), &state, 1000, buffer, FIR_ITEMS - 1);
     fir_change(tried.bytes, tried.length, tried.bytes, 0, &midway);
     fir_change(tried.bytes, 0, tried.bytes, tried.length, &midway);
     fir_widen(current.bytes, current.length, out, sizeof out);
@@ -138,7 +141,7 @@ int main(void)
     static const struct {
         const char *name;
         void (*function)(void);
-    } calls[] = {{"fir_check", check}, {"fir_report", report}, {"fir_begin", begin}, {"fir_step", step},
+    } calls[] = {{"fir_check", check}, {"fir_load", loads}, {"fir_report", report}, {"fir_begin", begin}, {"fir_step", step},
                  {"fir_budget", budget}, {"fir_run", run}, {"fir_change", change}, {"fir_look", look},
                  {"fir_search", search}, {"fir_check_in", check_in}, {"fir_report_in", report_in}, {"fir_widen", widen},
                  {"fir_narrow", narrow}, {"fir_join", join}, {"fir_mend", mend}, {"fir_bounds", bounds}, {"fir_where", where},
@@ -166,8 +169,9 @@ int main(void)
         return 1;
     }
     searching(&searched, FIR_VERSIONS, FIR_VERSIONS);
-    fir_run(searched.bytes, searched.length, FIR_PORTAL, 0, 0, words, 2, SEARCH_STEPS, buffer, FIR_ITEMS, &at_dispatch);
-    if (fir_search(searched.bytes, searched.length, &at_dispatch).looked != FIR_VERSIONS) {
+    load(&searched);
+    fir_run(LENT(searched), FIR_PORTAL, 0, 0, words, 2, SEARCH_STEPS, buffer, FIR_ITEMS, &at_dispatch);
+    if (fir_search(LENT(searched), &at_dispatch).looked != FIR_VERSIONS) {
         printf("stack: a run stands at no search\n");
         return 1;
     }
@@ -178,11 +182,11 @@ int main(void)
             chain(&tried, FIR_FUNCTIONS);
         else
             nested(&tried);
-        if (fir_check(tried.bytes, tried.length).question != FIR_ACCEPTED) {
+        if (load(&tried) != FIR_LOADED) {
             printf("stack: image %lu is refused\n", (unsigned long)kind);
             return 1;
         }
-        fir_run(tried.bytes, tried.length, FIR_FACTORY, 0, 0, words, 2, MIDWAY, buffer, FIR_ITEMS, &midway);
+        fir_run(LENT(tried), FIR_FACTORY, 0, 0, words, 2, MIDWAY, buffer, FIR_ITEMS, &midway);
         if (midway.status != FIR_STEPS) {
             printf("stack: a run of image %lu has ended\n", (unsigned long)kind);
             return 1;

@@ -1,4 +1,4 @@
-/* Calls from several threads at once, which share an image and have a state each: every run answers as one alone does. */
+/* Calls from several threads at once, which share an image with its table and have a state each: every run answers as one alone does. */
 #define _POSIX_C_SOURCE 200112L
 #include <pthread.h>
 #include <stdio.h>
@@ -23,16 +23,16 @@ typedef struct worker {
 static fir_answer run(fir_state *state, int64_t *buffer)
 {
     unsigned step;
-    fir_begin(shared.bytes, shared.length, FIR_PORTAL, 0, 0, words, 2, buffer, FIR_ITEMS, state);
+    fir_begin(LENT(shared), FIR_PORTAL, 0, 0, words, 2, buffer, FIR_ITEMS, state);
     for (step = 0; step < STEPS; step++)
-        fir_step(shared.bytes, shared.length, state);
-    return fir_budget(shared.bytes, shared.length, state, STEPS, buffer, FIR_ITEMS);
+        fir_step(LENT(shared), state);
+    return fir_budget(LENT(shared), state, STEPS, buffer, FIR_ITEMS);
 }
 
 static int differs(const worker *own, fir_answer answer)
 {
-    fir_position at = fir_where(shared.bytes, shared.length, &own->state);
-    fir_position wanted = fir_where(shared.bytes, shared.length, &last);
+    fir_position at = fir_where(LENT(shared), &own->state);
+    fir_position wanted = fir_where(LENT(shared), &last);
     return answer.code != alone.code || answer.steps != alone.steps || at.offset != wanted.offset
         || memcmp(&own->state, &last, sizeof last) != 0;
 }
@@ -52,6 +52,8 @@ int main(void)
     static int64_t buffer[FIR_ITEMS];
     unsigned i, different = 0;
     countdown(&shared, 40);
+    if (load(&shared) != FIR_LOADED)
+        return 2;
     alone = run(&last, buffer);
     for (i = 0; i < THREADS; i++)
         if (pthread_create(&workers[i].thread, NULL, work, &workers[i]) != 0)

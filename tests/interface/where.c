@@ -26,7 +26,7 @@ static void stands(const char *what, fir_position wanted)
     static fir_state before;
     fir_position is;
     memcpy(&before, &state, sizeof state);
-    is = fir_where(tried.bytes, tried.length, &state);
+    is = fir_where(LENT(tried), &state);
     same(what, "kind", is.kind, wanted.kind);
     same(what, "function", is.function, wanted.function);
     same(what, "version", is.version, wanted.version);
@@ -48,10 +48,11 @@ static void nowhere(const char *what)
         stands(what, wanted);                       \
     } while (0)
 
-/* Begins a run and takes so many steps of it; the code of the answer. */
+/* Loads the image, begins a run and takes so many steps of it; the code of the answer. */
 static unsigned run(uint32_t steps)
 {
-    return fir_run(tried.bytes, tried.length, FIR_FACTORY, 0, 0, words, 2, steps, buffer, FIR_ITEMS, &state).code;
+    same("the image", "code of its load", load(&tried), FIR_LOADED);
+    return fir_run(LENT(tried), FIR_FACTORY, 0, 0, words, 2, steps, buffer, FIR_ITEMS, &state).code;
 }
 
 static void calls(void)
@@ -120,8 +121,10 @@ static void strangers(void)
     calling(&tried, FIR_PORTAL, FIR_PORTAL);
     run(1);
     tried.length = 0;
+    same("an empty image", "code of its load", load(&tried), FIR_REFUSED);
     nowhere("under an empty image");
     calling(&tried, FIR_PORTAL, FIR_PORTAL);
+    run(1);
     memset(&state, 0, sizeof state);
     nowhere("a state of no call");
     memset(&state, 0xa5, sizeof state);

@@ -11,11 +11,17 @@ typedef struct slice {
     uint64_t length;
 } slice;
 
-/* A fir_verdict, a fir_joined, a fir_mended and a fir_position with sizes of 64 bits. */
+/* A fir_verdict, a fir_loaded, a fir_joined, a fir_mended and a fir_position with sizes of 64 bits. */
 typedef struct wide_verdict {
     uint64_t detail;
     uint8_t question;
 } wide_verdict;
+
+typedef struct wide_loaded {
+    uint64_t detail;
+    uint8_t code;
+    uint8_t question;
+} wide_loaded;
 
 typedef struct wide_joined {
     uint64_t detail;
@@ -54,16 +60,18 @@ void fir_narrow_at(wide_verdict *to, const slice *image, const slice *out);
 void fir_join_at(wide_joined *to, const slice *first, const slice *second, const slice *out);
 void fir_mend_at(wide_mended *to, const slice *image);
 void fir_bounds_at(wide_verdict *to, const slice *image, uint8_t *numbers, uint64_t *steps);
-void fir_begin_at(fir_entry *to, const slice *image, uint64_t level, uint64_t function, uint64_t version, const slice *words,
-                  const slice *buffer, fir_state *state);
-void fir_step_at(fir_said *to, const slice *image, fir_state *state);
-void fir_budget_at(fir_answer *to, const slice *image, fir_state *state, uint32_t budget, const slice *buffer);
-void fir_run_at(fir_answer *to, const slice *image, uint64_t level, uint64_t function, uint64_t version, const slice *words,
-                uint32_t budget, const slice *buffer, fir_state *state);
+uint64_t fir_table_size_at(uint64_t image_length);
+void fir_load_at(wide_loaded *to, const slice *image, const slice *table);
+void fir_begin_at(fir_entry *to, const slice *image, const slice *table, uint64_t level, uint64_t function, uint64_t version,
+                  const slice *words, const slice *buffer, fir_state *state);
+void fir_step_at(fir_said *to, const slice *image, const slice *table, fir_state *state);
+void fir_budget_at(fir_answer *to, const slice *image, const slice *table, fir_state *state, uint32_t budget, const slice *buffer);
+void fir_run_at(fir_answer *to, const slice *image, const slice *table, uint64_t level, uint64_t function, uint64_t version,
+                const slice *words, uint32_t budget, const slice *buffer, fir_state *state);
 void fir_change_at(fir_entry *to, const slice *old_image, const slice *new_image, const fir_state *state);
 void fir_look_at(fir_value *to, const fir_state *state, uint64_t call, uint64_t place);
-void fir_search_at(fir_searched *to, const slice *image, const fir_state *state);
-void fir_where_at(wide_position *to, const slice *image, const fir_state *state);
+void fir_search_at(fir_searched *to, const slice *image, const slice *table, const fir_state *state);
+void fir_where_at(wide_position *to, const slice *image, const slice *table, const fir_state *state);
 
 static slice lent(const void *pointer, size_t length)
 {
@@ -196,45 +204,67 @@ fir_verdict fir_bounds(const uint8_t *image, size_t image_length, uint8_t *numbe
     return verdict(to);
 }
 
-fir_entry fir_begin(const uint8_t *image, size_t image_length, size_t level, size_t function, size_t version,
-                    const int64_t *words, size_t words_length, const int64_t *buffer, size_t buffer_length,
-                    fir_state *state)
+size_t fir_table_size(size_t image_length)
+{
+    return (size_t)fir_table_size_at(image_length);
+}
+
+fir_loaded fir_load(const uint8_t *image, size_t image_length, uint8_t *table, size_t table_length)
 {
     const slice bytes = lent(image, image_length);
+    const slice there = lent(table, table_length);
+    wide_loaded wide;
+    fir_loaded to;
+    fir_load_at(&wide, &bytes, &there);
+    to.detail = (size_t)wide.detail;
+    to.code = wide.code;
+    to.question = wide.question;
+    return to;
+}
+
+fir_entry fir_begin(const uint8_t *image, size_t image_length, const uint8_t *table, size_t table_length, size_t level,
+                    size_t function, size_t version, const int64_t *words, size_t words_length, const int64_t *buffer,
+                    size_t buffer_length, fir_state *state)
+{
+    const slice bytes = lent(image, image_length);
+    const slice places = lent(table, table_length);
     const slice given = lent(words, words_length);
     const slice there = lent(buffer, buffer_length);
     fir_entry to;
-    fir_begin_at(&to, &bytes, level, function, version, &given, &there, state);
+    fir_begin_at(&to, &bytes, &places, level, function, version, &given, &there, state);
     return to;
 }
 
-fir_said fir_step(const uint8_t *image, size_t image_length, fir_state *state)
+fir_said fir_step(const uint8_t *image, size_t image_length, const uint8_t *table, size_t table_length, fir_state *state)
 {
     const slice bytes = lent(image, image_length);
+    const slice places = lent(table, table_length);
     fir_said to;
-    fir_step_at(&to, &bytes, state);
+    fir_step_at(&to, &bytes, &places, state);
     return to;
 }
 
-fir_answer fir_budget(const uint8_t *image, size_t image_length, fir_state *state, uint32_t budget, int64_t *buffer,
-                      size_t buffer_length)
+fir_answer fir_budget(const uint8_t *image, size_t image_length, const uint8_t *table, size_t table_length, fir_state *state,
+                      uint32_t budget, int64_t *buffer, size_t buffer_length)
 {
     const slice bytes = lent(image, image_length);
+    const slice places = lent(table, table_length);
     const slice there = lent(buffer, buffer_length);
     fir_answer to;
-    fir_budget_at(&to, &bytes, state, budget, &there);
+    fir_budget_at(&to, &bytes, &places, state, budget, &there);
     return to;
 }
 
-fir_answer fir_run(const uint8_t *image, size_t image_length, size_t level, size_t function, size_t version,
-                   const int64_t *words, size_t words_length, uint32_t budget, int64_t *buffer, size_t buffer_length,
-                   fir_state *state)
+fir_answer fir_run(const uint8_t *image, size_t image_length, const uint8_t *table, size_t table_length, size_t level,
+                   size_t function, size_t version, const int64_t *words, size_t words_length, uint32_t budget,
+                   int64_t *buffer, size_t buffer_length, fir_state *state)
 {
     const slice bytes = lent(image, image_length);
+    const slice places = lent(table, table_length);
     const slice given = lent(words, words_length);
     const slice there = lent(buffer, buffer_length);
     fir_answer to;
-    fir_run_at(&to, &bytes, level, function, version, &given, budget, &there, state);
+    fir_run_at(&to, &bytes, &places, level, function, version, &given, budget, &there, state);
     return to;
 }
 
@@ -255,20 +285,24 @@ fir_value fir_look(const fir_state *state, size_t call, size_t place)
     return to;
 }
 
-fir_searched fir_search(const uint8_t *image, size_t image_length, const fir_state *state)
+fir_searched fir_search(const uint8_t *image, size_t image_length, const uint8_t *table, size_t table_length,
+                        const fir_state *state)
 {
     const slice bytes = lent(image, image_length);
+    const slice places = lent(table, table_length);
     fir_searched to;
-    fir_search_at(&to, &bytes, state);
+    fir_search_at(&to, &bytes, &places, state);
     return to;
 }
 
-fir_position fir_where(const uint8_t *image, size_t image_length, const fir_state *state)
+fir_position fir_where(const uint8_t *image, size_t image_length, const uint8_t *table, size_t table_length,
+                       const fir_state *state)
 {
     const slice bytes = lent(image, image_length);
+    const slice places = lent(table, table_length);
     wide_position wide;
     fir_position to;
-    fir_where_at(&wide, &bytes, state);
+    fir_where_at(&wide, &bytes, &places, state);
     to.offset = (size_t)wide.offset;
     to.kind = wide.kind;
     to.function = wide.function;

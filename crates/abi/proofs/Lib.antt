@@ -1,7 +1,9 @@
-pub mod Coming
+pub mod Asking
+pub mod Delivering
+pub mod Ends
 pub mod Fields
 pub mod Lent
-pub mod Looking
+pub mod Pausing
 pub mod Seen
 pub mod Starting
 pub mod Texts

@@ -1,6 +1,6 @@
 -- A field of a caller's state behind a `&`, at the state's own lifetime: the state's `&` stays, and there is no loan.
 --     Sees F d x   a `&κ` to the state h, with a token  ⊢ ⇛ ∃ γ′. what a `&κ` to the field x, d bytes on, owns ∗ the token
---     sees-codes, sees-numbers, sees-owners, sees-stack, sees-promises, sees-calls, sees-depth
+--     sees-numbers, sees-bytes
 -- Assumes `Given`.
 use mathlib.Core.Path.{refl, subst}
 use Prim.Native.Nat.{ℕ, _+_}
@@ -16,39 +16,16 @@ use types.Kit.{Given, ‵, _⊛_, later, _$_, _∵_, !, qed, move, drop, use1, u
 use types.Tokens.{name-new}
 use denote.RattleType.{RattleType}
 use denote.Array.{Array}
-use denote.Builtin.{u8, u16, i64}
+use denote.Builtin.{u8, i64}
 use denote.Memory.{partAt}
 use denote.Ref.{ShrRef}
 use borrow.Struct.Share.{part-field}
-use Rattle.snapshots.specs.declared.Snapshot.{Snapshot}
-use Rattle.snapshots.proofs.Snapshot as T
-use Rattle.snapshots.proofs.Snapshot.Laws as T′
-use Rattle.abi.proofs.Fields.{place}
-use Rattle.abi.proofs.Lent.{members}
+use Rattle.abi.specs.declared.state.FirState.{FirState}
+use Rattle.abi.proofs.state.FirState as T
+use Rattle.abi.proofs.state.FirState.Laws as T′
+use Rattle.abi.proofs.Lent.{numbers-place, bytes-place}
 
--- where the fields that are taken begin in the struct
-abbrev pub numbers-place : ℕ
-numbers-place = place members 0 0
-
-abbrev pub codes-place : ℕ
-codes-place = place members 0 4
-
-abbrev pub owners-place : ℕ
-owners-place = place members 0 5
-
-abbrev pub stack-place : ℕ
-stack-place = place members 0 6
-
-abbrev pub promises-place : ℕ
-promises-place = place members 0 8
-
-abbrev pub calls-place : ℕ
-calls-place = place members 0 9
-
-abbrev pub depth-place : ℕ
-depth-place = place members 0 10
-
-module _ {M : Type 1} (𝓤 : URA M) (H : Heap 𝓤) (A : Atoms 𝓤) (W : Given 𝓤 H A) (ℓ : Lifetime) (κ : Lft) (q : Share) (b o : ℕ) (γ : GName) (h : Snapshot) where
+module _ {M : Type 1} (𝓤 : URA M) (H : Heap 𝓤) (A : Atoms 𝓤) (W : Given 𝓤 H A) (ℓ : Lifetime) (κ : Lft) (q : Share) (b o : ℕ) (γ : GName) (h : FirState) where
   abbrev ⟦_⟧ : Fml → SProp 𝓤
   ⟦ P ⟧ = sem 𝓤 H A P
 
@@ -64,28 +41,10 @@ module _ {M : Type 1} (𝓤 : URA M) (H : Heap 𝓤) (A : Atoms 𝓤) (W : Given
       now ! $ show ! (λ (δ : GName). sep 𝓤 ⟦ ShrRef ℓ κ F .own (record { ptr = (b, o + d); name = δ; now = x }) (vptr b (o + d) ∷ []) ⟧ (A .lft κ q)) γ′ $
       feqI ! (List Val) (vptr b (o + d) ∷ []) (vptr b (o + d) ∷ []) refl $ fjoin3 ! $ frame ! $ done !)
 
-  pub sees-codes : Sees (Array u16 768) codes-place (h .codes)
-  sees-codes = sees (Array u16 768) codes-place (h .codes) (subst (λ (xs : List ℕ). ent 𝓤 (sep 𝓤 (A .shr-bor κ (λ s. partAt T.the-row s h b o)) (A .lft κ q)) (H .⇛ (sep 𝓤 (A .shr-bor κ (λ s. partAt (Array u16 768) s xs b (o + codes-place))) (A .lft κ q)))) (map-id (h .codes))
-      (part-field 𝓤 H A W T.the-type T′.the-laws T′.the-copy 4 codes-place refl refl (T.struct .as-values) (λ x. refl) κ q h b o))
-
-  pub sees-numbers : Sees (Array i64 768) numbers-place (h .numbers)
-  sees-numbers = sees (Array i64 768) numbers-place (h .numbers) (subst (λ (xs : List (i64 .Denot)). ent 𝓤 (sep 𝓤 (A .shr-bor κ (λ s. partAt T.the-row s h b o)) (A .lft κ q)) (H .⇛ (sep 𝓤 (A .shr-bor κ (λ s. partAt (Array i64 768) s xs b (o + numbers-place))) (A .lft κ q)))) (map-id (h .numbers))
+  pub sees-numbers : Sees (Array i64 2129) numbers-place (h .numbers)
+  sees-numbers = sees (Array i64 2129) numbers-place (h .numbers) (subst (λ (xs : List (i64 .Denot)). ent 𝓤 (sep 𝓤 (A .shr-bor κ (λ s. partAt T.the-row s h b o)) (A .lft κ q)) (H .⇛ (sep 𝓤 (A .shr-bor κ (λ s. partAt (Array i64 2129) s xs b (o + numbers-place))) (A .lft κ q)))) (map-id (h .numbers))
       (part-field 𝓤 H A W T.the-type T′.the-laws T′.the-copy 0 numbers-place refl refl (T.struct .as-values) (λ x. refl) κ q h b o))
 
-  pub sees-owners : Sees (Array u8 64) owners-place (h .owners)
-  sees-owners = sees (Array u8 64) owners-place (h .owners) (subst (λ (xs : List ℕ). ent 𝓤 (sep 𝓤 (A .shr-bor κ (λ s. partAt T.the-row s h b o)) (A .lft κ q)) (H .⇛ (sep 𝓤 (A .shr-bor κ (λ s. partAt (Array u8 64) s xs b (o + owners-place))) (A .lft κ q)))) (map-id (h .owners))
-      (part-field 𝓤 H A W T.the-type T′.the-laws T′.the-copy 5 owners-place refl refl (T.struct .as-values) (λ x. refl) κ q h b o))
-
-  pub sees-stack : Sees (Array u8 192) stack-place (h .stack)
-  sees-stack = sees (Array u8 192) stack-place (h .stack) (subst (λ (xs : List ℕ). ent 𝓤 (sep 𝓤 (A .shr-bor κ (λ s. partAt T.the-row s h b o)) (A .lft κ q)) (H .⇛ (sep 𝓤 (A .shr-bor κ (λ s. partAt (Array u8 192) s xs b (o + stack-place))) (A .lft κ q)))) (map-id (h .stack))
-      (part-field 𝓤 H A W T.the-type T′.the-laws T′.the-copy 6 stack-place refl refl (T.struct .as-values) (λ x. refl) κ q h b o))
-
-  pub sees-promises : Sees (Array u8 192) promises-place (h .promises)
-  sees-promises = sees (Array u8 192) promises-place (h .promises) (subst (λ (xs : List ℕ). ent 𝓤 (sep 𝓤 (A .shr-bor κ (λ s. partAt T.the-row s h b o)) (A .lft κ q)) (H .⇛ (sep 𝓤 (A .shr-bor κ (λ s. partAt (Array u8 192) s xs b (o + promises-place))) (A .lft κ q)))) (map-id (h .promises))
-      (part-field 𝓤 H A W T.the-type T′.the-laws T′.the-copy 8 promises-place refl refl (T.struct .as-values) (λ x. refl) κ q h b o))
-
-  pub sees-calls : Sees u8 calls-place (h .calls)
-  sees-calls = sees u8 calls-place (h .calls) (part-field 𝓤 H A W T.the-type T′.the-laws T′.the-copy 9 calls-place refl refl (T.struct .as-values) (λ x. refl) κ q h b o)
-
-  pub sees-depth : Sees u8 depth-place (h .depth)
-  sees-depth = sees u8 depth-place (h .depth) (part-field 𝓤 H A W T.the-type T′.the-laws T′.the-copy 10 depth-place refl refl (T.struct .as-values) (λ x. refl) κ q h b o)
+  pub sees-bytes : Sees (Array u8 2632) bytes-place (h .bytes)
+  sees-bytes = sees (Array u8 2632) bytes-place (h .bytes) (subst (λ (xs : List ℕ). ent 𝓤 (sep 𝓤 (A .shr-bor κ (λ s. partAt T.the-row s h b o)) (A .lft κ q)) (H .⇛ (sep 𝓤 (A .shr-bor κ (λ s. partAt (Array u8 2632) s xs b (o + bytes-place))) (A .lft κ q)))) (map-id (h .bytes))
+      (part-field 𝓤 H A W T.the-type T′.the-laws T′.the-copy 1 bytes-place refl refl (T.struct .as-values) (λ x. refl) κ q h b o))

@@ -3,23 +3,27 @@ use mathlib.Core.Bool.{cond}
 use mathlib.Core.List.{List}
 use Prim.Native.Nat.{ℕ, _+_, _*_}
 use lib.Dec.{eqb}
-use lib.IntN.{pos}
+use lib.IntN.{ℤ, pos}
 use Rattle.layout.specs.declared.Form.{Form}
 use Rattle.bounds.specs.declared.Bounding.{Bounding}
 use Rattle.checker.specs.declared.Verdict.{Verdict}
 use Rattle.joins.specs.declared.Joined.{Joined}
+use Rattle.loaded.specs.declared.Loaded.{Loaded}
+use Rattle.machine.specs.Runs.{saying}
 use Rattle.machine.specs.declared.Answer.{Answer}
 use Rattle.machine.specs.declared.Changed.{Changed}
+use Rattle.machine.specs.declared.End.{End}
 use Rattle.machine.specs.declared.Entry.{Entry}
 use Rattle.machine.specs.declared.Said.{Said}
 use Rattle.machine.specs.declared.Search.{Search}
 use Rattle.mends.specs.declared.Mended.{Mended}
 use Rattle.moves.specs.declared.Moving.{Moving}
-use Rattle.snapshots.specs.Held.{endingOf}
+use Rattle.store.specs.Store.{stateIn}
 use Rattle.whereabouts.specs.declared.Where.{Where}
 use Rattle.abi.specs.declared.answers.FirAnswer.{FirAnswer}
 use Rattle.abi.specs.declared.answers.FirEntry.{FirEntry}
 use Rattle.abi.specs.declared.answers.FirJoined.{FirJoined}
+use Rattle.abi.specs.declared.answers.FirLoaded.{FirLoaded}
 use Rattle.abi.specs.declared.answers.FirMended.{FirMended}
 use Rattle.abi.specs.declared.answers.FirSaid.{FirSaid}
 use Rattle.abi.specs.declared.answers.FirSearched.{FirSearched}
@@ -49,6 +53,12 @@ joinedNumbers (Joined.First q p) = record { detail = p; question = q; image = 1 
 joinedNumbers (Joined.Second q p) = record { detail = p; question = q; image = 2 }
 joinedNumbers (Joined.Together q p) = record { detail = p; question = q; image = 0 }
 
+-- a load: 0 and the number of versions, 8 with a refusal's offset and number, or 9 and the bytes that the table needs
+unfoldable pub loadedNumbers : Loaded → FirLoaded
+loadedNumbers (Loaded.Ready n) = record { detail = n; code = 0; question = 0 }
+loadedNumbers (Loaded.Refused q p) = record { detail = p; code = 8; question = q }
+loadedNumbers (Loaded.Short n) = record { detail = n; code = 9; question = 0 }
+
 -- a mend: the versions of an accepted image, or the offset and the number of a refusal; beside it 1 with the place of a byte and its new value, 2 where no byte mends, 0 where none is looked for
 unfoldable pub mendedNumbers : Mended → FirMended
 mendedNumbers (Mended.Accepted n) = record { detail = n; place = 0; question = 0; mend = 0; value = 0 }
@@ -60,12 +70,12 @@ mendedNumbers (Mended.Unmended q p) = record { detail = p; place = 0; question =
 unfoldable pub formOf : ℕ → Form
 formOf n = cond (eqb n 1) Form.Narrow Form.Wide
 
--- a refusal's offset and number
+-- a refusal's offset and number; all 0 where the run has begun
 unfoldable pub entryNumbers : Entry → FirEntry
 entryNumbers Entry.Begun = record { offset = 0; question = 0 }
 entryNumbers (Entry.Refused q p) = record { offset = p; question = q }
 
--- a new image: a refusal's offset and number
+-- a new image: a refusal's offset and number; all 0 where it is taken
 unfoldable pub changedNumbers : Changed → FirEntry
 changedNumbers Changed.Taken = record { offset = 0; question = 0 }
 changedNumbers (Changed.Refused q p) = record { offset = p; question = q }
@@ -83,30 +93,49 @@ whereNumbers (Where.BlockEnd f v b n p) = record { offset = p; kind = 2; functio
 
 -- the number of the interface, and that of the layout of a stored state; each goes up where a program that was made for it could not go on
 unfoldable pub versionNumbers : FirVersion
-versionNumbers = record { interface = 1; state = 1 }
+versionNumbers = record { interface = 2; state = 2 }
+
+-- ---- steps
+
+-- an end: DONE with an integer, DONE with a vector of that length, UNDEF and the three stops
+unfoldable pub endNumbers : End → FirSaid
+endNumbers (End.Integer z) = record { value = z; code = 1; length = 0 }
+endNumbers (End.Vector n) = record { value = pos 0; code = 2; length = n }
+endNumbers End.Undef = record { value = pos 0; code = 3; length = 0 }
+endNumbers End.Deep = record { value = pos 0; code = 4; length = 0 }
+endNumbers End.Vectors = record { value = pos 0; code = 5; length = 0 }
+endNumbers End.Promises = record { value = pos 0; code = 6; length = 0 }
+
+-- a code without value and length: 0 goes on, 7 stuck
+unfoldable pub plainNumbers : ℕ → FirSaid
+plainNumbers code = record { value = pos 0; code = code; length = 0 }
 
 -- a single step: 0 goes on, 1 to 6 an end, 7 stuck
 unfoldable pub saidNumbers : Said → FirSaid
-saidNumbers Said.GoesOn = record { value = pos 0; code = 0; length = 0 }
-saidNumbers (Said.Ended e) = record { value = endingOf e .value; code = endingOf e .status; length = endingOf e .length }
-saidNumbers Said.Stuck = record { value = pos 0; code = 7; length = 0 }
+saidNumbers Said.GoesOn = plainNumbers 0
+saidNumbers (Said.Ended e) = endNumbers e
+saidNumbers Said.Stuck = plainNumbers 7
 
--- the answer of a run that has not ended
-unfoldable pub plainNumbers : ℕ → ℕ → FirAnswer
-plainNumbers code n = record { steps = n; value = pos 0; offset = 0; code = code; length = 0; question = 0 }
+-- what the status of a state says, by its bytes and numbers
+unfoldable pub endIn : List ℕ → List ℤ → FirSaid
+endIn b n = saidNumbers (saying (stateIn b n .status))
+
+-- the answer that says so much, after so many steps
+unfoldable pub answerWith : FirSaid → ℕ → FirAnswer
+answerWith w n = record { steps = n; value = w .value; offset = 0; code = w .code; length = w .length; question = 0 }
 
 -- a budget with the steps taken under it: 0 STEPS, 1 to 6 an end, 7 stuck, 8 refused
 unfoldable pub answerNumbers : Answer → ℕ → FirAnswer
 answerNumbers (Answer.Refused q p) n = record { steps = n; value = pos 0; offset = p; code = 8; length = 0; question = q }
-answerNumbers Answer.Steps n = plainNumbers 0 n
-answerNumbers (Answer.Ended e) n = record { steps = n; value = endingOf e .value; offset = 0; code = endingOf e .status; length = endingOf e .length; question = 0 }
-answerNumbers Answer.Stuck n = plainNumbers 7 n
+answerNumbers Answer.Steps n = answerWith (saidNumbers Said.GoesOn) n
+answerNumbers (Answer.Ended e) n = answerWith (saidNumbers (Said.Ended e)) n
+answerNumbers Answer.Stuck n = answerWith (saidNumbers Said.Stuck) n
 
 -- ---- the memory of a state
 
--- the bytes of a state, by the widths of its fields; four that hold nothing stand before the last, the value
+-- its bytes: 2,129 numbers of eight, and 2,632
 abbrev pub stateSize : ℕ
-stateSize = 8 * (768 + 1024 + 64 + 16) + 2 * 768 + (64 + 192 + 64 + 192) + 4 + 4 + 8
+stateSize = 8 * 2129 + 2632
 
 -- that of its widest field
 abbrev pub stateAlignment : ℕ

@@ -1,13 +1,15 @@
 //! Answers as numbers, in the layout of C.
 ghost use mathlib.Core.Path.{_≡_};
-ghost use Rattle.abi.specs.Answers.{answerNumbers, boundingNumbers, changedNumbers, entryNumbers, formOf, joinedNumbers, mendedNumbers, movedNumbers, plainNumbers, saidNumbers, searchNumbers, verdictNumbers, versionNumbers, whereNumbers};
+ghost use Rattle.machine.specs.declared.Answer.{Answer};
+ghost use Rattle.abi.specs.Answers.{answerNumbers, answerWith, boundingNumbers, changedNumbers, endIn, entryNumbers, formOf};
+ghost use Rattle.abi.specs.Answers.{joinedNumbers, loadedNumbers, mendedNumbers, movedNumbers, plainNumbers};
+ghost use Rattle.abi.specs.Answers.{searchNumbers, verdictNumbers, versionNumbers, whereNumbers};
 ghost use Rattle.abi.specs.Looks.{noPlace, valueNumbers};
-ghost use Rattle.engine.specs.Parts.{saidOf};
 use bounds::Bounding;
 use checker::Verdict;
 use joins::Joined;
 use layout::Form;
-use machine::Answer;
+use loaded::Loaded;
 use machine::Changed;
 use machine::Entry;
 use machine::Search;
@@ -16,10 +18,32 @@ use mends::Mended;
 use moves::Moving;
 use whereabouts::Where;
 
+/// Where the status of a state stands among its bytes, and the length of its result; where its value stands among its numbers.
+const STATUS: usize = 2626;
+
+const LENGTH: usize = 2627;
+
+const ENDING: usize = 2128;
+
+/// The status of a run that is DONE with an integer, of one that is DONE with a vector, and of the last stop, for which each higher one stands too.
+const INTEGER: u8 = 1;
+
+const VECTOR: u8 = 2;
+
+const PROMISES: u8 = 6;
+
 /// A verdict: 0 and the number of versions, or the question that refuses and the offset.
 #[repr(C)]
 pub struct FirVerdict {
     pub detail: usize,
+    pub question: u8,
+}
+
+/// What becomes of a load: 0 and the number of versions, 8 with the question that refuses and the offset, or 9 and the bytes that the table needs.
+#[repr(C)]
+pub struct FirLoaded {
+    pub detail: usize,
+    pub code: u8,
     pub question: u8,
 }
 
@@ -214,6 +238,29 @@ pub fn mended(mended: Mended) -> FirMended
     }
 }
 
+/// What becomes of a load, in numbers.
+pub fn loaded(loaded: Loaded) -> FirLoaded
+    ensures { λ r. ⌜ r ≡ loadedNumbers loaded ⌝ }
+{
+    match loaded {
+        Loaded::Ready(n) => FirLoaded {
+            detail: n,
+            code: 0,
+            question: 0,
+        },
+        Loaded::Refused(q, p) => FirLoaded {
+            detail: p,
+            code: 8,
+            question: q,
+        },
+        Loaded::Short(n) => FirLoaded {
+            detail: n,
+            code: 9,
+            question: 0,
+        },
+    }
+}
+
 /// The form that a number names: 1 that of 32 bits, any other that of 64.
 pub fn form(number: u8) -> Form
     ensures { λ r. ⌜ r ≡ formOf number ⌝ }
@@ -257,77 +304,67 @@ pub fn changed(changed: Changed) -> FirEntry
     }
 }
 
-/// The numbers of what a single step says, by the answer of a budget of one.
-pub fn said(answer: Answer) -> FirSaid
-    ensures { λ r. ⌜ r ≡ saidNumbers (saidOf answer) ⌝ }
+/// A code without value and length: 0 goes on, 3 to 6 UNDEF and the stops, 7 stuck.
+pub fn plain(code: u8) -> FirSaid
+    ensures { λ r. ⌜ r ≡ plainNumbers code ⌝ }
 {
-    match answer {
-        Answer::Refused(_, _) => FirSaid {
-            value: 0,
-            code: 7,
-            length: 0,
-        },
-        Answer::Steps => FirSaid {
-            value: 0,
-            code: 0,
-            length: 0,
-        },
-        Answer::Ended(e) => {
-            let mark = snapshots::end_mark(e);
-            FirSaid {
-                value: mark.value,
-                code: mark.status,
-                length: mark.length,
-            }
-        }
-        Answer::Stuck => FirSaid {
-            value: 0,
-            code: 7,
-            length: 0,
-        },
+    FirSaid {
+        value: 0,
+        code: code,
+        length: 0,
     }
 }
 
-/// The answer of a run that has not ended, by its code.
-fn plain(code: u8, steps: u32) -> FirAnswer
-    ensures { λ r. ⌜ r ≡ plainNumbers code steps ⌝ }
+/// What the status of a state says: that it goes on, or its end.
+pub fn ended(bytes: &[u8; 2632], numbers: &[i64; 2129]) -> FirSaid
+    ensures { λ r. ⌜ r ≡ endIn (now (bytes .entry)) (now (numbers .entry)) ⌝ }
+{
+    let status = bytes[STATUS];
+    if status == INTEGER {
+        return FirSaid {
+            value: numbers[ENDING],
+            code: INTEGER,
+            length: 0,
+        };
+    }
+    if status == VECTOR {
+        return FirSaid {
+            value: 0,
+            code: VECTOR,
+            length: bytes[LENGTH],
+        };
+    }
+    if status < PROMISES {
+        return plain(status);
+    }
+    plain(PROMISES)
+}
+
+/// The answer that says so much, after so many steps.
+pub fn taken(said: FirSaid, steps: u32) -> FirAnswer
+    ensures { λ r. ⌜ r ≡ answerWith said steps ⌝ }
 {
     FirAnswer {
         steps: steps,
-        value: 0,
+        value: said.value,
         offset: 0,
-        code: code,
-        length: 0,
+        code: said.code,
+        length: said.length,
         question: 0,
     }
 }
 
-/// The numbers of an answer.
-pub fn answer(answer: Answer, steps: u32) -> FirAnswer
-    ensures { λ r. ⌜ r ≡ answerNumbers answer steps ⌝ }
+/// The answer of a refusal.
+pub fn refused(question: u8, offset: u16) -> FirAnswer
+    ensures { λ r. ⌜ r ≡ answerNumbers (Answer.Refused question offset) 0 ⌝ }
 {
-    match answer {
-        Answer::Refused(q, p) => FirAnswer {
-            steps: steps,
-            value: 0,
-            offset: p,
-            code: 8,
-            length: 0,
-            question: q,
-        },
-        Answer::Steps => plain(0, steps),
-        Answer::Ended(e) => {
-            let mark = snapshots::end_mark(e);
-            FirAnswer {
-                steps: steps,
-                value: mark.value,
-                offset: 0,
-                code: mark.status,
-                length: mark.length,
-                question: 0,
-            }
-        }
-        Answer::Stuck => plain(7, steps),
+    FirAnswer {
+        steps: 0,
+        value: 0,
+        offset: offset,
+        code: 8,
+        length: 0,
+        question: question,
     }
 }
 
@@ -425,7 +462,7 @@ pub fn version() -> FirVersion
     ensures { λ r. ⌜ r ≡ versionNumbers ⌝ }
 {
     FirVersion {
-        interface: 1,
-        state: 1,
+        interface: 2,
+        state: 2,
     }
 }

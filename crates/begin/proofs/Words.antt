@@ -18,7 +18,7 @@ use Rattle.machine.specs.States.{ITEMS}
 use Rattle.machine.specs.Begin.{Given, integer, vector, matched}
 use Rattle.machine.specs.Begin as begins
 use Rattle.rules.specs.Types.{kindOf, within}
-use Rattle.begin.specs.Filled.{argumentOf}
+use Rattle.begin.specs.Arguments.{argumentOf}
 use Rattle.begin.specs.declared.Argument.{Argument}
 
 -- ---- from the first word

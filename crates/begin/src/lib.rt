@@ -1,33 +1,31 @@
-//! Beginning a run: the questions to its image, 11, 19, 12 and 13 behind them, and the state before its first step.
+//! Beginning a run of a loaded image: 11, 19, 12 and 13 of the program that image and table stand for, and the state before its first step.
+//! Any image and any table have an answer. All is asked before anything is written.
+ghost use mathlib.Core.List.{List};
+ghost use mathlib.Core.Option.{bind, some};
 ghost use mathlib.Core.Path.{_≡_};
-ghost use mathlib.Core.List.{[]};
-ghost use mathlib.Core.Option.{bind, none};
-ghost use Prim.Native.Nat.{_+_, _≤_};
+ghost use Prim.Native.Nat.{ℕ, _+_, _<_, _≤_, _/_, _%_};
 ghost use lib.Dec.{leb};
-ghost use lib.ListN.{length, take, drop};
-ghost use Rattle.program.specs.Places.{versionAt};
+ghost use lib.ListN.{drop, length, take};
 ghost use Rattle.program.specs.Program.{parameterTypes};
-ghost use Rattle.machine.specs.States.{ITEMS, newVector};
-ghost use Rattle.machine.specs.Begin.{first, matched, arguments, firstState, question12, runLevel, question19, beginOf};
-ghost use Rattle.machine.specs.Begin as begins;
-ghost use Rattle.begin.specs.Filled.{Limited, argumentOf, filledOf, startedOf};
-use checker::Verdict;
-use checker::questions;
-use layout::Found;
-use machine::Activation;
-use machine::Begun;
-use machine::Cache;
+ghost use Rattle.machine.specs.States.{ITEMS};
+ghost use Rattle.machine.specs.Begin.{Given, arguments, enteredOf, first, matched, runLevel};
+ghost use Rattle.loaded.specs.Loaded.{programIn, versionIn};
+ghost use Rattle.begin.specs.Arguments.{argumentOf, isGiven};
+ghost use Rattle.begin.specs.Arrays.{bytesWith, firstBytes, firstNumbers, integerBytes, integerNumbers, itemNumbers, lengthBytes, numbersWith, vectorBytes};
+ghost use Rattle.begin.specs.Asking.{Allows, Asks, Begins};
+use layout::bounds;
+use loaded::Number;
+use loaded::lookup;
 use machine::Entry;
-use machine::Frame;
-use machine::Opener;
-use machine::Place;
-use machine::Promise;
-use machine::State;
-use machine::Status;
-use machine::Value;
 use machine::Vector;
-use program::lookup;
 use typing::types;
+
+/// What a run enters, and at which level.
+pub struct Entrance {
+    pub level: usize,
+    pub function: usize,
+    pub version: usize,
+}
 
 /// An argument: none that is allowed, an integer, or a vector with its number of items.
 enum Argument {
@@ -36,12 +34,39 @@ enum Argument {
     Vector(usize),
 }
 
-/// What the arguments make: the first registers and the first vectors; `whole` where there is one for each parameter and no word is left.
-pub struct Filled {
-    pub whole: bool,
-    pub registers: [Place; 16],
-    pub vectors: [Vector; 64],
+/// What the questions to an entrance come to: the one that refuses it, or the number of the version that is entered.
+enum Asked {
+    Refused(u8),
+    Enters(u8),
 }
+
+/// How many registers a frame has, and how many vectors a state.
+const REGISTERS: usize = 16;
+
+const VECTORS: usize = 64;
+
+/// The tags of an integer and of a vector.
+const INTEGER: u8 = 1;
+
+const VECTOR: u8 = 2;
+
+/// Where the function and the version of the first frame stand, the places of its cells, the lengths of vectors, the numbers of live calls and activations.
+const FUNCTION: usize = 24;
+
+const VERSION: usize = 25;
+
+const PLACES: usize = 1024;
+
+const LENGTHS: usize = 2560;
+
+const CALLS: usize = 2624;
+
+const DEPTH: usize = 2625;
+
+/// Where the items of vectors stand among the numbers.
+const ITEM: usize = 1024;
+
+// ---- the arguments
 
 /// The argument that begins at the word `p`, if there is one.
 fn given(words: &[i64], p: usize) -> Argument
@@ -94,206 +119,204 @@ fn matching(words: &[i64], p: usize, t: usize) -> Argument
     }
 }
 
-/// The vector of the `n` words from the word `p` on.
-fn vector_at(words: &[i64], p: usize, n: usize) -> Vector
-    requires { ⌜ (n ≤ ITEMS) × (p + n ≤ length (now words)) ⌝ }
-    ensures { λ r. ⌜ r ≡ newVector (take n (drop p (now (words .entry)))) ⌝ }
+/// How many parameters the version under the number `k` has that are registers too.
+fn parameters(image: &[u8], table: &[u8], k: u8) -> usize
+    ensures { λ r. ⌜ (r ≡ length (parameterTypes (versionIn (now (image .entry)) (now (table .entry)) k))) × (r < 256) ⌝ }
 {
-    let mut items: [i64; 16] = [0; 16];
-    let mut j: usize = 0;
-    while j < n {
-        items[j] = words[p + j];
-        j += 1;
-    }
-    Vector {
-        length: n as u8,
-        items: items,
+    let stated = lookup::parameters(image, table, k);
+    let declared = lookup::registers(image, table, k);
+    if stated < declared {
+        stated as usize
+    } else {
+        declared as usize
     }
 }
 
-/// The answer where the words do not make the arguments: registers and vectors are empty.
-fn unfilled() -> Filled
-    ensures { λ r. ⌜ r ≡ filledOf none ⌝ }
+/// Do the words make an argument for each parameter of the version under the number `k`, with no word left over?
+fn fits(image: &[u8], table: &[u8], k: u8, words: &[i64]) -> bool
+    ensures { λ r. ⌜ r ≡ isGiven (arguments (parameterTypes (versionIn (now (image .entry)) (now (table .entry)) k)) (now (words .entry))) ⌝ }
 {
-    Filled {
-        whole: false,
-        registers: [Place {
-            value: Value::Empty,
-        }; 16],
-        vectors: [Vector {
-            length: 0,
-            items: [0; 16],
-        }; 64],
-    }
-}
-
-/// Reads an argument for each parameter of the version at `v`. Public for the C interface, which asks of a version of an
-/// accepted image.
-pub fn fill(image: &[u8], v: usize, words: &[i64]) -> Filled
-    requires { ⌜ Limited (versionAt (now image) v) ⌝ }
-    ensures { λ r. ⌜ r ≡ filledOf (arguments (parameterTypes (versionAt (now (image .entry)) v)) (now (words .entry))) ⌝ }
-{
-    let n = lookup::parameters(image, v);
-    let blank = unfilled();
-    let mut registers = blank.registers;
-    let mut vectors = blank.vectors;
-    let mut count: usize = 0;
+    let n = parameters(image, table, k);
     let mut p: usize = 0;
     let mut i: usize = 0;
     while i < n {
-        let t = lookup::type_of(image, v, i);
-        match matching(words, p, t) {
-            Argument::Nothing => return unfilled(),
-            Argument::Integer(z) => {
-                let value = Value::Integer(z);
-                registers[i] = Place { value: value };
+        let t = lookup::type_of(image, table, k, i as u8);
+        match matching(words, p, t as usize) {
+            Argument::Nothing => return false,
+            Argument::Integer(_) => {
                 p += 2;
                 i += 1;
             }
             Argument::Vector(m) => {
-                let value = Value::Vector(count as u8);
-                registers[i] = Place { value: value };
-                vectors[count] = vector_at(words, p + 1, m);
-                count += 1;
                 p += m + 1;
                 i += 1;
             }
         }
     }
-    if p < words.len() {
-        return unfilled();
-    }
-    Filled {
-        whole: true,
-        registers: registers,
-        vectors: vectors,
-    }
+    words.len() <= p
 }
 
-/// A state without calls.
-fn blank() -> State
-    ensures { λ r. ⌜ r ≡ firstState [] [] ⌝ }
-{
-    let frame = Frame::new(0, 0);
-    State {
-        frames: [frame; 32],
-        calls: 0,
-        activations: [Activation {
-            opener: Opener::Call,
-            d: 0,
-            frame: 0,
-            block: 0,
-            next: 0,
-        }; 32],
-        depth: 0,
-        vectors: [Vector {
-            length: 0,
-            items: [0; 16],
-        }; 64],
-        promises: [Promise {
-            frame: 0,
-            block: 0,
-            cache: Cache::Unforced,
-        }; 64],
-        result: [0; 16],
-        status: Status::Running,
-    }
-}
-
-/// A refusal by the question `q` at the offset `p`.
-fn refused(q: u8, p: u16) -> Begun
-    ensures { λ r. ⌜ r ≡ begins.refused q p ⌝ }
-{
-    let state = blank();
-    Begun {
-        state: state,
-        entry: Entry::Refused(q, p),
-    }
-}
-
-/// The state of a run whose one call has the frame, with these vectors.
-fn started(frame: Frame, vectors: [Vector; 64]) -> State
-    ensures { λ r. ⌜ r ≡ startedOf frame vectors ⌝ }
-{
-    let mut state = blank();
-    state.frames[0] = frame;
-    state.calls = 1;
-    state.depth = 1;
-    state.vectors = vectors;
-    state
-}
-
-/// A run of the version at `v`: questions 12 and 13.
-fn entered(image: &[u8], v: usize, words: &[i64], buffer: &[i64]) -> Begun
-    requires { ⌜ Limited (versionAt (now image) v) ⌝ }
-    ensures { λ r. ⌜ r ≡ question12 (versionAt (now (image .entry)) v) (arguments (parameterTypes (versionAt (now (image .entry)) v)) (now (words .entry))) (now (buffer .entry)) ⌝ }
-{
-    let filled = fill(image, v, words);
-    let whole = filled.whole;
-    if !whole {
-        return refused(12, 0);
-    }
-    if buffer.len() < Vector::ITEMS {
-        return refused(13, 0);
-    }
-    let function = layout::field(image, v, 0) as u8;
-    let version = layout::field(image, v, 1) as u8;
-    let mut frame = Frame::new(function, version);
-    let registers = filled.registers;
-    frame.registers = registers;
-    let vectors = filled.vectors;
-    let state = started(frame, vectors);
-    Begun {
-        state: state,
-        entry: Entry::Begun,
-    }
-}
+// ---- the questions
 
 /// The level of a run that states this one: above 2 it counts as 2.
 fn run_level(level: usize) -> usize
     ensures { λ r. ⌜ r ≡ runLevel level ⌝ }
 {
-    if level < layout::bounds::LEVELS {
+    if level < bounds::LEVELS {
         level
     } else {
-        layout::bounds::LEVELS - 1
+        bounds::LEVELS - 1
     }
 }
 
-/// Question 19: is the version at `v` not above the level of a run that states this one?
-pub fn may_enter(image: &[u8], level: usize, v: usize) -> bool
-    ensures { λ r. ⌜ r ≡ leb (versionAt (now (image .entry)) v .level) (runLevel level) ⌝ }
+/// Question 19: is the version under the number `k` not above the level of a run that states this one?
+fn may_enter(image: &[u8], table: &[u8], level: usize, k: u8) -> bool
+    ensures { λ r. ⌜ r ≡ leb (versionIn (now (image .entry)) (now (table .entry)) k .level) (runLevel level) ⌝ }
 {
-    lookup::level(image, v) <= run_level(level)
+    (lookup::level(image, table, k) as usize) <= run_level(level)
 }
 
-/// A run, at a level, of the version at `v`: question 19, then 12 and 13.
-fn entered_at(image: &[u8], level: usize, v: usize, words: &[i64], buffer: &[i64]) -> Begun
-    requires { ⌜ Limited (versionAt (now image) v) ⌝ }
-    ensures { λ r. ⌜ r ≡ question19 level (versionAt (now (image .entry)) v) (now (words .entry)) (now (buffer .entry)) ⌝ }
+/// Questions 19, 12 and 13 to a run, at a level, of the version under the number `k`.
+fn allowed(image: &[u8], table: &[u8], level: usize, k: u8, words: &[i64], buffer: &[i64]) -> Asked
+    ensures { λ r. ⌜ Allows r k level (versionIn (now (image .entry)) (now (table .entry)) k) (now (words .entry)) (now (buffer .entry)) ⌝ }
 {
-    if !may_enter(image, level, v) {
-        return refused(19, 0);
+    if !may_enter(image, table, level, k) {
+        return Asked::Refused(19);
     }
-    entered(image, v, words, buffer)
+    if !fits(image, table, k, words) {
+        return Asked::Refused(12);
+    }
+    if buffer.len() < Vector::ITEMS {
+        return Asked::Refused(13);
+    }
+    Asked::Enters(k)
 }
 
-/// Begins a run, at a level, of a version of a function of an image: its state before the first step, or a refusal.
+/// Question 11 to an entrance, then 19, 12 and 13.
+fn questions(image: &[u8], table: &[u8], at: Entrance, words: &[i64], buffer: &[i64]) -> Asked
+    ensures { λ r. ⌜ Asks r (now (image .entry)) (now (table .entry)) at (now (words .entry)) (now (buffer .entry)) ⌝ }
+{
+    if bounds::FUNCTIONS <= at.function {
+        return Asked::Refused(11);
+    }
+    if bounds::VERSIONS <= at.version {
+        return Asked::Refused(11);
+    }
+    match lookup::version(table, at.function as u8, at.version as u8) {
+        Number::Missing => Asked::Refused(11),
+        Number::Of(k) => allowed(image, table, at.level, k, words, buffer),
+    }
+}
+
+// ---- the first state
+
+/// Puts an integer into the register `i` of the first frame, where it has one.
+fn put_integer(bytes: &mut [u8; 2632], numbers: &mut [i64; 2129], i: usize, z: i64)
+    ensures { λ _. ⌜ (now (bytes .exit) ≡ integerBytes i (now (bytes .entry))) × (now (numbers .exit) ≡ integerNumbers i z (now (numbers .entry))) ⌝ }
+{
+    if i < REGISTERS {
+        bytes[i] = INTEGER;
+        numbers[i] = z;
+    }
+}
+
+/// Puts the vector `c` into the register `i` of the first frame, where it has one.
+/// Part of `fill`: no vector stands before its register.
+fn put_vector(bytes: &mut [u8; 2632], i: usize, c: usize)
+    requires { ⌜ c ≤ i ⌝ }
+    ensures { λ _. ⌜ now (bytes .exit) ≡ vectorBytes i c (now (bytes .entry)) ⌝ }
+{
+    if i < REGISTERS {
+        bytes[i] = VECTOR;
+        bytes[PLACES + i] = c as u8;
+    }
+}
+
+/// Writes the `m` words from the word `p` on as the items of the vector `c`, where the state has one.
+/// Part of `fill`, which found them.
+fn put_items(
+    bytes: &mut [u8; 2632],
+    numbers: &mut [i64; 2129],
+    c: usize,
+    words: &[i64],
+    p: usize,
+    m: usize,
+)
+    requires { ⌜ (m ≤ ITEMS) × (p + m ≤ length (now words)) ⌝ }
+    ensures { λ _. ⌜ (now (bytes .exit) ≡ lengthBytes c m (now (bytes .entry)))
+        × (now (numbers .exit) ≡ itemNumbers c (take m (drop p (now (words .entry)))) (now (numbers .entry))) ⌝ }
+{
+    if VECTORS <= c {
+        return;
+    }
+    bytes[LENGTHS + c] = m as u8;
+    let mut j: usize = 0;
+    while j < m {
+        numbers[ITEM + 16 * c + j] = words[p + j];
+        j += 1;
+    }
+}
+
+/// Puts the arguments that the words make into the first registers and vectors.
+fn fill(words: &[i64], bytes: &mut [u8; 2632], numbers: &mut [i64; 2129])
+    ensures { λ _. ⌜ ((ts : List ℕ) (xs : List Given) → arguments ts (now (words .entry)) ≡ some xs
+        → (now (bytes .exit) ≡ bytesWith xs 0 0 (now (bytes .entry))) × (now (numbers .exit) ≡ numbersWith xs 0 0 (now (numbers .entry)))) ⌝ }
+{
+    let mut c: usize = 0;
+    let mut p: usize = 0;
+    let mut i: usize = 0;
+    while p < words.len() {
+        match given(words, p) {
+            Argument::Nothing => return,
+            Argument::Integer(z) => {
+                put_integer(bytes, numbers, i, z);
+                p += 2;
+                i += 1;
+            }
+            Argument::Vector(m) => {
+                put_vector(bytes, i, c);
+                put_items(bytes, numbers, c, words, p + 1, m);
+                c += 1;
+                p += m + 1;
+                i += 1;
+            }
+        }
+    }
+}
+
+/// Writes the state of a run of the version under the number `k` before its first step, over whatever was there.
+fn start(k: u8, words: &[i64], bytes: &mut [u8; 2632], numbers: &mut [i64; 2129])
+    ensures { λ _. ⌜ ((ts : List ℕ) (xs : List Given) → arguments ts (now (words .entry)) ≡ some xs
+        → (now (bytes .exit) ≡ firstBytes (k / 4) (k % 4) xs) × (now (numbers .exit) ≡ firstNumbers xs)) ⌝ }
+{
+    *bytes = [0; 2632];
+    *numbers = [0; 2129];
+    bytes[FUNCTION] = k / 4;
+    bytes[VERSION] = k % 4;
+    bytes[CALLS] = 1;
+    bytes[DEPTH] = 1;
+    fill(words, bytes, numbers);
+}
+
+/// Begins a run: its state before the first step, or a refusal, which writes nothing.
 pub fn begin(
     image: &[u8],
-    level: usize,
-    function: usize,
-    version: usize,
+    table: &[u8],
+    at: Entrance,
     words: &[i64],
     buffer: &[i64],
-) -> Begun
-    ensures { λ r. ⌜ r ≡ beginOf (now (image .entry)) level function version (now (words .entry)) (now (buffer .entry)) ⌝ }
+    bytes: &mut [u8; 2632],
+    numbers: &mut [i64; 2129],
+) -> Entry
+    ensures { λ r. ⌜ (r ≡ enteredOf (programIn (now (image .entry)) (now (table .entry))) (at .level) (at .function) (at .version) (now (words .entry)) (now (buffer .entry)) .entry)
+        × Begins r (programIn (now (image .entry)) (now (table .entry))) at (now (words .entry)) (now (buffer .entry))
+        (now (bytes .entry)) (now (numbers .entry)) (now (bytes .exit)) (now (numbers .exit)) ⌝ }
 {
-    match questions::verdict(image) {
-        Verdict::Refused(q, p) => refused(q, p as u16),
-        Verdict::Accepted(_) => match lookup::version(image, function, version) {
-            Found::Nothing => refused(11, 0),
-            Found::At(v) => entered_at(image, level, v, words, buffer),
-        },
+    match questions(image, table, at, words, buffer) {
+        Asked::Refused(q) => Entry::Refused(q, 0),
+        Asked::Enters(k) => {
+            start(k, words, bytes, numbers);
+            Entry::Begun
+        }
     }
 }

@@ -3,14 +3,15 @@ use mathlib.Core.Bool.{cond}
 use mathlib.Core.List.{List, []}
 use Prim.Native.Nat.{ℕ}
 use lib.Dec.{ltb}
+use Rattle.layout.specs.Records.{_!_}
 use Rattle.machine.specs.States.{ACTIVATIONS}
 use Rattle.machine.specs.declared.State.{State}
-use Rattle.memory.specs.Memory.{memoryOf, stateOf}
+use Rattle.store.specs.Store.{CALLS, stateIn}
 
 -- how many frames are those of live calls
-unfoldable pub liveCalls : ℕ → ℕ
-liveCalls calls = cond (ltb calls ACTIVATIONS) calls ACTIVATIONS
+unfoldable pub liveCalls : List ℕ → ℕ
+liveCalls b = cond (ltb (b ! CALLS) ACTIVATIONS) (b ! CALLS) ACTIVATIONS
 
--- a state whose frames have these owners, with so many live calls; all else is empty
-unfoldable pub ownedBy : List ℕ → ℕ → State
-ownedBy owners calls = stateOf (memoryOf owners [] [] [] [] [] [] [] [] calls 0)
+-- the state of these bytes, with no number
+unfoldable pub ownedBy : List ℕ → State
+ownedBy b = stateIn b []

@@ -1,13 +1,16 @@
 //! A new image for a run: its own questions, then 15, whether each version with a live frame is the same in both images.
+ghost use mathlib.Core.List.{List};
 ghost use mathlib.Core.Path.{_≡_};
 ghost use Prim.Native.Nat.{_≤_};
 ghost use lib.Dec.{eqb};
+ghost use lib.IntN.{ℤ};
 ghost use lib.ListN.{length};
 ghost use Rattle.layout.specs.Tests.{_and_};
 ghost use Rattle.program.specs.Places.{tableOf, asked};
 ghost use Rattle.program.specs.Search.{first};
 ghost use Rattle.machine.specs.Begin.{programOf};
 ghost use Rattle.machine.specs.Changes.{sameBytes, isLive, sameIn, question15, allThere, answer15, changeOf};
+ghost use Rattle.store.specs.Store.{stateIn};
 ghost use Rattle.changes.specs.Owners.{liveCalls, ownedBy};
 ghost use Rattle.changes.specs.Parts.{endAt, partAt};
 use checker::Verdict;
@@ -21,6 +24,14 @@ use program::pass;
 
 /// How many frames a state has.
 const FRAMES: usize = 32;
+
+/// Where the function and the version of a frame stand in its 32 bytes.
+const FUNCTION: usize = 24;
+
+const VERSION: usize = 25;
+
+/// Where the number of live calls stands.
+const CALLS: usize = 2624;
 
 /// Where the version at `v` ends: at the next VERSION, or at the image's end.
 fn version_end(image: &[u8], v: usize) -> usize
@@ -90,10 +101,10 @@ fn same_in(
 }
 
 /// How many frames are those of live calls.
-fn live_calls(calls: u8) -> usize
-    ensures { λ r. ⌜ (r ≡ liveCalls calls) × (r ≤ 32) ⌝ }
+fn live_calls(bytes: &[u8; 2632]) -> usize
+    ensures { λ r. ⌜ (r ≡ liveCalls (now (bytes .entry))) × (r ≤ 32) ⌝ }
 {
-    let n = layout::wide(calls);
+    let n = layout::byte(bytes, CALLS);
     if n < FRAMES { n } else { FRAMES }
 }
 
@@ -108,14 +119,14 @@ fn are(function: usize, version: usize, f: usize, w: usize) -> bool
 }
 
 /// Has the version `w` of the function `f` a live frame?
-fn is_live(owners: &[u8; 64], calls: u8, f: usize, w: usize) -> bool
-    ensures { λ r. ⌜ r ≡ isLive (ownedBy (now (owners .entry)) calls) f w ⌝ }
+fn is_live(bytes: &[u8; 2632], f: usize, w: usize) -> bool
+    ensures { λ r. ⌜ r ≡ isLive (ownedBy (now (bytes .entry))) f w ⌝ }
 {
-    let live = live_calls(calls);
+    let live = live_calls(bytes);
     let mut k: usize = 0;
     while k < live {
-        let function = layout::byte(owners, 2 * k);
-        let version = layout::byte(owners, 2 * k + 1);
+        let function = layout::byte(bytes, 32 * k + FUNCTION);
+        let version = layout::byte(bytes, 32 * k + VERSION);
         if are(function, version, f, w) {
             return true;
         }
@@ -130,20 +141,19 @@ fn kept_at(
     before: &[usize; 128],
     new: &[u8],
     after: &[usize; 128],
-    owners: &[u8; 64],
-    calls: u8,
+    bytes: &[u8; 2632],
     here: Here,
     p: usize,
 ) -> bool
     requires { ⌜ (now before ≡ tableOf (now old)) × (now after ≡ tableOf (now new)) ⌝ }
-    ensures { λ r. ⌜ r ≡ asked (question15 (now (old .entry)) (now (new .entry)) (ownedBy (now (owners .entry)) calls)) (now (new .entry)) here p ⌝ }
+    ensures { λ r. ⌜ r ≡ asked (question15 (now (old .entry)) (now (new .entry)) (ownedBy (now (bytes .entry)))) (now (new .entry)) here p ⌝ }
 {
     if layout::kind_at(new, p) != kinds::VERSION {
         return true;
     }
     let f = layout::field(new, p, 0);
     let w = layout::field(new, p, 1);
-    if is_live(owners, calls, f, w) {
+    if is_live(bytes, f, w) {
         same_in(old, before, new, after, f, w)
     } else {
         true
@@ -156,11 +166,10 @@ fn question_15(
     before: &[usize; 128],
     new: &[u8],
     after: &[usize; 128],
-    owners: &[u8; 64],
-    calls: u8,
+    bytes: &[u8; 2632],
 ) -> Found
     requires { ⌜ (now before ≡ tableOf (now old)) × (now after ≡ tableOf (now new)) ⌝ }
-    ensures { λ r. ⌜ r ≡ first (question15 (now (old .entry)) (now (new .entry)) (ownedBy (now (owners .entry)) calls)) (programOf (now (new .entry))) ⌝ }
+    ensures { λ r. ⌜ r ≡ first (question15 (now (old .entry)) (now (new .entry)) (ownedBy (now (bytes .entry)))) (programOf (now (new .entry))) ⌝ }
 {
     let mut p: usize = 0;
     let mut here = Here {
@@ -173,7 +182,7 @@ fn question_15(
             return Found::Nothing;
         }
         here = pass::moved(new, here, p);
-        if kept_at(old, before, new, after, owners, calls, here, p) {
+        if kept_at(old, before, new, after, bytes, here, p) {
             p += n;
         } else {
             return Found::At(p);
@@ -183,15 +192,15 @@ fn question_15(
 }
 
 /// Is the version of each live call one of the new image?
-fn all_there(new: &[u8], after: &[usize; 128], owners: &[u8; 64], calls: u8) -> bool
+fn all_there(new: &[u8], after: &[usize; 128], bytes: &[u8; 2632]) -> bool
     requires { ⌜ now after ≡ tableOf (now new) ⌝ }
-    ensures { λ r. ⌜ r ≡ allThere (programOf (now (new .entry))) (ownedBy (now (owners .entry)) calls) ⌝ }
+    ensures { λ r. ⌜ r ≡ allThere (programOf (now (new .entry))) (ownedBy (now (bytes .entry))) ⌝ }
 {
-    let live = live_calls(calls);
+    let live = live_calls(bytes);
     let mut k: usize = 0;
     while k < live {
-        let function = layout::byte(owners, 2 * k);
-        let version = layout::byte(owners, 2 * k + 1);
+        let function = layout::byte(bytes, 32 * k + FUNCTION);
+        let version = layout::byte(bytes, 32 * k + VERSION);
         let Found::At(_) = lookup::listed(new, after, function, version) else {
             return false;
         };
@@ -201,29 +210,29 @@ fn all_there(new: &[u8], after: &[usize; 128], owners: &[u8; 64], calls: u8) -> 
 }
 
 /// 15: the new image's first version with a live frame that differs, or the image's length where none does and one is missing.
-fn answer_15(old: &[u8], new: &[u8], owners: &[u8; 64], calls: u8) -> Found
-    ensures { λ r. ⌜ r ≡ answer15 (now (old .entry)) (now (new .entry)) (ownedBy (now (owners .entry)) calls) ⌝ }
+fn answer_15(old: &[u8], new: &[u8], bytes: &[u8; 2632]) -> Found
+    ensures { λ r. ⌜ r ≡ answer15 (now (old .entry)) (now (new .entry)) (ownedBy (now (bytes .entry))) ⌝ }
 {
     let before = lookup::versions(old);
     let after = lookup::versions(new);
-    if let Found::At(p) = question_15(old, &before, new, &after, owners, calls) {
+    if let Found::At(p) = question_15(old, &before, new, &after, bytes) {
         return Found::At(p);
     }
-    if all_there(new, &after, owners, calls) {
+    if all_there(new, &after, bytes) {
         Found::Nothing
     } else {
         Found::At(new.len())
     }
 }
 
-/// Whether a state with these owners of frames and so many live calls goes on under the new image. Nothing is written: the
+/// Whether a state with these bytes goes on under the new image, whatever its numbers are. Nothing is written: the
 /// state is carried over whole, and stays under the old image where the new one is refused.
-pub fn change(old: &[u8], new: &[u8], owners: &[u8; 64], calls: u8) -> Changed
-    ensures { λ r. ⌜ r ≡ changeOf (now (old .entry)) (now (new .entry)) (ownedBy (now (owners .entry)) calls) ⌝ }
+pub fn change(old: &[u8], new: &[u8], bytes: &[u8; 2632]) -> Changed
+    ensures { λ r. ⌜ ((n : List ℤ) → r ≡ changeOf (now (old .entry)) (now (new .entry)) (stateIn (now (bytes .entry)) n)) ⌝ }
 {
     match questions::verdict(new) {
         Verdict::Refused(q, p) => Changed::Refused(q, p as u16),
-        Verdict::Accepted(_) => match answer_15(old, new, owners, calls) {
+        Verdict::Accepted(_) => match answer_15(old, new, bytes) {
             Found::Nothing => Changed::Taken,
             Found::At(p) => Changed::Refused(15, p as u16),
         },

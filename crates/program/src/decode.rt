@@ -9,8 +9,6 @@ ghost use Rattle.program.specs.Program.{numberIn, word};
 ghost use Rattle.program.specs.Places.{instrAt};
 ghost use Rattle.program.specs.Shapes.{shapeOf, listedRegisters, listedTypes};
 use crate::Instruction;
-use crate::lookup;
-use layout::Found;
 use layout::kinds;
 
 /// The field `k` of the record at `p` as a byte.

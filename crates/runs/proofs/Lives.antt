@@ -99,7 +99,7 @@ lowest-found P f passes (suc n) w X e = go (found (findVersion P f w) passes) e 
 -- ---- block ends
 
 -- the run goes on as before, or is DONE
-abbrev GoesOn : State → State → Type 0
+abbrev pub GoesOn : State → State → Type 0
 GoesOn s t = (t .status ≡ s .status) ⊎ ((e : End) × (isDone e ≡ true) × (t .status ≡ Status.Ended e))
 
 -- the state of which n calls are left
@@ -233,7 +233,7 @@ proceed-lives P s h blockEnd = gives-then _ (value (h .frame) (h .block .result)
 proceed-lives P s h outside = tt
 
 -- what a step comes to
-advance-gives : (P : Program) (s : State) → Gives (λ (t : State). GoesOn s t × Lives P s t) (advance P s)
+pub advance-gives : (P : Program) (s : State) → Gives (λ (t : State). GoesOn s t × Lives P s t) (advance P s)
 unfolding advanceTo
 advance-gives P s = gives-then _ (here P s) _ (λ h e. gives-weaken (LivesOn s (h .activation) (positionOf h)) _ (proceed P s h (positionOf h)) (proceed-lives P s h (positionOf h)) (λ t l. (l .0, record { place = h; stands = e; happens = l .1 })))
 

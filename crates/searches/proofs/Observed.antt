@@ -1,137 +1,137 @@
 -- What a state looks at, by where its run stands.
-use mathlib.Core.Path.{_≡_, refl, sym, ap, _∙_}
-use mathlib.Core.List.{List, []}
-use mathlib.Core.Logic.{inl, inr}
-use mathlib.Core.Option.{Option, none, some}
-use mathlib.Core.Bool.{Bool, true, false}
-use Prim.Native.Nat.{ℕ, _<_, _≤_}
+use mathlib.Core.Path.{_≡_, refl, sym, ap, _∙_, subst}
+use mathlib.Core.List.{List}
+use mathlib.Core.Option.{none, some}
+use mathlib.Core.Bool.{Bool, true, false, cond}
+use Prim.Native.Nat.{ℕ, zero, suc, _+_, _-_, _*_, _<_, _≤_}
 use native.Mathlib.Omega.{arith}
-use lib.ListN.{length}
+use lib.IntN.{ℤ}
+use lib.ListN.{getElem?, length, take}
 use lib.Dec.{ltb}
-use borrow.Author.Tests.{lt-ltb, le-ltb}
+use borrow.Author.Tests.{le-ltb, lt-ltb}
+use Rattle.layout.specs.Bounds.{INSTRUCTIONS}
 use Rattle.layout.specs.Kinds as kind
-use Rattle.layout.specs.Records.{_!_, bodyAt, choose, kindAt}
-use Rattle.layout.specs.Tests.{_and_}
-use Rattle.layout.proofs.Bools.{and-on, and-off}
+use Rattle.layout.specs.Records.{_!_, choose, every}
+use Rattle.layout.specs.declared.Form.{Form}
+use Rattle.layout.proofs.Fields.{length-every}
+use Rattle.layout.proofs.Lists.{get-take, none-taken, take-none}
 use Rattle.layout.proofs.Rows.{Rows, choose-each}
-use Rattle.program.specs.Places.{instrAt, isLine, versionAt}
-use Rattle.program.specs.Program.{Argument, Instr, LIT, MOVE, USE, DUP, VEC, LEN, GET, SET, ARITH, SELECT, CAST, NAMED, STORE, PROM, FORCE, PEEK, POKE, CALL, DISPATCH, SKIP, Program, arguments, instrBy}
-use Rattle.program.proofs.Forms.{length-arguments}
-use Rattle.machine.specs.Begin.{programOf}
-use Rattle.machine.specs.Calls.{searched, versionsOf}
+use Rattle.program.specs.Program.{Argument, Instr, Program, Version, arguments, findVersion, instrBy}
+use Rattle.machine.specs.Calls.{versionsOf}
 use Rattle.machine.specs.Searches.{kindsOf, lookedBy, searchAt, searchBy, searchFrom, searchOf}
-use Rattle.machine.specs.Steps.{positionOf, registersOf}
-use Rattle.machine.specs.Try.{Try, got, stuck, stop, _>>=_, orStuck}
+use Rattle.machine.specs.States.{liveActivations, liveFrames}
+use Rattle.machine.specs.Steps.{Position, here, position, positionOf, registersOf, instruction, blockEnd, outside}
+use Rattle.machine.specs.Try.{Try, got, stuck, stop, _>>=_, at, orStuck}
+use Rattle.machine.specs.declared.Activation.{Activation}
+use Rattle.machine.specs.declared.Frame.{Frame}
 use Rattle.machine.specs.declared.Search.{Search}
 use Rattle.machine.specs.declared.State.{State}
-use Rattle.memory.specs.Memory.{Memory, frameIn, memoryOf, stateOf}
-use Rattle.memory.specs.Parts.{withCells, withOpen, withPromises}
-use Rattle.kinds.specs.Kinds.{argumentKind}
-use Rattle.calls.specs.Searching.{Finds, Seeks, allOf}
-use Rattle.calls.specs.declared.Sought.{Sought}
-use Rattle.calls.proofs.Arguments.{arguments-in}
-use Rattle.places.specs.Standing.{Astray, Located, Spotted, Standing}
-use Rattle.places.specs.declared.Spot.{Spot}
-use Rattle.places.proofs.Standings.{stands-end, stands-false, stands-here, stands-instruction, stands-true}
-use Rattle.searches.specs.Observing.{Looks, Observes, withThese}
+use Rattle.store.specs.Lists.{upTo}
+use Rattle.store.specs.Store.{CALLS, DEPTH, Live, activationIn, frameIn, stateIn}
+use Rattle.store.proofs.Frames.{frame-live}
+use Rattle.store.proofs.Lists.{getElem?-upTo, missing-upTo}
+use Rattle.frames.specs.Frames.{Lives}
+use Rattle.loaded.proofs.Reading.{arguments-behind, long-dispatch}
+use Rattle.loaded.specs.Answers.{blockOf, nextOf, versionOf}
+use Rattle.loaded.specs.Dispatching.{pairsAt}
+use Rattle.loaded.specs.Loaded.{blockIn, few, instrIn, isShort, longIn, placeIn, programIn, readBy, recordAt, versionIn}
+use Rattle.loaded.specs.declared.BlockAt.{BlockAt}
+use Rattle.loaded.specs.declared.Next.{Next}
+use Rattle.loaded.specs.declared.Number.{Number}
+use Rattle.matching.proofs.Joined.{dispatch-here, pair-registers}
+use Rattle.matching.proofs.Kinding.{version-none, version-some}
+use Rattle.matching.specs.Arguments.{searchedAt}
+use Rattle.matching.specs.Codes.{Coded, KINDLESS, kindsBy, kindsIn}
+use Rattle.searches.specs.Observing.{Looks, LooksAt, LooksIn, Observes, hereBy}
 
--- ---- by where it stands
+-- ---- a DISPATCH
 
--- nowhere
-astray-looks : (P : Program) (S : State) → Astray P S → searchOf P S ≡ Search.Elsewhere
-unfolding Astray searchOf searchFrom searchAt
-astray-looks P S (inl e) = rw e refl
-astray-looks P S (inr (h, e, f)) = rw (e, f) refl
+module _ (s t b : List ℕ) (k own p : ℕ) {c n : ℕ} (count : c ≡ s ! (p + 6)) (is : n ≡ few c) (rs : List ℕ) (lists : take n rs ≡ every s (p + 8) 2 n) (code : ℕ) (C : Coded code s t b k (take n rs)) where
+  registers : take n rs ≡ registersOf (pairsAt s p)
+  registers = lists ∙ rw (is, count) (sym (pair-registers s p))
 
-module _ (s : List ℕ) (M : Memory) (p : Spot) (q : Standing s M p) where
-  -- at a block end
-  end-looks : (ltb (p .next) 48 and isLine s (p .at)) ≡ false → searchOf (programOf s) (stateOf M) ≡ Search.Elsewhere
-  unfolding searchOf searchFrom searchAt
-  end-looks e = rw (stands-here s M p q, stands-end s M p q e) refl
+  long : length (take n rs) ≡ n
+  long = ap length lists ∙ length-every s (p + 8) 2 n
 
-  -- at an instruction
-  line-looks : p .next < 48 → isLine s (p .at) ≡ true → searchOf (programOf s) (stateOf M) ≡ searchBy (programOf s) (stateOf M) (frameIn (M .owners) (M .codes) (M .numbers) (p .frame)) (versionAt s (p .version) .level) (instrAt s (p .at))
-  unfolding searchOf searchFrom searchAt
-  line-looks h l = rw (stands-here s M p q, stands-instruction s M p q h l) refl
+  -- a register has no kind
+  pub looks-not : KINDLESS ≤ code → Looks Search.Elsewhere s t b k own p
+  unfolding lookedBy kindsBy
+  looks-not h z = rw (← registers, C z, le-ltb code KINDLESS h) refl
 
--- ---- by the instruction that it stands at
+  pub looks-by : {y w f : ℕ} (ks : List ℕ) → code < KINDLESS → take n ks ≡ kindsIn code n → y ≡ searchedAt s t own p (take n ks) → f ≡ s ! (p + 3) → w ≡ versionsOf (programIn s t) f → Looks (Search.Looked y w) s t b k own p
+  unfolding lookedBy kindsBy
+  looks-by ks h e q o r z = rw (← registers, C z, lt-ltb code KINDLESS h, long, q, r, e, o) refl
+
+-- ---- by the instruction
 
 -- any other than a DISPATCH
-pub no-looks : (s owners codes promises : List ℕ) (calls k v at : ℕ) {x : ℕ} → x ≡ kindAt s at → (x ≡ kind.DISPATCH → ⊥) → Looks s Search.Elsewhere owners codes promises calls k v at
-unfolding Looks searchBy instrAt instrBy Rows
-no-looks s owners codes promises calls k v at {x} e other = λ M stack depth. rw (← e) (choose-each (λ (j : Instr). Search.Elsewhere ≡ searchBy (programOf s) (stateOf (withThese M owners codes stack promises calls depth)) (frameIn owners codes (M .numbers) k) (versionAt s v .level) j) x _ _ refl
-    (λ h. refl, (λ h. refl, (λ h. refl, (λ h. refl, (λ h. refl, (λ h. refl, (λ h. refl, (λ h. refl, (λ h. refl, (λ h. refl, (λ h. refl, (λ h. refl, (λ h. refl, (λ h. refl, (λ h. refl, (λ h. refl, (λ h. refl, (λ h. absurd (other h), (λ h. refl, tt))))))))))))))))))))
+no-looks : (P : Program) (S : State) (f : Frame) (level k : ℕ) (a d : List ℕ) → (k ≡ kind.DISPATCH → ⊥) → Search.Elsewhere ≡ searchBy P S f level (readBy k a d)
+unfolding searchBy readBy longIn instrBy Rows
+no-looks P S f level k a d other = go (isShort k)
+  where
+    go : (y : Bool) → Search.Elsewhere ≡ searchBy P S f level (cond y (instrBy Form.Wide k a) (longIn k d))
+    go true = choose-each (λ (j : Instr). Search.Elsewhere ≡ searchBy P S f level j) k _ _ refl
+        (λ h. refl, (λ h. refl, (λ h. refl, (λ h. refl, (λ h. refl, (λ h. refl, (λ h. refl, (λ h. refl, (λ h. refl, (λ h. refl, (λ h. refl, (λ h. refl, (λ h. refl, (λ h. refl, (λ h. refl, (λ h. refl, (λ h. refl, (λ h. absurd (other h), (λ h. refl, tt)))))))))))))))))))
+    go false = choose-each (λ (j : Instr). Search.Elsewhere ≡ searchBy P S f level j) k _ _ refl (λ h. refl, (λ h. refl, (λ h. absurd (other h), tt)))
 
-is-dispatch : (s : List ℕ) (at : ℕ) {x : ℕ} → x ≡ kindAt s at → x ≡ kind.DISPATCH → instrAt s at ≡ DISPATCH (bodyAt s at ! 0) (bodyAt s at ! 1) (bodyAt s at ! 2) (bodyAt s at ! 3) (arguments (bodyAt s at) 5 (bodyAt s at ! 4))
-unfolding instrAt instrBy choose
-is-dispatch s at e d = simp (sym e ∙ d)
+module _ (s t b : List ℕ) (k own j : ℕ) {m : ℕ} (of : m ≡ t ! recordAt j) where
+  pub at-other : (m ≡ kind.DISPATCH → ⊥) → LooksAt Search.Elsewhere s t b k own j
+  unfolding instrIn
+  at-other h n = no-looks (programIn s t) (stateIn b n) (frameIn b n k) (versionIn s t own .level) (t ! recordAt j) _ _ (λ w. h (of ∙ w))
 
-got-last : {A : Type 0} (t : Try A) → (t >>= λ x. got x) ≡ t
-unfolding _>>=_
-got-last (got x) = refl
-got-last stuck = refl
-got-last (stop e) = refl
+  pub at-dispatch : (x : Search) {p : ℕ} → m ≡ kind.DISPATCH → p ≡ placeIn t j → Looks x s t b k own p → LooksAt x s t b k own j
+  unfolding searchBy
+  at-dispatch x {p} h w L n = rw (dispatch-here s t j p (sym w) (sym of ∙ h)) (L n)
 
-got-behind : {A B : Type 0} (t : Try A) (u : A → Try B) → (t >>= u) ≡ (t >>= λ x. u x >>= λ y. got y)
-unfolding _>>=_
-got-behind (got x) u = sym (got-last (u x))
-got-behind stuck u = refl
-got-behind (stop e) u = refl
+-- ---- by where a run stands
 
--- the kinds of registers, all of them or none
-kinds-in : (P : Program) (M : Memory) (k : ℕ) (rs : List ℕ) → kindsOf P (stateOf M) (frameIn (M .owners) (M .codes) (M .numbers) k) rs ≡ orStuck (allOf (argumentKind P (M .owners) (M .promises) (M .calls) (M .codes) k) rs)
-unfolding kindsOf
-kinds-in P M k rs = got-behind _ _ ∙ arguments-in P M k (λ vs ks. got ks) rs ∙ got-last _
+module _ (s t b : List ℕ) (k : ℕ) (a : Activation) (r : Number) (found : (u : List ℕ) → versionOf u t r ≡ findVersion (programIn u t) (b ! (32 * k + 24)) (b ! (32 * k + 25))) where
+  pub in-nothing : r ≡ Number.Missing → LooksIn Search.Elsewhere s t b k a
+  unfolding hereBy searchFrom _>>=_ orStuck frameIn
+  in-nothing e n = rw (version-none s t (found s) e) refl
 
--- what the search of a DISPATCH says
-unfoldable pub saidBy : List ℕ → ℕ → Sought → Search
-saidBy s f Sought.Unknown = Search.Elsewhere
-saidBy s f (Sought.Passes v c) = Search.Looked c (versionsOf (programOf s) f)
-saidBy s f (Sought.Nowhere c) = Search.Looked c (versionsOf (programOf s) f)
+  module _ {own : ℕ} (e : r ≡ Number.Of own) (o : BlockAt) (block : blockOf s t o ≡ getElem? (versionIn s t own .blocks) (a .block)) where
+    pub in-no-block : o ≡ BlockAt.Missing → LooksIn Search.Elsewhere s t b k a
+    unfolding hereBy searchFrom _>>=_ orStuck at blockOf frameIn
+    in-no-block q n = rw (version-some s t (found s) e, ← block, q) refl
 
-found-looks : (s : List ℕ) (level f mark ret : ℕ) (pairs : List Argument) (o : Option (List ℕ)) (r : Sought) → Finds s r level f mark ret pairs o → saidBy s f r ≡ lookedBy (programOf s) level f mark ret pairs (orStuck o)
-unfolding Finds saidBy lookedBy orStuck
-found-looks s level f mark ret pairs o Sought.Unknown e = rw e refl
-found-looks s level f mark ret pairs o (Sought.Passes v c) (ks, e, p, q) = rw (e, q) refl
-found-looks s level f mark ret pairs o (Sought.Nowhere c) (ks, e, p, q) = rw (e, q) refl
+    module _ {i : ℕ} (q : o ≡ BlockAt.Entry i) (y : Next) (next : (u : List ℕ) → nextOf u t y ≡ position (take INSTRUCTIONS (blockIn u t i .code)) (a .next)) where
+      by-position : (n : List ℤ) → searchFrom (programIn s t) (stateIn b n) (hereBy (programIn s t) a (frameIn b n k)) ≡ searchAt (programIn s t) (stateIn b n) (frameIn b n k) (versionIn s t own .level) (nextOf s t y)
+      unfolding hereBy searchFrom _>>=_ orStuck at blockOf frameIn positionOf
+      by-position n = rw (version-some s t (found s) e, ← block, q, next s) refl
 
-pub dispatch-looks : (s owners codes promises : List ℕ) (calls k v at f mark ret n : ℕ) (r t : Sought) (a : Search) {x : ℕ} → x ≡ kindAt s at → x ≡ kind.DISPATCH
-    → f ≡ bodyAt s at ! 1 → mark ≡ bodyAt s at ! 2 → ret ≡ bodyAt s at ! 3 → n ≡ bodyAt s at ! 4
-    → Seeks s r owners promises calls codes k at (versionAt s v .level) f mark ret n → r ≡ t → a ≡ saidBy s f t → Looks s a owners codes promises calls k v at
-unfolding Looks Seeks searchBy withThese withCells withPromises withOpen
-dispatch-looks s owners codes promises calls k v at f mark ret n r t a e d ef em er en h er′ ea = λ M stack depth.
-    let level = versionAt s v .level in
-    let b = bodyAt s at in
-    let i = is-dispatch s at e d in
-    let pairs = arguments b 5 (b ! 4) in
-    let w = h (b ! 0) pairs (rw (ef, em, er) i) (length-arguments b 5 (b ! 4) ∙ sym en) in
-    let N = withThese M owners codes stack promises calls depth in
-    let this : searchBy (programOf s) (stateOf N) (frameIn owners codes (M .numbers) k) level (instrAt s at) ≡ lookedBy (programOf s) level f mark ret pairs (kindsOf (programOf s) (stateOf N) (frameIn owners codes (M .numbers) k) (registersOf pairs)) = rw (i, ef, em, er) refl in
-    ea ∙ ap (saidBy s f) (sym er′) ∙ found-looks s level f mark ret pairs _ r w ∙ ap (lookedBy (programOf s) level f mark ret pairs) (sym (kinds-in (programOf s) N k (registersOf pairs))) ∙ sym this
+      pub in-end : y ≡ Next.End → LooksIn Search.Elsewhere s t b k a
+      unfolding searchAt nextOf
+      in-end z n = rw (by-position n, z) refl
 
--- ---- the state that these arrays stand for
+      pub in-outside : y ≡ Next.Outside → LooksIn Search.Elsewhere s t b k a
+      unfolding searchAt nextOf
+      in-outside z n = rw (by-position n, z) refl
 
-module _ (s owners codes stack promises : List ℕ) (calls depth : ℕ) (p : Spot) (there : Located s owners calls stack depth p) where
-  spotted : (M : Memory) → Spotted s (withThese M owners codes stack promises calls depth) p
-  unfolding Located withThese withCells withPromises withOpen
-  spotted M = there (withThese M owners codes stack promises calls depth)
+      pub in-line : {j : ℕ} → y ≡ Next.Line j → (x : Search) → LooksAt x s t b k own j → LooksIn x s t b k a
+      unfolding searchAt nextOf
+      in-line z x L n = rw (by-position n, z) (L n)
 
-  pub nowhere-observes : p .here ≡ false → Observes s Search.Elsewhere owners codes stack promises calls depth
-  unfolding Observes
-  nowhere-observes e = λ M. sym (astray-looks (programOf s) _ (stands-false (spotted M) e))
+-- ---- the state
 
-  module _ (here : p .here ≡ true) where
-    standing : (M : Memory) → Standing s (withThese M owners codes stack promises calls depth) p
-    standing M = stands-true (spotted M) here
+module _ (s t b : List ℕ) {d : ℕ} (z : d ≡ b ! DEPTH) where
+  pub no-depth : d ≡ 0 → Observes Search.Elsewhere s t b
+  unfolding searchOf searchFrom here liveActivations at orStuck _>>=_ stateIn
+  no-depth h n = rw (take-none (upTo (activationIn b) 0 32) (b ! DEPTH) (b ! DEPTH - 1) (omega arith)) refl
 
-    pub end-observes : (ltb (p .next) 48 and isLine s (p .at)) ≡ false → Observes s Search.Elsewhere owners codes stack promises calls depth
-    unfolding Observes
-    end-observes e = λ M. sym (end-looks s _ p (standing M) e)
+  pub too-deep : 32 < d → Observes Search.Elsewhere s t b
+  unfolding searchOf searchFrom here liveActivations at orStuck _>>=_ stateIn
+  too-deep h n = rw (none-taken (upTo (activationIn b) 0 32) (b ! DEPTH) (b ! DEPTH - 1) (missing-upTo (activationIn b) 32 (b ! DEPTH - 1) (omega arith))) refl
 
-    -- its frame is a live one
-    pub frame-few : p .frame < 32
-    frame-few = standing (memoryOf [] [] [] [] [] [] [] [] [] 0 0) .few
+  module _ (l : d ≡ 0 → ⊥) (m : d ≤ 32) {a : Activation} (top : a ≡ activationIn b (d - 1)) {k : ℕ} (e : k ≡ a .frame) (x : Bool) (lives : Lives x b k) where
+    on-top : (n : List ℤ) → at (liveActivations (stateIn b n)) (b ! DEPTH - 1) ≡ got a
+    unfolding liveActivations at orStuck stateIn
+    on-top n = rw (top, z, get-take (upTo (activationIn b) 0 32) (b ! DEPTH) (b ! DEPTH - 1) (omega arith), getElem?-upTo (activationIn b) 32 (b ! DEPTH - 1) (omega arith)) refl
 
-    pub line-observes : (r : Search) → p .next < 48 → isLine s (p .at) ≡ true → Looks s r owners codes promises calls (p .frame) (p .version) (p .at) → Observes s r owners codes stack promises calls depth
-    unfolding Observes Looks withThese withCells withPromises withOpen
-    line-observes r h l w = λ M. w M stack depth ∙ sym (line-looks s _ p (standing M) h l)
+    pub not-live : x ≡ false → Observes Search.Elsewhere s t b
+    unfolding searchOf searchFrom here _>>=_ Lives stateIn
+    not-live h n = let L = rw h at lives in rw (on-top n, ← e, L n) refl
+
+    pub live-looks : (r : Search) → x ≡ true → LooksIn r s t b k a → Observes r s t b
+    unfolding searchOf here hereBy _>>=_ Lives stateIn
+    live-looks r h I n = let L = rw h at lives in I n ∙ sym (rw (on-top n, ap (at (liveFrames (stateIn b n))) (sym e) ∙ frame-live b n k L) refl)

@@ -1,113 +1,100 @@
-//! How many versions the DISPATCH looks at that a run stands at.
-//! `table` is the image's index.
+//! How many versions the DISPATCH looks at that a state stands at, over a loaded image, for all images, tables and states.
 ghost use mathlib.Core.Path.{_≡_};
 ghost use Prim.Native.Nat.{_<_, _≤_};
-ghost use Rattle.index.specs.Indexed.{Indexed};
-ghost use Rattle.machine.specs.Begin.{programOf};
-ghost use Rattle.machine.specs.Calls.{versionsOf};
-ghost use Rattle.machine.specs.declared.Search.{Search};
-ghost use Rattle.searches.specs.Observing.{Looks, Observes};
-use calls::Sought;
-use layout::bounds;
+ghost use Rattle.loaded.specs.Loaded.{few};
+ghost use Rattle.searches.specs.Observing.{Looks, LooksAt, LooksIn, Observes};
+use layout::kinds;
+use loaded::BlockAt;
+use loaded::Next;
+use loaded::Number;
+use loaded::lookup;
+use machine::Activation;
 use machine::Search;
-use program::lookup;
+use store::stack;
 
-/// So many versions of the function were looked at.
-fn counted(image: &[u8], table: &[u16; 1152], function: u8, looked: usize) -> Search
-    requires { ⌜ Indexed (now image) (now table) × (looked ≤ 4) ⌝ }
-    ensures { λ r. ⌜ r ≡ Search.Looked looked (versionsOf (programOf (now (image .entry))) function) ⌝ }
+/// The registers of a DISPATCH that count.
+const OPERANDS: u8 = 8;
+
+/// A number above all codes of kinds: a register has none.
+const KINDLESS: u32 = 65536;
+
+/// How many activations a state has.
+const ACTIVATIONS: usize = 32;
+
+/// How many of so many registers count.
+fn most(n: u8) -> usize
+    ensures { λ r. ⌜ (r ≡ few n) × (r ≤ 8) ⌝ }
 {
+    if n < OPERANDS { n as usize } else { 8 }
+}
+
+/// What the DISPATCH at the place `p` looks at, in the frame `k` of the version `own`.
+fn looks(image: &[u8], table: &[u8], bytes: &[u8; 2632], k: usize, own: u8, p: u16) -> Search
+    requires { ⌜ k < 32 ⌝ }
+    ensures { λ r. ⌜ Looks r (now (image .entry)) (now (table .entry)) (now (bytes .entry)) k own p ⌝ }
+{
+    let at = p as usize;
+    let n = most(loaded::byte(image, at + 6));
+    let mut rs = [0u8; 8];
+    matching::listed(image, at + 8, 2, n, &mut rs);
+    let code = matching::code_of(image, table, bytes, k, &rs, n);
+    if KINDLESS <= code {
+        return Search::Elsewhere;
+    }
+    let found = matching::kinds_in(code as u16, n);
+    let looked = matching::searched(image, table, own, p, &found, n);
     Search::Looked(
-        looked as u8,
-        calls::versions_of(image, table, function) as u8,
+        looked,
+        matching::versions(image, table, loaded::byte(image, at + 3)),
     )
 }
 
-/// What the instruction at `at` looks at, in the frame `k` of the version at `v`.
-fn looks(
-    image: &[u8],
-    table: &[u16; 1152],
-    owners: &[u8; 64],
-    codes: &[u16; 768],
-    promises: &[u8; 192],
-    calls: usize,
-    k: usize,
-    v: usize,
-    at: usize,
-) -> Search
-    requires { ⌜ Indexed (now image) (now table) × (k < 32) ⌝ }
-    ensures { λ r. ⌜ Looks (now (image .entry)) r (now (owners .entry)) (now (codes .entry)) (now (promises .entry)) calls k v at ⌝ }
+/// What the instruction of the record `i` looks at, in the frame `k` of the version `own`.
+fn looks_at(image: &[u8], table: &[u8], bytes: &[u8; 2632], k: usize, own: u8, i: u32) -> Search
+    requires { ⌜ k < 32 ⌝ }
+    ensures { λ r. ⌜ LooksAt r (now (image .entry)) (now (table .entry)) (now (bytes .entry)) k own i ⌝ }
 {
-    if layout::kind_at(image, at) != layout::kinds::DISPATCH {
+    let kind = loaded::byte(table, loaded::RECORDS + 8 * (i as usize));
+    if layout::wide(kind) != kinds::DISPATCH {
         return Search::Elsewhere;
     }
-    let function = layout::field(image, at, 1) as u8;
-    let mark = layout::field(image, at, 2) as u8;
-    let returns = layout::field(image, at, 3) as u8;
-    let n = layout::field(image, at, 4) as u8;
-    match calls::search(
-        image,
-        table,
-        owners,
-        codes,
-        promises,
-        calls,
-        k,
-        at,
-        v,
-        function,
-        mark,
-        returns,
-        n,
-    ) {
-        Sought::Unknown => Search::Elsewhere,
-        Sought::Passes(_, c) => counted(image, table, function, c),
-        Sought::Nowhere(c) => counted(image, table, function, c),
+    looks(image, table, bytes, k, own, lookup::place_at(table, i))
+}
+
+/// What the state looks at whose activation on top is `a`, in the live frame `k`.
+fn looks_in(image: &[u8], table: &[u8], bytes: &[u8; 2632], k: usize, a: Activation) -> Search
+    requires { ⌜ k < 32 ⌝ }
+    ensures { λ r. ⌜ LooksIn r (now (image .entry)) (now (table .entry)) (now (bytes .entry)) k a ⌝ }
+{
+    let Number::Of(own) = lookup::version(table, bytes[32 * k + 24], bytes[32 * k + 25]) else {
+        return Search::Elsewhere;
+    };
+    let BlockAt::Entry(e) = lookup::block(image, table, own, a.block) else {
+        return Search::Elsewhere;
+    };
+    match lookup::next(table, e, a.next) {
+        Next::Line(i) => looks_at(image, table, bytes, k, own, i),
+        Next::End => Search::Elsewhere,
+        Next::Outside => Search::Elsewhere,
     }
 }
 
-/// What the DISPATCH looks at that the run of these arrays stands at, ended or not.
-pub fn search(
-    image: &[u8],
-    owners: &[u8; 64],
-    codes: &[u16; 768],
-    stack: &[u8; 192],
-    promises: &[u8; 192],
-    calls: u8,
-    depth: u8,
-) -> Search
-    ensures { λ r. ⌜ Observes (now (image .entry)) r (now (owners .entry)) (now (codes .entry)) (now (stack .entry)) (now (promises .entry)) calls depth ⌝ }
+/// What the state of these bytes looks at, ended or not.
+pub fn search(image: &[u8], table: &[u8], bytes: &[u8; 2632]) -> Search
+    ensures { λ r. ⌜ Observes r (now (image .entry)) (now (table .entry)) (now (bytes .entry)) ⌝ }
 {
-    let table = index::of(image);
-    let nowhere = places::nowhere(calls as usize, depth as usize);
-    let spot = places::locate(
-        image,
-        &table,
-        owners,
-        stack,
-        calls as usize,
-        depth as usize,
-        nowhere,
-    );
-    let here = spot.here;
-    if !here {
+    let depth = layout::wide(bytes[2625]);
+    if depth == 0 {
         return Search::Elsewhere;
     }
-    if bounds::INSTRUCTIONS <= spot.next {
+    if ACTIVATIONS < depth {
         return Search::Elsewhere;
     }
-    if !lookup::is_line(image, spot.at) {
-        return Search::Elsewhere;
+    let top = stack::activation(bytes, depth - 1);
+    let k = layout::wide(top.frame);
+    if frames::is_live(bytes, k) {
+        looks_in(image, table, bytes, k, top)
+    } else {
+        Search::Elsewhere
     }
-    looks(
-        image,
-        &table,
-        owners,
-        codes,
-        promises,
-        calls as usize,
-        spot.frame,
-        spot.version,
-        spot.at,
-    )
 }

@@ -4,7 +4,7 @@ ghost use Rattle.layout.specs.Records.{records, bodyAt};
 ghost use Rattle.layout.specs.Kinds as kind;
 ghost use Rattle.program.specs.Program.{program, instrOf};
 ghost use Rattle.program.specs.Search.{first};
-ghost use Rattle.program.specs.Places.{versionAt, instrAt, tableOf, asked};
+ghost use Rattle.program.specs.Places.{versionAt, tableOf, asked};
 ghost use Rattle.rules.specs.Questions.{staysDown, question18};
 use layout::Found;
 use layout::kinds;

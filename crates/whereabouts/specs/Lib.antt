@@ -1,1 +1,2 @@
 pub mod Where
+pub mod Looks

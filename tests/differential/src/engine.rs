@@ -2,8 +2,8 @@
 //! bound of its entry.
 
 use crate::paced::{steps_of, Paced};
-use crate::snapshot::untouched;
-use library::{At, Entry, Ran, Run, FIR_ROWS, ROW_NUMBERS};
+use crate::snapshot::{untouched, FILLING};
+use library::{At, Entry, Loaded, Program, Ran, Run, FIR_ROWS, ROW_NUMBERS};
 use reference::bounds::Steps;
 use reference::longest::Row;
 use reference::{
@@ -105,26 +105,59 @@ fn verdict_of(verdict: library::Verdict) -> Verdict {
     }
 }
 
-/// A state that nothing was written to, under an image of no bytes.
+/// A state that nothing was written to, under a program of no bytes.
 fn nothing_begun() -> Run<'static> {
-    Run::load_with_its_own_image(untouched(), &[])
+    Run::resume_with_its_own_program(untouched(), Program::of_any_bytes([], []))
 }
 
-/// Begins a run at a level; it stands before its first step, or is untouched and
-/// refused.
-pub fn begin<'i>(
-    image: &'i [u8],
+/// Loads an image. Where it is refused, the table has no version, and no run begins of it.
+#[track_caller]
+pub fn load(image: &[u8]) -> Result<Program, Refusal> {
+    let mut table = vec![FILLING; library::table_size(image.len())];
+    let loaded = library::load(image, &mut table);
+    let program = Program::of_any_bytes(image, table);
+    let Loaded::Refused(no) = loaded else {
+        let ready = matches!(loaded, Loaded::Ready { .. });
+        assert!(ready, "{loaded:?} for a table that is long enough");
+        return Ok(program);
+    };
+    let entry = Entry {
+        function: 0,
+        version: 0,
+    };
+    let begun = Run::begin(&program, usize::MAX, entry, &[], &[]).err();
+    let question = begun.map(|no| no.question);
+    assert_eq!(question, Some(11), "a run of an image that is refused");
+    Err(refusal(no))
+}
+
+/// Loads an image and begins a run at a level; it stands before its first step, or is
+/// untouched and refused. What its memory held before makes no difference.
+#[track_caller]
+pub fn begin(
+    image: &[u8],
     level: usize,
     (function, version): (usize, usize),
     words: &[Integer],
     buffer: &[Integer],
-) -> (Paced<'i>, Result<(), Refusal>) {
+) -> (Paced<'static>, Result<(), Refusal>) {
     let mut run = nothing_begun();
     let entry = Entry { function, version };
-    match run.restart(image, level, entry, words, buffer) {
-        Ok(()) => (Paced::begun(run, (function, version), 0), Ok(())),
-        Err(no) => (Paced::free(run), Err(refusal(no))),
-    }
+    let begun = load(image).and_then(|program| {
+        let elsewhere = Run::begin(&program, level, entry, words, buffer);
+        let begun = run.restart(program.clone(), level, entry, words, buffer);
+        assert_eq!(elsewhere.as_ref().err(), begun.as_ref().err());
+        if let Ok(elsewhere) = elsewhere {
+            let same = elsewhere.state() == run.state();
+            assert!(same, "a begun state in memory that held something else");
+        }
+        begun.map_err(refusal)
+    });
+    let paced = match begun {
+        Ok(()) => Paced::begun(run, (function, version), 0),
+        Err(_) => Paced::free(run),
+    };
+    (paced, begun)
 }
 
 /// Takes a single step; what it says.
@@ -148,8 +181,19 @@ pub fn budget(run: &mut Paced, budget: Steps, buffer: &mut [Integer]) -> (Answer
 }
 
 /// Goes on under another image, or under the old one where that is refused.
-pub fn change(run: &mut Paced, image: Vec<u8>) -> Result<(), Refusal> {
-    run.changed(|run| run.change(image)).map_err(refusal)
+#[track_caller]
+pub fn change(run: &mut Paced, image: &[u8]) -> Result<(), Refusal> {
+    let answer = run.may_change(image).map_err(refusal);
+    let loaded = load(image);
+    match (answer, loaded) {
+        (Ok(()), Ok(program)) => {
+            let changed = run.changed(|run| run.change(program));
+            assert_eq!(changed, Ok(()), "a change that is asked for again");
+        }
+        (Err(no), Ok(_)) => assert_eq!(no.number, 15, "of an image that is loaded"),
+        (answer, Err(no)) => assert_eq!(answer, Err(no), "of an image that is refused"),
+    }
+    answer
 }
 
 /// How many versions the DISPATCH looks at that the run stands at, and of how many.
@@ -171,19 +215,24 @@ pub fn position(run: &Run) -> Option<Position> {
     })
 }
 
-/// A run from its start at a level, its answer, and the steps taken; it is untouched
-/// where it is refused.
-pub fn run<'i>(
-    image: &'i [u8],
+/// Loads an image and runs it from its start at a level; its answer, and the steps taken.
+/// The run is untouched where it is refused.
+#[track_caller]
+pub fn run(
+    image: &[u8],
     level: usize,
     (function, version): (usize, usize),
     words: &[Integer],
     budget: Steps,
     buffer: &mut [Integer],
-) -> (Paced<'i>, Answer, Steps) {
+) -> (Paced<'static>, Answer, Steps) {
     let mut run = nothing_begun();
     let entry = Entry { function, version };
-    let ran = run.rerun(image, level, entry, words, budget, buffer);
+    let program = match load(image) {
+        Ok(program) => program,
+        Err(no) => return (Paced::free(run), Answer::Refused(no), 0),
+    };
+    let ran = run.rerun(program, level, entry, words, budget, buffer);
     let paced = match ran.is_refused() {
         true => Paced::free(run),
         false => Paced::begun(run, (function, version), ran.steps),

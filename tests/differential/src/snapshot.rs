@@ -1,10 +1,16 @@
-//! The state of a run as numbers, as the proved library writes it, and the state
-//! of the reference that the numbers stand for.
+//! The state of a run as numbers, as the proved library writes it, and the states that
+//! the numbers stand for: that of the reference, where they are those of a begun run, and
+//! that of the definitions, whatever they are.
 
+use definitions::store::{
+    Arrays, BYTES, CACHES, CALLS, CELL_PLACES, DELAYS, DEPTH, ENDING, ITEM, LENGTH, LENGTHS,
+    NUMBERS, RESULT, STACK, STATUS,
+};
 use library::State as Snapshot;
 use library::{
-    ACTIVATION, CELLS, FIR_DEEP, FIR_INTEGER, FIR_PROMISES, FIR_STEPS, FIR_UNDEF, FIR_VECTOR,
-    FIR_VECTORS, OWNER, PROMISE,
+    ACTIVATION, CELLS, FIR_DEEP, FIR_INTEGER, FIR_IS_INTEGER, FIR_IS_PROMISE, FIR_IS_VECTOR,
+    FIR_NOTHING, FIR_PROMISES, FIR_STEPS, FIR_STRIDE, FIR_UNDEF, FIR_VECTOR, FIR_VECTORS, OWNER,
+    PROMISE,
 };
 use reference::bounds::{ACTIVATIONS, ITEMS, NAMES, PROMISES, REGISTERS, VECTORS};
 use reference::state::{Activation, Frame, Opener, Promise};
@@ -12,37 +18,65 @@ use reference::{End, Integer, State, Status, Value};
 
 const _: () = assert!(CELLS == REGISTERS + NAMES);
 
-/// The code of an empty register or an unset name.
-pub const EMPTY: u16 = 0;
-/// The code of an integer.
-pub const INTEGER: u16 = 1;
-/// The code of the vector at place 0.
-pub const VECTOR: u16 = 256;
-/// The code of the promise at place 0.
-pub const PROMISED: u16 = 512;
-
 /// What fills a state that nothing was written to.
 pub const FILLING: u8 = 0xA5;
 
-/// A state that nothing was written to: it stands for none.
+/// A state that nothing was written to: it stands for none of a begun run.
 pub fn untouched() -> Snapshot {
-    let number = i64::from_le_bytes([FILLING; 8]);
-    Snapshot {
-        numbers: [number; ACTIVATIONS * CELLS],
-        items: [number; VECTORS * ITEMS],
-        caches: [number; PROMISES],
-        result: [number; ITEMS],
-        codes: [u16::from(FILLING); ACTIVATIONS * CELLS],
-        owners: [FILLING; ACTIVATIONS * OWNER],
-        stack: [FILLING; ACTIVATIONS * ACTIVATION],
-        lengths: [FILLING; VECTORS],
-        promises: [FILLING; PROMISES * PROMISE],
-        calls: FILLING,
-        depth: FILLING,
-        status: FILLING,
-        length: FILLING,
-        value: number,
-    }
+    Snapshot::filled(FILLING)
+}
+
+/// The two arrays of a state: its bytes and its numbers.
+pub fn arrays(state: &Snapshot) -> (Box<[u8; BYTES]>, Box<[i64; NUMBERS]>) {
+    let counts = [state.calls, state.depth, state.status, state.length];
+    let bytes: [&[u8]; 7] = [
+        &state.tags,
+        &state.places,
+        &state.stack,
+        &state.promises,
+        &state.lengths,
+        &counts,
+        &state.spare,
+    ];
+    let numbers: [&[i64]; 5] = [
+        &state.numbers,
+        &state.items,
+        &state.caches,
+        &state.result,
+        &[state.value],
+    ];
+    let (bytes, numbers) = (bytes.concat(), numbers.concat());
+    (
+        bytes.try_into().expect("as many as there are"),
+        numbers.try_into().expect("as many as there are"),
+    )
+}
+
+/// Gives a state the numbers of two arrays; its spare bytes too.
+pub fn give(to: &mut Snapshot, bytes: &[u8; BYTES], numbers: &[i64; NUMBERS]) {
+    to.tags.copy_from_slice(&bytes[..CELL_PLACES]);
+    to.places.copy_from_slice(&bytes[CELL_PLACES..STACK]);
+    to.stack.copy_from_slice(&bytes[STACK..DELAYS]);
+    to.promises.copy_from_slice(&bytes[DELAYS..LENGTHS]);
+    to.lengths.copy_from_slice(&bytes[LENGTHS..CALLS]);
+    (to.calls, to.depth) = (bytes[CALLS], bytes[DEPTH]);
+    (to.status, to.length) = (bytes[STATUS], bytes[LENGTH]);
+    to.spare.copy_from_slice(&bytes[LENGTH + 1..]);
+    to.numbers.copy_from_slice(&numbers[..ITEM]);
+    to.items.copy_from_slice(&numbers[ITEM..CACHES]);
+    to.caches.copy_from_slice(&numbers[CACHES..RESULT]);
+    to.result.copy_from_slice(&numbers[RESULT..ENDING]);
+    to.value = numbers[ENDING];
+}
+
+/// The state that the numbers stand for by the definitions, whatever they are.
+pub fn meaning(state: &Snapshot) -> definitions::State {
+    let (bytes, numbers) = arrays(state);
+    let arrays = Arrays {
+        bytes: &bytes,
+        numbers: &numbers,
+    };
+    arrays.state()
 }
 
 /// The end of a code, with its length and value.
@@ -60,7 +94,7 @@ fn end(code: u8, length: u8, value: Integer) -> Result<End, String> {
 }
 
 /// The state that the numbers stand for, without the vectors and promises
-/// that do not count; an error where the numbers stand for none.
+/// that do not count; an error where they are those of no begun run.
 pub fn state_of(snapshot: &Snapshot) -> Result<State, String> {
     let frames = (0..live(snapshot.calls)?).map(|call| frame(snapshot, call));
     let activations = (0..live(snapshot.depth)?).map(|index| activation(snapshot, index));
@@ -86,14 +120,15 @@ pub fn state_of(snapshot: &Snapshot) -> Result<State, String> {
 
 /// The frame of a live call.
 fn frame(snapshot: &Snapshot, frame: usize) -> Result<Frame, String> {
+    let first = frame * FIR_STRIDE;
     let (mut registers, mut names) = ([None; REGISTERS], [None; NAMES]);
     let places = registers.iter_mut().chain(&mut names);
-    for (cell, place) in (frame * CELLS..).zip(places) {
+    for (cell, place) in (first..).zip(places) {
         *place = held(snapshot, cell)?;
     }
     Ok(Frame {
-        function: snapshot.owners[frame * OWNER],
-        version: snapshot.owners[frame * OWNER + 1],
+        function: snapshot.tags[first + OWNER],
+        version: snapshot.tags[first + OWNER + 1],
         registers,
         names,
     })
@@ -101,21 +136,23 @@ fn frame(snapshot: &Snapshot, frame: usize) -> Result<Frame, String> {
 
 /// What a register or a name holds.
 fn held(snapshot: &Snapshot, cell: usize) -> Result<Option<Value>, String> {
-    let code = snapshot.codes[cell];
-    let place = usize::from(code % VECTOR);
-    match code - code % VECTOR {
-        EMPTY if code == EMPTY => Ok(None),
-        EMPTY if code == INTEGER => Ok(Some(Value::Integer(snapshot.numbers[cell]))),
-        VECTOR if place < VECTORS => Ok(Some(Value::Vector(place))),
-        PROMISED if place < PROMISES => Ok(Some(Value::Promise(place))),
-        _ => Err(format!("cell {cell} has the code {code}")),
+    let (tag, place) = (snapshot.tags[cell], usize::from(snapshot.places[cell]));
+    match tag {
+        FIR_NOTHING => Ok(None),
+        FIR_IS_INTEGER => Ok(Some(Value::Integer(snapshot.numbers[cell]))),
+        FIR_IS_VECTOR if place < VECTORS => Ok(Some(Value::Vector(place))),
+        FIR_IS_PROMISE if place < PROMISES => Ok(Some(Value::Promise(place))),
+        _ => Err(format!(
+            "cell {cell} has the tag {tag} and the place {place}"
+        )),
     }
 }
 
 /// A live activation.
 fn activation(snapshot: &Snapshot, index: usize) -> Result<Activation, String> {
     let first = index * ACTIVATION;
-    let [opener, promise, d, frame, block, next] = snapshot.stack[first..first + ACTIVATION] else {
+    let [opener, promise, d, frame, block, next, ..] = snapshot.stack[first..first + ACTIVATION]
+    else {
         unreachable!("an activation has six numbers");
     };
     let opener = match opener {
@@ -144,8 +181,8 @@ fn vector(snapshot: &Snapshot, place: usize) -> Result<Vec<Integer>, String> {
 /// A promise.
 fn promise(snapshot: &Snapshot, place: usize) -> Result<Promise, String> {
     let first = place * PROMISE;
-    let [frame, block, forced] = snapshot.promises[first..first + PROMISE] else {
-        unreachable!("a promise has three numbers");
+    let [frame, block, forced, _] = snapshot.promises[first..first + PROMISE] else {
+        unreachable!("a promise has four numbers");
     };
     let cache = match forced {
         0 => None,

@@ -268,7 +268,7 @@ fn changes(old: &str, steps: Steps, new: &str, expected: Result<(), Refusal>, gi
 
     let (mut run, _) = engine::begin(&old, PORTAL, (0, 0), &[-1, 5], buffer);
     assert_eq!(engine::budget(&mut run, steps, buffer).1, steps);
-    let found = engine::change(&mut run, new.clone());
+    let found = engine::change(&mut run, &new);
     assert_eq!(found, expected, "by the proved engine");
     let found = engine::budget(&mut run, 100, buffer);
     assert_eq!(found, end, "by the proved engine");
@@ -575,7 +575,7 @@ fn a_change_is_refused_by_15_where_a_live_versions_level_differs() {
         for (steps, expected) in [(0, Ok(())), (1, no), (3, no), (4, Ok(())), (5, no)] {
             let (mut run, _) = engine::begin(&old, 2, (0, 0), &[-1, 5], buffer);
             engine::budget(&mut run, steps, buffer);
-            assert_eq!(engine::change(&mut run, new.clone()), expected, "{level}");
+            assert_eq!(engine::change(&mut run, &new), expected, "{level}");
             let ran = engine::budget(&mut run, 9, buffer);
             assert_eq!(ran, (done(7), 9 - steps), "{level} after {steps}");
         }

@@ -37,11 +37,11 @@ fn assert_seen(proved: &Run, expected: &State, origin: &str) -> usize {
 }
 
 /// Asserts that a run comes to the same at each higher level.
-fn assert_same_at_higher_levels<'i>(
+fn assert_same_at_higher_levels(
     level: usize,
     (run, answer, steps): (&Run, Answer, Steps),
     buffer: &[Integer],
-    begin: impl Fn(usize, &mut [Integer]) -> (Paced<'i>, Answer, Steps),
+    begin: impl Fn(usize, &mut [Integer]) -> (Paced<'static>, Answer, Steps),
 ) {
     for higher in [level.saturating_add(1), level.max(HIGHEST), usize::MAX] {
         let mut again = vec![-7; buffer.len()];

@@ -6,19 +6,24 @@ use crate::program::Program;
 use crate::questions::Refusal;
 use crate::record::Framed;
 use crate::state::State;
+use std::collections::BTreeSet;
 
 /// May the state go on under the new image? The new image's own questions,
 /// then 15. The old image is not asked again, and the state stays whole.
 pub fn change(old: &[u8], new: &[u8], state: &State) -> Result<(), Refusal> {
+    change_from(old, new, &state.live_versions())
+}
+
+/// The same for a state whose live calls are of these versions: function and version.
+pub fn change_from(old: &[u8], new: &[u8], live: &BTreeSet<(u8, u8)>) -> Result<(), Refusal> {
     Program::accept(new)?;
-    question15(old, new, state).map_err(|offset| Refusal { number: 15, offset })
+    question15(old, new, live).map_err(|offset| Refusal { number: 15, offset })
 }
 
 /// Question 15: has every version with a live call the same bytes and number in
 /// both images? A no is at the new image's first such version that differs, or
 /// at its length if none differs and one is missing.
-fn question15(old: &[u8], new: &[u8], state: &State) -> Result<(), usize> {
-    let live = state.live_versions();
+fn question15(old: &[u8], new: &[u8], live: &BTreeSet<(u8, u8)>) -> Result<(), usize> {
     let (before, after) = (parts(old), parts(new));
     let same = |part: &Part| {
         let had = before.iter().find(|had| had.numbers == part.numbers);
@@ -29,8 +34,8 @@ fn question15(old: &[u8], new: &[u8], state: &State) -> Result<(), usize> {
             return Err(part.offset);
         }
     }
-    let there = |numbers| after.iter().any(|part| part.numbers == numbers);
-    if live.into_iter().all(there) {
+    let there = |&numbers: &(u8, u8)| after.iter().any(|part| part.numbers == numbers);
+    if live.iter().all(there) {
         Ok(())
     } else {
         Err(new.len())

@@ -13,7 +13,7 @@ use crate::streams::Streams;
 use crate::telling::{self, Ending, Format, Tried, Unread};
 use crate::trace;
 use crate::writing;
-use library::{Ran, Refusal, Run, FIR_ITEMS};
+use library::{Program, Ran, Refusal, Run, FIR_ITEMS};
 use std::ffi::{OsStr, OsString};
 use std::path::Path;
 
@@ -73,10 +73,10 @@ fn ask_page_apart(call: &Call, manner: Manner) -> Result<(), Failure> {
 }
 
 /// Begins a run that is asked for, of the image of its file.
-pub fn begin<'s>(source: &'s Source, call: &Call) -> Result<Run<'s>, Refused> {
-    let words = words(&call.arguments);
-    let (image, buffer) = (&source.image, [0; FIR_ITEMS]);
-    Run::begin(image, call.level, call.entry, &words, &buffer)
+pub fn begin(source: &Source, call: &Call) -> Result<Run<'static>, Refused> {
+    let (words, buffer) = (words(&call.arguments), [0; FIR_ITEMS]);
+    Program::load(&source.image[..])
+        .and_then(|program| Run::begin(program, call.level, call.entry, &words, &buffer))
         .map_err(|no| refusal::of_run(source, no, call))
 }
 
@@ -130,7 +130,7 @@ impl Images {
 
 /// A run that has begun.
 struct Going<'s> {
-    run: Run<'s>,
+    run: Run<'static>,
     /// The image in force.
     source: &'s Source,
     /// The steps taken so far.
@@ -145,7 +145,7 @@ struct Going<'s> {
 
 impl<'s> Going<'s> {
     /// A run of an image before its first step.
-    fn new(source: &'s Source, run: Run<'s>, call: &Call, showing: Showing<'s>) -> Going<'s> {
+    fn new(source: &'s Source, run: Run<'static>, call: &Call, showing: Showing<'s>) -> Going<'s> {
         let page = matches!(showing.manner, Manner::Page(_));
         let bound = showing
             .stats
@@ -194,7 +194,8 @@ impl<'s> Going<'s> {
         source: &'s Source,
         streams: &mut Streams,
     ) -> Result<Result<(), Refused>, Failure> {
-        if let Err(no) = self.run.change(&source.image) {
+        let program = Program::load(&source.image[..]);
+        if let Err(no) = program.and_then(|program| self.run.change(program)) {
             return Ok(Err(self.refused(source, no)));
         }
         self.source = source;

@@ -2,12 +2,13 @@
 
 use crate::constants::{
     FIR_ACCEPTED, FIR_AT_BLOCK_END, FIR_AT_INSTRUCTION, FIR_DEEP, FIR_FIRST_IMAGE, FIR_INTEGER,
-    FIR_IS_INTEGER, FIR_IS_PROMISE, FIR_IS_VECTOR, FIR_ITEMS, FIR_NOTHING, FIR_NOWHERE,
-    FIR_OUTSIDE, FIR_PROMISES, FIR_REFUSED, FIR_REFUSED_JOIN, FIR_SECOND_IMAGE, FIR_STEPS,
-    FIR_STUCK, FIR_UNDEF, FIR_VECTOR, FIR_VECTORS, FIR_VERSIONS,
+    FIR_IS_INTEGER, FIR_IS_PROMISE, FIR_IS_VECTOR, FIR_LOADED, FIR_NOTHING, FIR_NOWHERE,
+    FIR_OUTSIDE, FIR_PROMISES, FIR_REFUSED, FIR_REFUSED_JOIN, FIR_SECOND_IMAGE, FIR_SHORT,
+    FIR_STEPS, FIR_STUCK, FIR_UNDEF, FIR_VECTOR, FIR_VECTORS, FIR_VERSIONS,
 };
 use crate::raw::{
-    FirAnswer, FirEntry, FirJoined, FirPosition, FirSaid, FirSearched, FirValue, FirVerdict,
+    FirAnswer, FirEntry, FirJoined, FirLoaded, FirPosition, FirSaid, FirSearched, FirValue,
+    FirVerdict,
 };
 
 /// A no: the question, and the offset of the first record that fails.
@@ -32,6 +33,20 @@ pub enum Verdict {
     Refused(Refusal),
 }
 
+/// What became of a load.
+#[derive(Clone, Copy, PartialEq, Eq, Debug)]
+pub enum Loaded {
+    /// The table is filled.
+    Ready {
+        /// How many versions the image has.
+        versions: usize,
+    },
+    /// A question says no to the image.
+    Refused(Refusal),
+    /// The image is accepted, and its table is to have so many bytes.
+    Short(usize),
+}
+
 /// Why two images are not joined.
 #[derive(Clone, Copy, PartialEq, Eq, Debug)]
 pub enum Unjoined {
@@ -48,7 +63,8 @@ pub enum Unjoined {
 pub enum End {
     /// DONE with an integer.
     Integer(i64),
-    /// DONE with a vector of so many items.
+    /// DONE with a vector of so many items; a state that nobody began may say more than
+    /// there are.
     Vector(usize),
     /// UNDEF.
     Undef,
@@ -161,6 +177,21 @@ impl From<FirVerdict> for Verdict {
                 question,
                 offset: verdict.detail,
             }),
+        }
+    }
+}
+
+impl From<FirLoaded> for Loaded {
+    fn from(loaded: FirLoaded) -> Loaded {
+        let detail = loaded.detail;
+        match loaded.code {
+            FIR_LOADED => Loaded::Ready { versions: detail },
+            FIR_REFUSED => Loaded::Refused(Refusal {
+                question: loaded.question,
+                offset: detail,
+            }),
+            FIR_SHORT => Loaded::Short(detail),
+            code => panic!("the library says {code} of a load, which fir.h does not list"),
         }
     }
 }
@@ -286,11 +317,11 @@ fn end(code: u8, length: u8, value: i64) -> End {
     let length = usize::from(length);
     match code {
         FIR_INTEGER => End::Integer(value),
-        FIR_VECTOR if length <= FIR_ITEMS => End::Vector(length),
+        FIR_VECTOR => End::Vector(length),
         FIR_UNDEF => End::Undef,
         FIR_DEEP => End::Deep,
         FIR_VECTORS => End::Vectors,
         FIR_PROMISES => End::Promises,
-        _ => panic!("the library answers {code} with length {length}, which fir.h does not list"),
+        _ => panic!("the library answers {code}, which fir.h does not list"),
     }
 }

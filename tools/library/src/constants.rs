@@ -1,9 +1,9 @@
 //! The numbers of `fir.h`, under its names.
 
 /// The number of the interface.
-pub const FIR_INTERFACE: u32 = 1;
+pub const FIR_INTERFACE: u32 = 2;
 /// The number of the layout of a stored state.
-pub const FIR_STATE_LAYOUT: u32 = 1;
+pub const FIR_STATE_LAYOUT: u32 = 2;
 
 /// The longest image.
 pub const FIR_IMAGE_BYTES: usize = 32_768;
@@ -21,6 +21,8 @@ pub const FIR_ACTIVATIONS: usize = 32;
 pub const FIR_ITEMS: usize = 16;
 /// The places for vectors, and for promises.
 pub const FIR_PLACES: usize = 64;
+/// The places of a call in a state: registers, names, and some that are for neither.
+pub const FIR_STRIDE: usize = 32;
 
 /// No question says no.
 pub const FIR_ACCEPTED: u8 = 0;
@@ -123,6 +125,11 @@ pub const FIR_PROMISES: u8 = 6;
 pub const FIR_STUCK: u8 = 7;
 /// Refused by a question at an offset.
 pub const FIR_REFUSED: u8 = 8;
+
+/// The table is filled.
+pub const FIR_LOADED: u8 = 0;
+/// The image is accepted, but the table is too short.
+pub const FIR_SHORT: u8 = 9;
 
 /// An empty register or an unset name.
 pub const FIR_NOTHING: u8 = 0;

@@ -3,9 +3,10 @@
 //!
 //! What `fir.h` asks of its caller holds by construction: slices and `&mut` rule
 //! out null, misaligned and overlapping memory, that a state has the layout that
-//! the library was built with is asserted once, and a [`Run`] holds the image in
-//! force, so that no step goes by another. [`Run::load_with_its_own_image`] alone
-//! leaves something to its caller.
+//! the library was built with is asserted once, a [`Program`] holds an image with its
+//! table, and a [`Run`] the program in force, so that no step goes by another.
+//! [`Run::resume_with_its_own_program`] and [`Program::of_any_bytes`] alone leave
+//! something to their caller.
 
 mod answers;
 mod bounding;
@@ -15,12 +16,15 @@ mod joining;
 mod mending;
 mod moving;
 mod parts;
+mod program;
 mod raw;
 mod run;
 mod state;
 mod words;
 
-pub use answers::{Answer, At, End, Held, Position, Ran, Refusal, Said, Search, Unjoined, Verdict};
+pub use answers::{
+    Answer, At, End, Held, Loaded, Position, Ran, Refusal, Said, Search, Unjoined, Verdict,
+};
 pub use bounding::{bounds, bounds_into, Bound, Row, ROW_NUMBERS};
 pub use checking::{report, verdict};
 pub use constants::*;
@@ -28,11 +32,12 @@ pub use joining::join;
 pub use mending::{mend, Mended};
 pub use moving::{narrow, report_in, verdict_in, widen, Form};
 pub use parts::{Activation, Opener, Promise};
+pub use program::{load, table_size, Program};
 #[cfg(feature = "stand_in")]
 pub use raw::{
-    FirAnswer, FirEntry, FirJoined, FirMended, FirPosition, FirSaid, FirSearched, FirValue,
-    FirVerdict, FirVersions,
+    FirAnswer, FirEntry, FirJoined, FirLoaded, FirMended, FirPosition, FirSaid, FirSearched,
+    FirValue, FirVerdict, FirVersions,
 };
 pub use run::{Entry, Run, FACTORY, PORTAL, STAFF};
-pub use state::{version, State, Versions, ACTIVATION, CELLS, OWNER, PROMISE};
+pub use state::{version, State, Versions, ACTIVATION, CELLS, OWNER, PROMISE, SPARE};
 pub use words::{answer_text, question_text};

@@ -1,7 +1,7 @@
 //! The parts of a state that its functions do not name: activations, vectors
 //! and promises, read out of its numbers.
 
-use crate::constants::{FIR_ACTIVATIONS, FIR_ITEMS, FIR_PLACES};
+use crate::constants::{FIR_ACTIVATIONS, FIR_ITEMS, FIR_PLACES, FIR_STRIDE};
 use crate::state::{State, ACTIVATION, OWNER, PROMISE};
 
 /// What opened an activation.
@@ -43,7 +43,8 @@ impl State {
     /// The function and the version of a live call.
     pub fn owner(&self, call: usize) -> Option<(u8, u8)> {
         let live = call < self.calls.into() && call < FIR_ACTIVATIONS;
-        live.then(|| (self.owners[OWNER * call], self.owners[OWNER * call + 1]))
+        let at = FIR_STRIDE * call + OWNER;
+        live.then(|| (self.tags[at], self.tags[at + 1]))
     }
 
     /// A live activation, the oldest being 0.
@@ -52,7 +53,7 @@ impl State {
             return None;
         }
         let numbers = self.stack.chunks_exact(ACTIVATION).nth(index)?;
-        let &[opener, promise, d, call, block, next] = numbers else {
+        let &[opener, promise, d, call, block, next, ..] = numbers else {
             return None;
         };
         let opener = match opener {
@@ -76,7 +77,7 @@ impl State {
     /// The items of the vector at a place; they mean something where a register,
     /// a name or the result refers to it.
     pub fn vector(&self, place: usize) -> Option<&[i64]> {
-        let length = usize::from(*self.lengths.get(place)?);
+        let length = usize::from(*self.lengths.get(place)?).min(FIR_ITEMS);
         self.items.chunks_exact(FIR_ITEMS).nth(place)?.get(..length)
     }
 
@@ -86,13 +87,13 @@ impl State {
         if place >= FIR_PLACES {
             return None;
         }
-        let &[call, block, forced] = self.promises.chunks_exact(PROMISE).nth(place)? else {
+        let &[call, block, forced, _] = self.promises.chunks_exact(PROMISE).nth(place)? else {
             return None;
         };
         Some(Promise {
             call: call.into(),
             block: block.into(),
-            cache: (forced == 1).then(|| self.caches[place]),
+            cache: (forced != 0).then(|| self.caches[place]),
         })
     }
 }

@@ -40,6 +40,18 @@ pub struct FirMended {
     pub value: u8,
 }
 
+/// What became of a load: `FIR_LOADED` and the number of versions, `FIR_REFUSED` and the
+/// offset, or `FIR_SHORT` and the bytes that the table needs.
+#[repr(C)]
+pub struct FirLoaded {
+    /// How many versions or bytes, or the offset.
+    pub detail: usize,
+    /// `FIR_LOADED`, `FIR_REFUSED` or `FIR_SHORT`.
+    pub code: u8,
+    /// The question of a refusal.
+    pub question: u8,
+}
+
 /// Whether a run has begun, or goes on under a new image: `FIR_ACCEPTED`, or a
 /// question and its offset.
 #[repr(C)]
@@ -174,9 +186,18 @@ extern "C" {
         numbers: *mut u8,
         steps: *mut u64,
     ) -> FirVerdict;
+    pub fn fir_table_size(image_length: usize) -> usize;
+    pub fn fir_load(
+        image: *const u8,
+        image_length: usize,
+        table: *mut u8,
+        table_length: usize,
+    ) -> FirLoaded;
     pub fn fir_begin(
         image: *const u8,
         image_length: usize,
+        table: *const u8,
+        table_length: usize,
         level: usize,
         function: usize,
         version: usize,
@@ -186,10 +207,18 @@ extern "C" {
         buffer_length: usize,
         state: *mut State,
     ) -> FirEntry;
-    pub fn fir_step(image: *const u8, image_length: usize, state: *mut State) -> FirSaid;
+    pub fn fir_step(
+        image: *const u8,
+        image_length: usize,
+        table: *const u8,
+        table_length: usize,
+        state: *mut State,
+    ) -> FirSaid;
     pub fn fir_budget(
         image: *const u8,
         image_length: usize,
+        table: *const u8,
+        table_length: usize,
         state: *mut State,
         budget: u32,
         buffer: *mut i64,
@@ -198,6 +227,8 @@ extern "C" {
     pub fn fir_run(
         image: *const u8,
         image_length: usize,
+        table: *const u8,
+        table_length: usize,
         level: usize,
         function: usize,
         version: usize,
@@ -216,6 +247,18 @@ extern "C" {
         state: *const State,
     ) -> FirEntry;
     pub fn fir_look(state: *const State, call: usize, place: usize) -> FirValue;
-    pub fn fir_search(image: *const u8, image_length: usize, state: *const State) -> FirSearched;
-    pub fn fir_where(image: *const u8, image_length: usize, state: *const State) -> FirPosition;
+    pub fn fir_search(
+        image: *const u8,
+        image_length: usize,
+        table: *const u8,
+        table_length: usize,
+        state: *const State,
+    ) -> FirSearched;
+    pub fn fir_where(
+        image: *const u8,
+        image_length: usize,
+        table: *const u8,
+        table_length: usize,
+        state: *const State,
+    ) -> FirPosition;
 }

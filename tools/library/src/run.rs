@@ -1,9 +1,10 @@
-//! A run: its state, and the image that it goes on under.
+//! A run: its state, and the program that it goes on under.
 
 #![allow(unsafe_code)] // The library is called across a C boundary.
 
 use crate::answers::{Held, Position, Ran, Refusal, Said, Search};
 use crate::constants::{FIR_FACTORY, FIR_PORTAL, FIR_STAFF};
+use crate::program::Program;
 use crate::raw;
 use crate::state::{assert_layout, State};
 use std::borrow::Cow;
@@ -24,81 +25,64 @@ pub struct Entry {
     pub version: usize,
 }
 
-/// A run: its state, and the image in force, borrowed or owned. Steps and
-/// budgets go by that image, and [`Run::change`] alone puts another in its place.
+/// A run: its state, and the program in force, borrowed or owned. Steps and budgets go
+/// by that program, and [`Run::change`] alone puts another in its place.
 #[derive(Clone)]
-pub struct Run<'i> {
-    image: Cow<'i, [u8]>,
+pub struct Run<'p> {
+    program: Cow<'p, Program>,
     state: State,
 }
 
-impl<'i> Run<'i> {
+impl<'p> Run<'p> {
     /// Begins a run at a level. The buffer is asked for its length only. Nothing of
     /// the level is kept: no version above it is ever entered, and at each higher
     /// level the run is the same.
     pub fn begin(
-        image: impl Into<Cow<'i, [u8]>>,
+        program: impl Into<Cow<'p, Program>>,
         level: usize,
         entry: Entry,
         words: &[i64],
         buffer: &[i64],
-    ) -> Result<Run<'i>, Refusal> {
-        let mut run = Run {
-            image: Cow::Borrowed(&[]),
-            state: State::blank(),
-        };
-        run.restart(image, level, entry, words, buffer)?;
-        Ok(run)
+    ) -> Result<Run<'p>, Refusal> {
+        let mut state = State::blank();
+        let program = program.into();
+        begin_in(&mut state, &program, level, entry, words, buffer)?;
+        Ok(Run { program, state })
     }
 
-    /// Goes on from a stored state. The caller owes the image that was in force
-    /// when the state was stored, byte for byte: nothing in the state names it,
-    /// and nothing can test it. Under another image every call still answers and
+    /// Goes on from a stored state. The caller owes the program of the image that was
+    /// in force when the state was stored, byte for byte: nothing in the state names
+    /// it, and nothing can test it. Under another one every call still answers and
     /// keeps to its memory, but nothing that is promised of a begun run holds.
-    pub fn load_with_its_own_image(state: State, image: impl Into<Cow<'i, [u8]>>) -> Run<'i> {
-        let image = image.into();
-        Run { image, state }
+    pub fn resume_with_its_own_program(
+        state: State,
+        program: impl Into<Cow<'p, Program>>,
+    ) -> Run<'p> {
+        let program = program.into();
+        Run { program, state }
     }
 
     /// Begins another run in place of this one, which stays as it was, under its
-    /// image, where the other is refused.
+    /// program, where the other is refused.
     pub fn restart(
         &mut self,
-        image: impl Into<Cow<'i, [u8]>>,
+        program: impl Into<Cow<'p, Program>>,
         level: usize,
         entry: Entry,
         words: &[i64],
         buffer: &[i64],
     ) -> Result<(), Refusal> {
-        assert_layout();
-        let image = image.into();
-        // SAFETY: the slices lend what their lengths say and the state is one
-        // of the library's layout; it alone is written, and `&mut` shares it
-        // with none of them.
-        let begun = unsafe {
-            raw::fir_begin(
-                image.as_ptr(),
-                image.len(),
-                level,
-                entry.function,
-                entry.version,
-                words.as_ptr(),
-                words.len(),
-                buffer.as_ptr(),
-                buffer.len(),
-                &mut self.state,
-            )
-        };
-        Result::from(begun)?;
-        self.image = image;
+        let program = program.into();
+        begin_in(&mut self.state, &program, level, entry, words, buffer)?;
+        self.program = program;
         Ok(())
     }
 
     /// Begins another run in place of this one and takes at most so many steps;
-    /// this one stays as it was, under its image, where the other is refused.
+    /// this one stays as it was, under its program, where the other is refused.
     pub fn rerun(
         &mut self,
-        image: impl Into<Cow<'i, [u8]>>,
+        program: impl Into<Cow<'p, Program>>,
         level: usize,
         entry: Entry,
         words: &[i64],
@@ -106,13 +90,16 @@ impl<'i> Run<'i> {
         buffer: &mut [i64],
     ) -> Ran {
         assert_layout();
-        let image = image.into();
-        // SAFETY: as in `restart`; the buffer, which is written too, is lent by
-        // a `&mut` of its own.
+        let program = program.into();
+        let (image, table) = (program.image(), program.table());
+        // SAFETY: as in `begin_in`; the buffer, which is written too, is lent by a
+        // `&mut` of its own.
         let ran = unsafe {
             raw::fir_run(
                 image.as_ptr(),
                 image.len(),
+                table.as_ptr(),
+                table.len(),
                 level,
                 entry.function,
                 entry.version,
@@ -126,7 +113,7 @@ impl<'i> Run<'i> {
         };
         let ran = Ran::from(ran);
         if !ran.is_refused() {
-            self.image = image;
+            self.program = program;
         }
         ran
     }
@@ -134,22 +121,26 @@ impl<'i> Run<'i> {
     /// Takes a single step.
     pub fn step(&mut self) -> Said {
         assert_layout();
-        let (image, state) = (&self.image[..], &mut self.state);
-        // SAFETY: as in `restart`.
-        unsafe { raw::fir_step(image.as_ptr(), image.len(), state) }.into()
+        let (image, table) = (self.program.image(), self.program.table());
+        let (bytes, places) = (image.len(), table.len());
+        let state = &mut self.state;
+        // SAFETY: as in `begin_in`.
+        unsafe { raw::fir_step(image.as_ptr(), bytes, table.as_ptr(), places, state) }.into()
     }
 
     /// Takes at most so many steps. A vector that the run is DONE with is
     /// written to the buffer from place 0 on; all else in the buffer stays.
     pub fn budget(&mut self, budget: u32, buffer: &mut [i64]) -> Ran {
         assert_layout();
-        let (image, state) = (&self.image[..], &mut self.state);
+        let (image, table) = (self.program.image(), self.program.table());
         // SAFETY: as in `rerun`.
         let ran = unsafe {
             raw::fir_budget(
                 image.as_ptr(),
                 image.len(),
-                state,
+                table.as_ptr(),
+                table.len(),
+                &mut self.state,
                 budget,
                 buffer.as_mut_ptr(),
                 buffer.len(),
@@ -158,24 +149,30 @@ impl<'i> Run<'i> {
         ran.into()
     }
 
-    /// Goes on under a new image; where that is refused, under the old one. The
-    /// state is the same either way.
-    pub fn change(&mut self, image: impl Into<Cow<'i, [u8]>>) -> Result<(), Refusal> {
+    /// May the run go on under the program of this image?
+    pub fn may_change(&self, image: &[u8]) -> Result<(), Refusal> {
         assert_layout();
-        let (old, new) = (&self.image[..], image.into());
+        let old = self.program.image();
         // SAFETY: the slices lend what their lengths say and the state is one
         // of the library's layout; all three are only read.
         let changed = unsafe {
             raw::fir_change(
                 old.as_ptr(),
                 old.len(),
-                new.as_ptr(),
-                new.len(),
+                image.as_ptr(),
+                image.len(),
                 &self.state,
             )
         };
-        Result::from(changed)?;
-        self.image = new;
+        changed.into()
+    }
+
+    /// Goes on under a new program; where its image is refused, under the old one.
+    /// The state is the same either way.
+    pub fn change(&mut self, program: impl Into<Cow<'p, Program>>) -> Result<(), Refusal> {
+        let program = program.into();
+        self.may_change(program.image())?;
+        self.program = program;
         Ok(())
     }
 
@@ -185,19 +182,23 @@ impl<'i> Run<'i> {
     /// stands nowhere.
     pub fn search(&self) -> Option<Search> {
         assert_layout();
-        let image = &self.image[..];
-        // SAFETY: the slice lends what its length says and the state is one of
-        // the library's layout; both are only read.
-        unsafe { raw::fir_search(image.as_ptr(), image.len(), &self.state) }.into()
+        let (image, table) = (self.program.image(), self.program.table());
+        let (bytes, places) = (image.len(), table.len());
+        let state = &self.state;
+        // SAFETY: the slices lend what their lengths say and the state is one of
+        // the library's layout; all three are only read.
+        unsafe { raw::fir_search(image.as_ptr(), bytes, table.as_ptr(), places, state) }.into()
     }
 
     /// Where the run stands, ended or not: at what its next step executes, and after
     /// UNDEF, DEEP, VECTORS or PROMISES at what made it. None where it is DONE.
     pub fn position(&self) -> Option<Position> {
         assert_layout();
-        let image = &self.image[..];
+        let (image, table) = (self.program.image(), self.program.table());
+        let (bytes, places) = (image.len(), table.len());
+        let state = &self.state;
         // SAFETY: as in `search`.
-        unsafe { raw::fir_where(image.as_ptr(), image.len(), &self.state) }.into()
+        unsafe { raw::fir_where(image.as_ptr(), bytes, table.as_ptr(), places, state) }.into()
     }
 
     /// What a place of a live call holds: registers are the places 0 to 15,
@@ -212,8 +213,45 @@ impl<'i> Run<'i> {
         &self.state
     }
 
+    /// The program in force.
+    pub fn program(&self) -> &Program {
+        &self.program
+    }
+
     /// The image in force.
     pub fn image(&self) -> &[u8] {
-        &self.image
+        self.program.image()
     }
+}
+
+/// Begins a run of a program in a state, which stays as it was where it is refused.
+fn begin_in(
+    state: &mut State,
+    program: &Program,
+    level: usize,
+    entry: Entry,
+    words: &[i64],
+    buffer: &[i64],
+) -> Result<(), Refusal> {
+    assert_layout();
+    let (image, table) = (program.image(), program.table());
+    // SAFETY: the slices lend what their lengths say and the state is one of the
+    // library's layout; it alone is written, and `&mut` shares it with none of them.
+    let begun = unsafe {
+        raw::fir_begin(
+            image.as_ptr(),
+            image.len(),
+            table.as_ptr(),
+            table.len(),
+            level,
+            entry.function,
+            entry.version,
+            words.as_ptr(),
+            words.len(),
+            buffer.as_ptr(),
+            buffer.len(),
+            state,
+        )
+    };
+    begun.into()
 }

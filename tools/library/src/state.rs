@@ -5,19 +5,22 @@
 use crate::answers::Held;
 use crate::constants::{
     FIR_ACTIVATIONS, FIR_INTERFACE, FIR_ITEMS, FIR_NAMES, FIR_PLACES, FIR_REGISTERS,
-    FIR_STATE_LAYOUT,
+    FIR_STATE_LAYOUT, FIR_STRIDE,
 };
 use crate::raw;
 use std::sync::Once;
 
 /// The registers and names of a call.
 pub const CELLS: usize = FIR_REGISTERS + FIR_NAMES;
-/// The numbers of a call in [`State::owners`].
-pub const OWNER: usize = 2;
-/// The numbers of an activation in [`State::stack`].
-pub const ACTIVATION: usize = 6;
-/// The numbers of a promise in [`State::promises`].
-pub const PROMISE: usize = 3;
+/// Where the function of a call stands among its places in [`State::tags`]; its version
+/// stands behind it.
+pub const OWNER: usize = CELLS;
+/// The numbers of an activation in [`State::stack`], of which two are spare.
+pub const ACTIVATION: usize = 8;
+/// The numbers of a promise in [`State::promises`], of which one is spare.
+pub const PROMISE: usize = 4;
+/// The spare bytes at the end of a state.
+pub const SPARE: usize = 4;
 
 /// The state of a run: numbers alone, field for field the `fir_state` of
 /// `fir.h`, which says what they mean. Every content is allowed. A state does
@@ -26,23 +29,25 @@ pub const PROMISE: usize = 3;
 #[derive(Clone, PartialEq, Eq)]
 pub struct State {
     /// The integers of the cells.
-    pub numbers: [i64; FIR_ACTIVATIONS * CELLS],
+    pub numbers: [i64; FIR_ACTIVATIONS * FIR_STRIDE],
     /// 16 items of each vector.
     pub items: [i64; FIR_PLACES * FIR_ITEMS],
     /// The integer of each promise that was forced.
     pub caches: [i64; FIR_PLACES],
     /// The items of a vector that the run is DONE with.
     pub result: [i64; FIR_ITEMS],
-    /// The codes of the cells.
-    pub codes: [u16; FIR_ACTIVATIONS * CELLS],
-    /// Of each call: its function and its version.
-    pub owners: [u8; FIR_ACTIVATIONS * OWNER],
-    /// Of each activation: 0 call or 1 force, the promise, d, its call, block, next instruction.
+    /// The integer that the run is DONE with.
+    pub value: i64,
+    /// The tags of the cells, and behind them the function and the version of the call.
+    pub tags: [u8; FIR_ACTIVATIONS * FIR_STRIDE],
+    /// The places that the cells refer to.
+    pub places: [u8; FIR_ACTIVATIONS * FIR_STRIDE],
+    /// Of each activation: 0 call, else force, the promise, d, its call, block, next instruction.
     pub stack: [u8; FIR_ACTIVATIONS * ACTIVATION],
+    /// Of each promise: its call, its block, 0 where it was not forced.
+    pub promises: [u8; FIR_PLACES * PROMISE],
     /// Of each vector.
     pub lengths: [u8; FIR_PLACES],
-    /// Of each promise: its call, its block, 1 where it was forced.
-    pub promises: [u8; FIR_PLACES * PROMISE],
     /// How many calls are live.
     pub calls: u8,
     /// How many activations are live.
@@ -51,28 +56,35 @@ pub struct State {
     pub status: u8,
     /// Of the vector that the run is DONE with.
     pub length: u8,
-    /// The integer that the run is DONE with.
-    pub value: i64,
+    /// For nothing.
+    pub spare: [u8; SPARE],
 }
 
 impl State {
     /// A state without calls: that of no run.
     pub fn blank() -> State {
+        State::filled(0)
+    }
+
+    /// A state of this byte alone.
+    pub fn filled(byte: u8) -> State {
+        let number = i64::from_le_bytes([byte; 8]);
         State {
-            numbers: [0; FIR_ACTIVATIONS * CELLS],
-            items: [0; FIR_PLACES * FIR_ITEMS],
-            caches: [0; FIR_PLACES],
-            result: [0; FIR_ITEMS],
-            codes: [0; FIR_ACTIVATIONS * CELLS],
-            owners: [0; FIR_ACTIVATIONS * OWNER],
-            stack: [0; FIR_ACTIVATIONS * ACTIVATION],
-            lengths: [0; FIR_PLACES],
-            promises: [0; FIR_PLACES * PROMISE],
-            calls: 0,
-            depth: 0,
-            status: 0,
-            length: 0,
-            value: 0,
+            numbers: [number; FIR_ACTIVATIONS * FIR_STRIDE],
+            items: [number; FIR_PLACES * FIR_ITEMS],
+            caches: [number; FIR_PLACES],
+            result: [number; FIR_ITEMS],
+            value: number,
+            tags: [byte; FIR_ACTIVATIONS * FIR_STRIDE],
+            places: [byte; FIR_ACTIVATIONS * FIR_STRIDE],
+            stack: [byte; FIR_ACTIVATIONS * ACTIVATION],
+            promises: [byte; FIR_PLACES * PROMISE],
+            lengths: [byte; FIR_PLACES],
+            calls: byte,
+            depth: byte,
+            status: byte,
+            length: byte,
+            spare: [byte; SPARE],
         }
     }
 

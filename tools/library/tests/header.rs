@@ -13,9 +13,9 @@ use std::process::Command;
 const HEADER: &str = concat!(env!("CARGO_MANIFEST_DIR"), "/../../include/fir.h");
 
 /// The fields of a state, in order.
-const FIELDS: [&str; 14] = [
-    "numbers", "items", "caches", "result", "codes", "owners", "stack", "lengths", "promises",
-    "calls", "depth", "status", "length", "value",
+const FIELDS: [&str; 15] = [
+    "numbers", "items", "caches", "result", "value", "tags", "places", "stack", "promises",
+    "lengths", "calls", "depth", "status", "length", "spare",
 ];
 
 /// A name and its number in Rust.
@@ -41,6 +41,7 @@ fn bounds_and_questions() -> Vec<(&'static str, usize)> {
         FIR_ACTIVATIONS,
         FIR_ITEMS,
         FIR_PLACES,
+        FIR_STRIDE,
         FIR_PORTAL,
         FIR_STAFF,
         FIR_FACTORY,
@@ -86,6 +87,8 @@ fn constants() -> Vec<(&'static str, usize)> {
         FIR_PROMISES,
         FIR_STUCK,
         FIR_REFUSED,
+        FIR_LOADED,
+        FIR_SHORT,
         FIR_NOTHING,
         FIR_IS_INTEGER,
         FIR_IS_VECTOR,
@@ -165,8 +168,8 @@ fn the_fields_of_a_state_stand_where_c_puts_them() {
     let found = printed(&field_statements());
     let state = State::blank();
     let own = placed!(
-        state, numbers, items, caches, result, codes, owners, stack, lengths, promises, calls,
-        depth, status, length, value
+        state, numbers, items, caches, result, value, tags, places, stack, promises, lengths,
+        calls, depth, status, length, spare
     );
     assert_eq!(own.map(|(field, ..)| field), FIELDS);
     for (field, offset, size) in own {
@@ -184,6 +187,20 @@ fn a_state_has_the_size_and_alignment_that_c_gives_it() {
     );
     assert_eq!(found["size"], size_of::<State>());
     assert_eq!(found["alignment"], align_of::<State>());
+}
+
+#[test]
+fn a_table_has_the_bytes_that_c_gives_it() {
+    let lengths = [0, 5, 6, 23, 32_767, 32_768];
+    let statement = |length| format!("SAY(\"{length}\", FIR_TABLE_BYTES({length}));\n");
+    let found = printed(&lengths.map(statement).concat());
+    for length in lengths {
+        let bytes = found[&length.to_string()];
+        assert_eq!(bytes, library::table_size(length), "{length}");
+    }
+    assert_eq!(found["32768"], 45_992);
+    assert_eq!(library::table_size(32_769), 45_992);
+    assert_eq!(library::table_size(usize::MAX), 45_992);
 }
 
 #[test]

@@ -1,6 +1,6 @@
 -- `abi::fir_look` meets its contract: a walk of its MIR, by hand. A `&` to each field that is read is made of the `&` to the state, and `parts::look` is called with them.
 -- Assumes nothing.
-use mathlib.Core.Path.{_≡_, refl, _∙_}
+use mathlib.Core.Path.{_≡_, refl}
 use Prim.Native.Nat.{ℕ, _+_, _<_, _^_}
 use mathlib.Core.List.{[], _∷_, List}
 use lib.IntN.{ℤ}
@@ -15,14 +15,14 @@ use prog.Wp.{Heap, Calls, Loops, WpFn, Tables}
 use ghost.Atoms.{Atoms, sem}
 use contract.Monad.{Fun, fact}
 use contract.Running.{givenOf, tables, tablesOf}
-use types.Kit.{Given, Item, ‵, raw, some, later, _⊛_, ⋆, _$_, _∵_, !, qed, by, move, keep, use1, use2, use3, split, join, pick, fsplit, fjoin, suffices, frame, await, done}
+use types.Kit.{Given, Item, ‵, raw, some, later, _⊛_, ⋆, _$_, _∵_, !, qed, by, move, keep, use1, use2, split, join, pick, fsplit, fjoin, suffices, frame, await, done}
 use types.Run.{look, init, forget, stop, hop, fld, from, load, addr, and-then, no-more, assigns, land, returns, enter, alloc1, alloc0, params1, pass1, pass0, free1, free0}
 use sound.WpLaws.{FmC, fmOf, WpFn-mono}
 use denote.RattleType.{owns}
 use denote.Array.{Array}
 use denote.Laws.{Is, shows}
 use denote.Plain.{uint-vals, uint-tells, uint-makes}
-use denote.Builtin.{u8, u16, i64, usize}
+use denote.Builtin.{u8, i64, usize}
 use denote.Ref.{RefT, ShrRef, ptr-vals, shr-tells, shr-copy}
 use denote.Signature.{plain}
 use denote.Steps.{owned, peeks, heard, nothing}
@@ -35,15 +35,17 @@ use denote.Triple.Clauses.{ensured, lasts}
 use denote.Triple.Table.{entered, cited}
 use denote.Triple.Walked.{says, Stays, stay-none, stay-none-ref, walkOf, AllGo, goes-none, goes-none-ref, Walks, ends-at, walked, walk-meets}
 use denote.Exit.{yes}
-use Rattle.snapshots.specs.Held.{held}
-use Rattle.snapshots.specs.declared.Snapshot.{Snapshot}
-use Rattle.snapshots.proofs.Snapshot as T
-use Rattle.abi.specs.Looks.{lookIn, lookOf}
+use Rattle.machine.specs.Frames.{readOf}
+use Rattle.whereabouts.specs.Looks.{lookOf}
+use Rattle.abi.specs.Held.{held}
+use Rattle.abi.specs.Looks.{readNumbers}
+use Rattle.abi.specs.declared.state.FirState.{FirState}
+use Rattle.abi.proofs.state.FirState as T
 use Rattle.abi.specs.declared.answers.FirValue.{FirValue}
 use Rattle.abi.proofs.answers.FirValue as R
 use Rattle.abi.proofs.answers.FirValue.Laws as R′
-use Rattle.abi.proofs.Looking.{look-is}
-use Rattle.abi.proofs.Seen.{sees-calls, sees-codes, sees-numbers, numbers-place, codes-place, calls-place}
+use Rattle.abi.proofs.Lent.{numbers-place, bytes-place}
+use Rattle.abi.proofs.Seen.{sees-bytes, sees-numbers}
 use Rattle.abi.proofs.parts.look as g
 use Rattle.abi.proofs.parts.look.Symbol as g-def
 use Rattle.abi.proofs.parts.look.Symbol.{name as #g}
@@ -60,8 +62,8 @@ stayed = (stay-none-ref (0 ∷ []) tt (plain (λ _. T.the-row)) yes, (stay-none 
 abbrev G : {M : Type 1} (𝓤 : URA M) (H : Heap 𝓤) (A : Atoms 𝓤) (at-mem : Memory → SProp 𝓤) (run : Routine → Fun 𝓤) → Contract 𝓤
 G 𝓤 H A at-mem run = tripleOf 𝓤 H A g.signature (g.spec 𝓤 H A at-mem run)
 
-module _ {M : Type 1} (𝓤 : URA M) (H : Heap 𝓤) (A : Atoms 𝓤) (W : Given 𝓤 H A) (at-mem : Memory → SProp 𝓤) (run : Routine → Fun 𝓤) (κ : Lft) (q : Share) (b o : ℕ) (γ : GName) (h : Snapshot) (k i : ℕ) (k-fits : k < 2 ^ 64) (i-fits : i < 2 ^ 64) where
-  abbrev x : RefT Snapshot × (ℕ × (ℕ × Unit {0}))
+module _ {M : Type 1} (𝓤 : URA M) (H : Heap 𝓤) (A : Atoms 𝓤) (W : Given 𝓤 H A) (at-mem : Memory → SProp 𝓤) (run : Routine → Fun 𝓤) (κ : Lft) (q : Share) (b o : ℕ) (γ : GName) (h : FirState) (k i : ℕ) (k-fits : k < 2 ^ 64) (i-fits : i < 2 ^ 64) where
+  abbrev x : RefT FirState × (ℕ × (ℕ × Unit {0}))
   x = (record { ptr = (b, o); name = γ; now = h }, (k, (i, tt)))
 
   abbrev at : List Val × (List Val × (List Val × Unit {0}))
@@ -76,7 +78,7 @@ module _ {M : Type 1} (𝓤 : URA M) (H : Heap 𝓤) (A : Atoms 𝓤) (W : Given
   abbrev state : Item 𝓤
   state = ‵ (ShrRef (named 0) κ T.the-row .own (record { ptr = (b, o); name = γ; now = h }) (vptr b o ∷ []))
 
-  exits : (r : FirValue) (v : Val) → r ≡ lookOf (held h) k i → ent 𝓤 (⋆ 𝓤 H A (‵ (R.the-row .own r (v ∷ [])) ∷ state ∷ ‵ (flft κ q) ∷ [])) (Post v)
+  exits : (r : FirValue) (v : Val) → r ≡ readNumbers (readOf (lookOf (held h) k i)) → ent 𝓤 (⋆ 𝓤 H A (‵ (R.the-row .own r (v ∷ [])) ∷ state ∷ ‵ (flft κ q) ∷ [])) (Post v)
   exits r v e =
       qed W (‵ (R.the-row .own r (v ∷ [])) ∷ state ∷ ‵ (flft κ q) ∷ []) ∵
       suffices ! _ (ends-at 𝓤 H A f.ended stayed (f.clauses 𝓤 H A at-mem run) W Bound v r (tt, (tt, (tt, tt))) (tt, (tt, (tt, tt)))) $ says ! e $
@@ -84,40 +86,37 @@ module _ {M : Type 1} (𝓤 : URA M) (H : Heap 𝓤) (A : Atoms 𝓤) (W : Given
       move ! (2 ∷ 0 ∷ []) $ fjoin ! $ frame ! $ done !
 
   -- the references to the fields, under their names
-  abbrev codes : GName → RefT (List ℕ)
-  codes δ = record { ptr = (b, o + codes-place); name = δ; now = h .codes }
+  abbrev bytes : GName → RefT (List ℕ)
+  bytes δ = record { ptr = (b, o + bytes-place); name = δ; now = h .bytes }
 
   abbrev numbers : GName → RefT (List ℤ)
   numbers δ = record { ptr = (b, o + numbers-place); name = δ; now = h .numbers }
 
-  abbrev calls : GName → RefT ℕ
-  calls δ = record { ptr = (b, o + calls-place); name = δ; now = h .calls }
-
-  abbrev codes-owned : GName → Item 𝓤
-  codes-owned δ = ‵ (ShrRef (named 0) κ (Array u16 768) .own (codes δ) (vptr b (o + codes-place) ∷ []))
+  abbrev bytes-owned : GName → Item 𝓤
+  bytes-owned δ = ‵ (ShrRef (named 0) κ (Array u8 2632) .own (bytes δ) (vptr b (o + bytes-place) ∷ []))
 
   abbrev numbers-owned : GName → Item 𝓤
-  numbers-owned δ = ‵ (ShrRef (named 0) κ (Array i64 768) .own (numbers δ) (vptr b (o + numbers-place) ∷ []))
-
-  abbrev calls-owned : GName → Item 𝓤
-  calls-owned δ = ‵ (ShrRef (named 0) κ u8 .own (calls δ) (vptr b (o + calls-place) ∷ []))
+  numbers-owned δ = ‵ (ShrRef (named 0) κ (Array i64 2129) .own (numbers δ) (vptr b (o + numbers-place) ∷ []))
 
   -- what the triple of `parts::look` binds outside, and what it asks
-  abbrev y : GName → GName → GName → Args g.signature (κ, tt)
-  y γ₁ γ₂ γ₃ = (codes γ₁, (numbers γ₂, (calls γ₃, (k, (i, tt)))))
+  abbrev y : GName → GName → Args g.signature (κ, tt)
+  y γ₁ γ₂ = (bytes γ₁, (numbers γ₂, (k, (i, tt))))
 
-  abbrev to-g : GName → GName → GName → G 𝓤 H A at-mem run .Ghost
-  to-g γ₁ γ₂ γ₃ = (((κ, tt), (q, tt), tt, y γ₁ γ₂ γ₃, (vptr b (o + codes-place) ∷ [], (vptr b (o + numbers-place) ∷ [], (vptr b (o + calls-place) ∷ [], (vint w64 k ∷ [], (vint w64 i ∷ [], tt)))))), tt)
+  abbrev to-g : GName → GName → G 𝓤 H A at-mem run .Ghost
+  to-g γ₁ γ₂ = (((κ, tt), (q, tt), tt, y γ₁ γ₂, (vptr b (o + bytes-place) ∷ [], (vptr b (o + numbers-place) ∷ [], (vint w64 k ∷ [], (vint w64 i ∷ [], tt))))), tt)
 
-  goes-g : (γ₁ γ₂ γ₃ : GName) → ent 𝓤 (⋆ 𝓤 H A ((‵ (flft κ q) ⊛ calls-owned γ₃) ∷ numbers-owned γ₂ ∷ codes-owned γ₁ ∷ [])) (G 𝓤 H A at-mem run .pre (to-g γ₁ γ₂ γ₃))
-  goes-g γ₁ γ₂ γ₃ =
-      qed W ((‵ (flft κ q) ⊛ calls-owned γ₃) ∷ numbers-owned γ₂ ∷ codes-owned γ₁ ∷ []) ∵ split ! $ nothing ! $ move ! (1 ∷ 0 ∷ []) $ join ! $
+  goes-g : (γ₁ γ₂ : GName) → ent 𝓤 (⋆ 𝓤 H A ((‵ (flft κ q) ⊛ numbers-owned γ₂) ∷ bytes-owned γ₁ ∷ [])) (G 𝓤 H A at-mem run .pre (to-g γ₁ γ₂))
+  goes-g γ₁ γ₂ =
+      qed W ((‵ (flft κ q) ⊛ numbers-owned γ₂) ∷ bytes-owned γ₁ ∷ []) ∵ split ! $ nothing ! $ move ! (1 ∷ 0 ∷ []) $ join ! $
       nothing ! $ owned ! usize (Is usize) (uint-makes 𝓤 H A W w64) i _ (refl, i-fits) $ fjoin ! $ owned ! usize (Is usize) (uint-makes 𝓤 H A W w64) k _ (refl, k-fits) $ fjoin ! $
-      move ! (2 ∷ 0 ∷ []) $ fjoin ! $ move ! (2 ∷ 0 ∷ []) $ fjoin ! $ move ! (2 ∷ 0 ∷ []) $ fjoin ! $ move ! (1 ∷ 0 ∷ []) $ join ! $ frame ! $ done !
+      move ! (2 ∷ 0 ∷ []) $ fjoin ! $ move ! (2 ∷ 0 ∷ []) $ fjoin ! $ move ! (1 ∷ 0 ∷ []) $ join ! $ frame ! $ done !
 
   -- what it says
-  clause : (γ₁ γ₂ γ₃ : GName) (r : FirValue) → ent 𝓤 (ensured 𝓤 H A g.ended (g.clauses 𝓤 H A at-mem run) (κ, tt) (y γ₁ γ₂ γ₃) tt r) (fact 𝓤 (r ≡ lookIn (h .codes) (h .numbers) (h .calls) k i))
-  clause γ₁ γ₂ γ₃ r = exE 𝓤 _ (λ ws. snd∗ 𝓤 (sem 𝓤 H A (lasts g.ended (κ, tt) (y γ₁ γ₂ γ₃) ws)) (fact 𝓤 (r ≡ lookIn (h .codes) (h .numbers) (h .calls) k i)))
+  abbrev Said : FirValue → Type 0
+  Said r = r ≡ readNumbers (readOf (lookOf (held h) k i))
+
+  clause : (γ₁ γ₂ : GName) (r : FirValue) → ent 𝓤 (ensured 𝓤 H A g.ended (g.clauses 𝓤 H A at-mem run) (κ, tt) (y γ₁ γ₂) tt r) (fact 𝓤 (Said r))
+  clause γ₁ γ₂ r = exE 𝓤 _ (λ ws. snd∗ 𝓤 (sem 𝓤 H A (lasts g.ended (κ, tt) (y γ₁ γ₂) ws)) (fact 𝓤 (Said r)))
 
   -- the state's reference is had once more
   twice : ent 𝓤 (sem 𝓤 H A (ShrRef (named 0) κ T.the-row .own (record { ptr = (b, o); name = γ; now = h }) (vptr b o ∷ [])))
@@ -131,29 +130,27 @@ module _ {M : Type 1} (𝓤 : URA M) (H : Heap 𝓤) (A : Atoms 𝓤) (W : Given
         split ! $ move ! (2 ∷ []) $ fsplit ! $ keep ! (0 ∷ 2 ∷ []) $
         -- [the state; its token]
         enter ! C Λ code.function (vptr b o ∷ vint w64 k ∷ vint w64 i ∷ []) _ $
-        alloc1 ! (λ l₀. alloc1 ! (λ l₁. alloc1 ! (λ l₂. alloc1 ! (λ l₃. alloc1 ! (λ l₄. alloc1 ! (λ l₅. alloc1 ! (λ l₆. alloc0 ! $ params1 ! $
-        pass1 ! (init ! 10 refl (tt, tt)) $ pass1 ! (init ! 8 refl (tt, record { fits = k-fits })) $ pass1 ! (init ! 6 refl (tt, record { fits = i-fits })) $ pass0 ! $
+        alloc1 ! (λ l₀. alloc1 ! (λ l₁. alloc1 ! (λ l₂. alloc1 ! (λ l₃. alloc1 ! (λ l₄. alloc1 ! (λ l₅. alloc0 ! $ params1 ! $
+        pass1 ! (init ! 8 refl (tt, tt)) $ pass1 ! (init ! 6 refl (tt, record { fits = k-fits })) $ pass1 ! (init ! 4 refl (tt, record { fits = i-fits })) $ pass0 ! $
         -- the fields' addresses
-        assigns ! (addr ! (from ! (hop ! (look ! 10 refl) (fld ! refl (stop !))))) (from ! (stop !)) (init ! 4 refl (tt, tt)) $
-        assigns ! (addr ! (from ! (hop ! (look ! 10 refl) (fld ! refl (stop !))))) (from ! (stop !)) (init ! 2 refl (tt, tt)) $
-        assigns ! (addr ! (from ! (hop ! (look ! 10 refl) (fld ! refl (stop !))))) (from ! (stop !)) (init ! 0 refl (tt, tt)) $
-        -- [_6; …; _0 (12); …; the state (14); its token]: a reference to each field
-        move ! (14 ∷ []) $ use1 W (state ⊛ state) twice $ split ! $ move ! (1 ∷ []) $ use1 W (state ⊛ state) twice $ split ! $ move ! (1 ∷ []) $ use1 W (state ⊛ state) twice $ split ! $
-        move ! (0 ∷ 18 ∷ []) $ use2 W (later (some (λ (γ₁ : GName). codes-owned γ₁ ⊛ ‵ (flft κ q)))) (sees-codes 𝓤 H A W (named 0) κ q b o γ h) $ await ! tt $ pick ! (λ γ₁. split ! $
+        assigns ! (addr ! (from ! (hop ! (look ! 8 refl) (fld ! refl (stop !))))) (from ! (stop !)) (init ! 2 refl (tt, tt)) $
+        assigns ! (addr ! (from ! (hop ! (look ! 8 refl) (fld ! refl (stop !))))) (from ! (stop !)) (init ! 0 refl (tt, tt)) $
+        -- [_5; …; _0 (10); …; the state (12); its token]: a reference to each field
+        move ! (12 ∷ []) $ use1 W (state ⊛ state) twice $ split ! $ use1 W (state ⊛ state) twice $ split ! $
+        move ! (0 ∷ 15 ∷ []) $ use2 W (later (some (λ (γ₁ : GName). bytes-owned γ₁ ⊛ ‵ (flft κ q)))) (sees-bytes 𝓤 H A W (named 0) κ q b o γ h) $ await ! tt $ pick ! (λ γ₁. split ! $
         move ! (2 ∷ 1 ∷ []) $ use2 W (later (some (λ (γ₂ : GName). numbers-owned γ₂ ⊛ ‵ (flft κ q)))) (sees-numbers 𝓤 H A W (named 0) κ q b o γ h) $ await ! tt $ pick ! (λ γ₂. split ! $
-        move ! (3 ∷ 1 ∷ []) $ use2 W (later (some (λ (γ₃ : GName). calls-owned γ₃ ⊛ ‵ (flft κ q)))) (sees-calls 𝓤 H A W (named 0) κ q b o γ h) $ await ! tt $ pick ! (λ γ₃. split ! $
-        -- [calls; the token; numbers; codes; the state; _6 (5); …]
-        move ! (1 ∷ 0 ∷ []) $ join ! $ use3 W (raw (G 𝓤 H A at-mem run .pre (to-g γ₁ γ₂ γ₃))) (goes-g γ₁ γ₂ γ₃) $
-        -- [what `parts::look` asks; the state; _6 (2); …]
-        calls-at ! fm (G 𝓤 H A at-mem run) known (to-g γ₁ γ₂ γ₃) (and-then ! (load ! (from ! (stop !)) (look ! 6 refl)) (and-then ! (load ! (from ! (stop !)) (look ! 4 refl)) (and-then ! (load ! (from ! (stop !)) (look ! 2 refl)) (and-then ! (load ! (from ! (stop !)) (look ! 10 refl)) (and-then ! (load ! (from ! (stop !)) (look ! 8 refl)) (no-more !)))))) (λ v.
-        use1 W (later (some (λ (r : FirValue). ((‵ (flft κ q) ⊛ ‵ ftrue) ⊛ ‵ (R.the-row .own r (v ∷ []))) ⊛ raw (ensured 𝓤 H A g.ended (g.clauses 𝓤 H A at-mem run) (κ, tt) (y γ₁ γ₂ γ₃) tt r)))) (id⊢ 𝓤 _) $ await ! tt $ pick ! (λ r.
-        split ! $ move ! (1 ∷ []) $ use1 W (raw (fact 𝓤 (r ≡ lookIn (h .codes) (h .numbers) (h .calls) k i))) (clause γ₁ γ₂ γ₃ r) $ heard ! (r ≡ lookIn (h .codes) (h .numbers) (h .calls) k i) (λ e.
+        -- [the numbers; the token; the bytes; the state; _5 (4); …]
+        move ! (1 ∷ 0 ∷ []) $ join ! $ use2 W (raw (G 𝓤 H A at-mem run .pre (to-g γ₁ γ₂))) (goes-g γ₁ γ₂) $
+        -- [what `parts::look` asks; the state; _5 (2); …]
+        calls-at ! fm (G 𝓤 H A at-mem run) known (to-g γ₁ γ₂) (and-then ! (load ! (from ! (stop !)) (look ! 4 refl)) (and-then ! (load ! (from ! (stop !)) (look ! 2 refl)) (and-then ! (load ! (from ! (stop !)) (look ! 8 refl)) (and-then ! (load ! (from ! (stop !)) (look ! 6 refl)) (no-more !))))) (λ v.
+        use1 W (later (some (λ (r : FirValue). ((‵ (flft κ q) ⊛ ‵ ftrue) ⊛ ‵ (R.the-row .own r (v ∷ []))) ⊛ raw (ensured 𝓤 H A g.ended (g.clauses 𝓤 H A at-mem run) (κ, tt) (y γ₁ γ₂) tt r)))) (id⊢ 𝓤 _) $ await ! tt $ pick ! (λ r.
+        split ! $ move ! (1 ∷ []) $ use1 W (raw (fact 𝓤 (Said r))) (clause γ₁ γ₂ r) $ heard ! (Said r) (λ e.
         split ! $ split ! $ move ! (2 ∷ []) $ peeks ! R.the-row (Is R.the-row) (shows 𝓤 H A R.the-row) r (v ∷ []) (λ is.
-        -- [the answer; the token; true; the state; _6 (4); …; _0 (16); …]
-        land ! (from ! (stop !)) (init ! 16 refl (LL.lawful R.the-type R′.the-laws 𝓤 H A W .typed r _ is .0)) $
-        returns ! (look ! 16 refl) $ forget ! 4 refl $ forget ! 6 refl $ forget ! 8 refl $ forget ! 10 refl $ forget ! 12 refl $ forget ! 14 refl $ forget ! 16 refl $
-        move ! (16 ∷ 17 ∷ []) $ free1 ! $ move ! (14 ∷ 15 ∷ []) $ free1 ! $ move ! (12 ∷ 13 ∷ []) $ free1 ! $ move ! (10 ∷ 11 ∷ []) $ free1 ! $ move ! (8 ∷ 9 ∷ []) $ free1 ! $ move ! (6 ∷ 7 ∷ []) $ free1 ! $ move ! (4 ∷ 5 ∷ []) $ free1 ! $ free0 ! $
-        keep ! (0 ∷ 3 ∷ 1 ∷ []) $ by ! (exits r v (e ∙ look-is h k i))))))))))))))))
+        -- [the answer; the token; true; the state; _5 (4); …; _0 (14); …]
+        land ! (from ! (stop !)) (init ! 14 refl (LL.lawful R.the-type R′.the-laws 𝓤 H A W .typed r _ is .0)) $
+        returns ! (look ! 14 refl) $ forget ! 4 refl $ forget ! 6 refl $ forget ! 8 refl $ forget ! 10 refl $ forget ! 12 refl $ forget ! 14 refl $
+        move ! (14 ∷ 15 ∷ []) $ free1 ! $ move ! (12 ∷ 13 ∷ []) $ free1 ! $ move ! (10 ∷ 11 ∷ []) $ free1 ! $ move ! (8 ∷ 9 ∷ []) $ free1 ! $ move ! (6 ∷ 7 ∷ []) $ free1 ! $ move ! (4 ∷ 5 ∷ []) $ free1 ! $ free0 ! $
+        keep ! (0 ∷ 3 ∷ 1 ∷ []) $ by ! (exits r v e)))))))))))))
 
 module _ {M : Type 1} (𝓤 : URA M) (H : Heap 𝓤) (A : Atoms 𝓤) (W : Given 𝓤 H A) (at-mem : Memory → SProp 𝓤) (run : Routine → Fun 𝓤) where
   walks : (C : Calls 𝓤 H) (Λ : Loops 𝓤 H) → FmC 𝓤 H (W .laws) C → Triple 𝓤 (C #g) (G 𝓤 H A at-mem run) → Walks 𝓤 H A f.ended stayed (WpFn 𝓤 H C Λ code.function) (f.clauses 𝓤 H A at-mem run)

@@ -1,6 +1,6 @@
 -- `abi::fir_step` meets its contract: a walk of its MIR, by hand. The state behind the borrow is lent as its fields for the call of `parts::step`, and comes back at what they then hold.
 -- Assumes nothing.
-use mathlib.Core.Path.{_≡_, refl}
+use mathlib.Core.Path.{refl}
 use Prim.Native.Nat.{ℕ}
 use mathlib.Core.List.{[], _∷_, List}
 use lib.ListN.{length}
@@ -37,17 +37,17 @@ use denote.Triple.Clauses.{ensured, Lasts, lasts}
 use denote.Triple.Table.{entered, cited}
 use denote.Triple.Walked.{says, Stays, stay-ref, stay-none-slice, walkOf, AllGo, goes-ref, goes-none-slice, Walks, ends-at, walked, walk-meets}
 use denote.Exit.{yes}
-use Rattle.machine.specs.Begin.{programOf}
+use Rattle.abi.specs.Held.{held, stored}
+use Rattle.abi.specs.declared.state.FirState.{FirState}
+use Rattle.abi.proofs.state.FirState as T
+use Rattle.loaded.specs.Loaded.{programIn}
 use Rattle.machine.specs.Runs.{stepOf}
-use Rattle.abi.specs.Answers.{saidNumbers}
-use Rattle.snapshots.specs.Held.{held, snapshotOf}
-use Rattle.snapshots.specs.declared.Snapshot.{Snapshot}
-use Rattle.snapshots.proofs.Snapshot as T
+use Rattle.abi.specs.Exits.{Steps}
 use Rattle.abi.specs.declared.answers.FirSaid.{FirSaid}
 use Rattle.abi.proofs.answers.FirSaid as R
 use Rattle.abi.proofs.answers.FirSaid.Laws as R′
-use Rattle.abi.proofs.Fields.{Names, refsAt, ptrsAt}
-use Rattle.abi.proofs.Lent.{members, parts, made, Kept, lentRefs, lends-state, state-back}
+use Rattle.abi.proofs.Fields.{Names}
+use Rattle.abi.proofs.Lent.{members, two, twoAt, Kept, lentRefs, lends-state, state-back}
 use Rattle.abi.proofs.parts.step as g
 use Rattle.abi.proofs.parts.step.Symbol as g-def
 use Rattle.abi.proofs.parts.step.Symbol.{name as #g}
@@ -58,108 +58,105 @@ use Rattle.abi.proofs.fir_step.Statement as stated
 use Rattle.abi.proofs.fir_step.Code as code
 
 abbrev stayed : Stays (f.ended .signature .params) (f.ended .kept)
-stayed = (stay-none-slice (0 ∷ []) tt (plain (λ _. u8)) yes, (stay-ref (1 ∷ []) tt (plain (λ _. T.the-row)), tt))
+stayed = (stay-none-slice (0 ∷ []) tt (plain (λ _. u8)) yes, (stay-none-slice (1 ∷ []) tt (plain (λ _. u8)) yes, (stay-ref (2 ∷ []) tt (plain (λ _. T.the-row)), tt)))
 
 -- the contract that the proof cites
 abbrev G : {M : Type 1} (𝓤 : URA M) (H : Heap 𝓤) (A : Atoms 𝓤) (at-mem : Memory → SProp 𝓤) (run : Routine → Fun 𝓤) → Contract 𝓤
 G 𝓤 H A at-mem run = tripleOf 𝓤 H A g.signature (g.spec 𝓤 H A at-mem run)
 
-module _ {M : Type 1} (𝓤 : URA M) (H : Heap 𝓤) (A : Atoms 𝓤) (W : Given 𝓤 H A) (at-mem : Memory → SProp 𝓤) (run : Routine → Fun 𝓤) (imκ κ : Lft) (imq q : Share) (im : RefT (List ℕ)) (b o : ℕ) (γ : GName) (h : Snapshot)
-    (im-room : Room u8 (length (im .now))) where
-  abbrev x : RefT (List ℕ) × (RefT Snapshot × Unit {0})
-  x = (im, (record { ptr = (b, o); name = γ; now = h }, tt))
+module _ {M : Type 1} (𝓤 : URA M) (H : Heap 𝓤) (A : Atoms 𝓤) (W : Given 𝓤 H A) (at-mem : Memory → SProp 𝓤) (run : Routine → Fun 𝓤) (imκ taκ κ : Lft) (imq taq q : Share) (im : RefT (List ℕ)) (ta : RefT (List ℕ)) (b o : ℕ) (γ : GName) (h : FirState)
+    (im-room : Room u8 (length (im .now))) (ta-room : Room u8 (length (ta .now))) where
+  abbrev x : RefT (List ℕ) × (RefT (List ℕ) × (RefT FirState × (Unit {0})))
+  x = (im, (ta, (record { ptr = (b, o); name = γ; now = h }, tt)))
 
-  abbrev at : List Val × (List Val × Unit {0})
-  at = (slice-vals im, (vptr b o ∷ [], tt))
+  abbrev at : List Val × (List Val × (List Val × (Unit {0})))
+  at = (slice-vals im, (slice-vals ta, (vptr b o ∷ [], tt)))
 
   abbrev Bound : tripleOf 𝓤 H A f.signature (f.spec 𝓤 H A at-mem run) .Ghost
-  Bound = (((imκ, (κ, tt)), (imq, (q, tt)), tt, x, at), tt)
+  Bound = (((imκ, (taκ, (κ, tt))), (imq, (taq, (q, tt))), tt, x, at), tt)
 
   abbrev Post : Val → SProp 𝓤
   Post = walkOf 𝓤 H A f.ended stayed (f.clauses 𝓤 H A at-mem run) .post Bound
 
   -- what the clause says, of the answer and what is left
-  abbrev Said : FirSaid → Snapshot → Type 0
-  Said r h′ = (r ≡ saidNumbers (stepOf (programOf (im .now)) (held h) .said)) × (held h′ ≡ stepOf (programOf (im .now)) (held h) .state)
+  abbrev Said : FirSaid → FirState → Type 0
+  Said r h′ = Steps r (stepOf (programIn (im .now) (ta .now)) (held h)) h h′
 
   abbrev im-owned : Item 𝓤
   im-owned = ‵ (ShrSlice (named 0) imκ u8 .own im (slice-vals im))
 
-  abbrev state : Snapshot → Item 𝓤
-  state h′ = ‵ (MutRef (named 1) κ T.the-row .own (record { ptr = (b, o); name = γ; now = h′ }) (vptr b o ∷ []))
+  abbrev ta-owned : Item 𝓤
+  ta-owned = ‵ (ShrSlice (named 1) taκ u8 .own ta (slice-vals ta))
 
-  exits : (r : FirSaid) (v : Val) (h′ : Snapshot) → Said r h′ → ent 𝓤 (⋆ 𝓤 H A (‵ (R.the-row .own r (v ∷ [])) ∷ state h′ ∷ ‵ (flft imκ imq) ∷ ‵ (flft κ q) ∷ ‵ (ShrSlice (named 0) imκ u8 .own im (slice-vals im)) ∷ [])) (Post v)
+  abbrev state : FirState → Item 𝓤
+  state h′ = ‵ (MutRef (named 2) κ T.the-row .own (record { ptr = (b, o); name = γ; now = h′ }) (vptr b o ∷ []))
+
+  exits : (r : FirSaid) (v : Val) (h′ : FirState) → Said r h′ → ent 𝓤 (⋆ 𝓤 H A (‵ (R.the-row .own r (v ∷ [])) ∷ state h′ ∷ ‵ (flft imκ imq) ∷ ‵ (flft taκ taq) ∷ ‵ (flft κ q) ∷ im-owned ∷ ta-owned ∷ [])) (Post v)
   exits r v h′ e =
-      qed W (‵ (R.the-row .own r (v ∷ [])) ∷ state h′ ∷ ‵ (flft imκ imq) ∷ ‵ (flft κ q) ∷ ‵ (ShrSlice (named 0) imκ u8 .own im (slice-vals im)) ∷ []) ∵
-      suffices ! _ (ends-at 𝓤 H A f.ended stayed (f.clauses 𝓤 H A at-mem run) W Bound v r (tt, (h′, tt)) (tt, (tt, tt))) $ says ! e $
-      nothing ! $ move ! (4 ∷ 0 ∷ []) $ join ! $ move ! (3 ∷ 0 ∷ []) $ join ! $ frame ! $ nothing ! $ move ! (2 ∷ 0 ∷ []) $ fjoin ! $ move ! (2 ∷ 0 ∷ []) $ fjoin ! $ frame ! $ done !
+      qed W (‵ (R.the-row .own r (v ∷ [])) ∷ state h′ ∷ ‵ (flft imκ imq) ∷ ‵ (flft taκ taq) ∷ ‵ (flft κ q) ∷ im-owned ∷ ta-owned ∷ []) ∵
+      suffices ! _ (ends-at 𝓤 H A f.ended stayed (f.clauses 𝓤 H A at-mem run) W Bound v r (tt, (tt, (h′, tt))) (tt, (tt, (tt, tt)))) $ says ! e $
+      nothing ! $ move ! (5 ∷ 0 ∷ []) $ join ! $ move ! (4 ∷ 0 ∷ []) $ join ! $ move ! (3 ∷ 0 ∷ []) $ join ! $ frame ! $ nothing ! $ move ! (2 ∷ 0 ∷ []) $ fjoin ! $ move ! (3 ∷ 0 ∷ []) $ fjoin ! $ move ! (2 ∷ 0 ∷ []) $ fjoin ! $ frame ! $ done !
 
   -- what the triple of `parts::step` binds outside, for the lifetime α and the names γs, and what it asks
-  abbrev κs : ℕ → Lfts 2
-  κs α = (imκ, (α ∷ [], tt))
+  abbrev κs : ℕ → Lfts 3
+  κs α = (imκ, (taκ, (α ∷ [], tt)))
 
   abbrev y : (α : ℕ) → Names members → Args g.signature (κs α)
-  y α γs = (im, refsAt (named 1) (α ∷ []) b o members 0 (parts h) γs)
+  y α γs = (im, (ta, two 𝓤 H A W b o (named 2) (named 2) κ (α ∷ []) q γ h γs))
 
   abbrev to-g : (α : ℕ) → Names members → G 𝓤 H A at-mem run .Ghost
-  to-g α γs = ((κs α, (imq, (fullShare, tt)), tt, y α γs, (slice-vals im, ptrsAt (named 1) (α ∷ []) b o members 0)), tt)
+  to-g α γs = ((κs α, (imq, (taq, (fullShare, tt))), tt, y α γs, (slice-vals im, (slice-vals ta, twoAt 𝓤 H A W b o))), tt)
 
   abbrev lent : ℕ → Names members → Item 𝓤
-  lent α γs = ‵ (lentRefs 𝓤 H A W b o (named 1) (named 1) κ (α ∷ []) q γ h γs)
+  lent α γs = ‵ (lentRefs 𝓤 H A W b o (named 2) (named 2) κ (α ∷ []) q γ h γs)
 
   abbrev kept : ℕ → Names members → Item 𝓤
-  kept α γs = raw (Kept 𝓤 H A W b o (named 1) (named 1) κ (α ∷ []) q γ h γs)
+  kept α γs = raw (Kept 𝓤 H A W b o (named 2) (named 2) κ (α ∷ []) q γ h γs)
 
-  goes-g : (α : ℕ) (γs : Names members) → ent 𝓤 (⋆ 𝓤 H A ((‵ (flft imκ imq) ⊛ ‵ (flft (α ∷ []) fullShare)) ∷ (‵ (ShrSlice (named 0) imκ u8 .own im (slice-vals im))) ∷ lent α γs ∷ [])) (G 𝓤 H A at-mem run .pre (to-g α γs))
+  abbrev tokens : ℕ → Item 𝓤
+  tokens α = ‵ (flft imκ imq) ⊛ ‵ (flft taκ taq) ⊛ ‵ (flft (α ∷ []) fullShare)
+
+  abbrev given : Item 𝓤
+  given = im-owned ⊛ ta-owned
+
+  goes-g : (α : ℕ) (γs : Names members) → ent 𝓤 (⋆ 𝓤 H A (tokens α ∷ given ∷ lent α γs ∷ [])) (G 𝓤 H A at-mem run .pre (to-g α γs))
   goes-g α γs =
-      qed W ((‵ (flft imκ imq) ⊛ ‵ (flft (α ∷ []) fullShare)) ∷ (‵ (ShrSlice (named 0) imκ u8 .own im (slice-vals im))) ∷ lent α γs ∷ []) ∵
-      split ! $ nothing ! $ move ! (2 ∷ 0 ∷ []) $ join ! $ move ! (1 ∷ 0 ∷ []) $ join ! $ move ! (1 ∷ 2 ∷ []) $ fjoin ! $ move ! (1 ∷ 0 ∷ []) $ join ! $ frame ! $ done !
+      qed W (tokens α ∷ given ∷ lent α γs ∷ []) ∵ split ! $ move ! (1 ∷ []) $ split ! $ move ! (3 ∷ []) $ split ! $ move ! (1 ∷ []) $ nothing ! $ move ! (4 ∷ 0 ∷ []) $ join ! $ move ! (3 ∷ 0 ∷ []) $ join ! $ move ! (3 ∷ 0 ∷ []) $ join ! $ move ! (1 ∷ 3 ∷ []) $ fjoin ! $ move ! (2 ∷ 0 ∷ []) $ fjoin ! $ move ! (1 ∷ 0 ∷ []) $ join ! $ frame ! $ done !
 
   module _ (C : Calls 𝓤 H) (Λ : Loops 𝓤 H) (fm : FmC 𝓤 H (W .laws) C) (known : Triple 𝓤 (C #g) (G 𝓤 H A at-mem run)) where
-    walk : ent 𝓤 (onEntry 𝓤 H A f.signature (imκ, (κ, tt)) (imq, (q, tt)) x at) (WpFn 𝓤 H C Λ code.function (sliceVal (im .ptr) (length (im .now)) ∷ vptr b o ∷ []) Post)
-    unfolding snapshotOf
+    walk : ent 𝓤 (onEntry 𝓤 H A f.signature (imκ, (taκ, (κ, tt))) (imq, (taq, (q, tt))) x at) (WpFn 𝓤 H C Λ code.function (sliceVal (im .ptr) (length (im .now)) ∷ sliceVal (ta .ptr) (length (ta .now)) ∷ vptr b o ∷ []) Post)
     walk =
-        qed W ((‵ (flft imκ imq) ⊛ ‵ (flft κ q) ⊛ ‵ ftrue) ∷ ‵ (owns (ShrSlice (named 0) imκ u8 ∷ MutRef (named 1) κ T.the-row ∷ []) x at) ∷ []) ∵
+        qed W ((‵ (flft imκ imq) ⊛ ‵ (flft taκ taq) ⊛ ‵ (flft κ q) ⊛ ‵ ftrue) ∷ ‵ (owns (ShrSlice (named 0) imκ u8 ∷ ShrSlice (named 1) taκ u8 ∷ MutRef (named 2) κ T.the-row ∷ []) x at) ∷ []) ∵
         -- what the parameters own is taken apart; what is only read is had twice
-        move ! (1 ∷ []) $ fsplit ! $ use1 W (im-owned ⊛ im-owned) (shr-slice-copy 𝓤 H A W (named 0) imκ u8 .twice im (slice-vals im)) $ split ! $ move ! (2 ∷ []) $ fsplit ! $ move ! (4 ∷ []) $ split ! $ move ! (1 ∷ []) $ split ! $ keep ! (3 ∷ 0 ∷ 2 ∷ 5 ∷ 6 ∷ []) $
-        -- [the state; state's token; image's token; image; image2]
-        enter ! C Λ code.function (sliceVal (im .ptr) (length (im .now)) ∷ vptr b o ∷ []) _ $
-        alloc1 ! (λ l0. alloc1 ! (λ l1. alloc1 ! (λ l2. alloc1 ! (λ l3. alloc1 ! (λ l4. alloc1 ! (λ l5. alloc1 ! (λ l6. alloc1 ! (λ l7. alloc1 ! (λ l8. alloc1 ! (λ l9. alloc1 ! (λ l10. alloc1 ! (λ l11. alloc1 ! (λ l12. alloc1 ! (λ l13. alloc1 ! (λ l14. alloc1 ! (λ l15. alloc1 ! (λ l16. alloc0 ! $ params1 ! $
-        pass1 ! (init ! 30 refl (tt, (tt, (record { fits = im-room .0 }, tt)))) $ pass1 ! (init ! 28 refl (tt, tt)) $ pass0 ! $
-        -- the fields' addresses
-        assigns ! (addr ! (from ! (hop ! (look ! 28 refl) (fld ! refl (stop !))))) (from ! (stop !)) (init ! 26 refl (tt, tt)) $ assigns ! (addr ! (from ! (hop ! (look ! 28 refl) (fld ! refl (stop !))))) (from ! (stop !)) (init ! 24 refl (tt, tt)) $
-        assigns ! (addr ! (from ! (hop ! (look ! 28 refl) (fld ! refl (stop !))))) (from ! (stop !)) (init ! 22 refl (tt, tt)) $ assigns ! (addr ! (from ! (hop ! (look ! 28 refl) (fld ! refl (stop !))))) (from ! (stop !)) (init ! 20 refl (tt, tt)) $
-        assigns ! (addr ! (from ! (hop ! (look ! 28 refl) (fld ! refl (stop !))))) (from ! (stop !)) (init ! 18 refl (tt, tt)) $ assigns ! (addr ! (from ! (hop ! (look ! 28 refl) (fld ! refl (stop !))))) (from ! (stop !)) (init ! 16 refl (tt, tt)) $
-        assigns ! (addr ! (from ! (hop ! (look ! 28 refl) (fld ! refl (stop !))))) (from ! (stop !)) (init ! 14 refl (tt, tt)) $ assigns ! (addr ! (from ! (hop ! (look ! 28 refl) (fld ! refl (stop !))))) (from ! (stop !)) (init ! 12 refl (tt, tt)) $
-        assigns ! (addr ! (from ! (hop ! (look ! 28 refl) (fld ! refl (stop !))))) (from ! (stop !)) (init ! 10 refl (tt, tt)) $ assigns ! (addr ! (from ! (hop ! (look ! 28 refl) (fld ! refl (stop !))))) (from ! (stop !)) (init ! 8 refl (tt, tt)) $
-        assigns ! (addr ! (from ! (hop ! (look ! 28 refl) (fld ! refl (stop !))))) (from ! (stop !)) (init ! 6 refl (tt, tt)) $ assigns ! (addr ! (from ! (hop ! (look ! 28 refl) (fld ! refl (stop !))))) (from ! (stop !)) (init ! 4 refl (tt, tt)) $
-        assigns ! (addr ! (from ! (hop ! (look ! 28 refl) (fld ! refl (stop !))))) (from ! (stop !)) (init ! 2 refl (tt, tt)) $ assigns ! (addr ! (from ! (hop ! (look ! 28 refl) (fld ! refl (stop !))))) (from ! (stop !)) (init ! 0 refl (tt, tt)) $
+        move ! (1 ∷ []) $ fsplit ! $ use1 W (im-owned ⊛ im-owned) (shr-slice-copy 𝓤 H A W (named 0) imκ u8 .twice im (slice-vals im)) $ split ! $ move ! (2 ∷ []) $ fsplit ! $ use1 W (ta-owned ⊛ ta-owned) (shr-slice-copy 𝓤 H A W (named 1) taκ u8 .twice ta (slice-vals ta)) $ split ! $ move ! (2 ∷ []) $ fsplit ! $ move ! (6 ∷ []) $ split ! $ move ! (1 ∷ []) $ split ! $ move ! (1 ∷ []) $ split ! $ keep ! (4 ∷ 0 ∷ 3 ∷ 2 ∷ 8 ∷ 9 ∷ 6 ∷ 7 ∷ []) $
+        -- [the state; its token; the token of the image; the token of the table; the image; the image; the table; the table]
+        enter ! C Λ code.function (sliceVal (im .ptr) (length (im .now)) ∷ sliceVal (ta .ptr) (length (ta .now)) ∷ vptr b o ∷ []) _ $
+        alloc1 ! (λ l0. alloc1 ! (λ l1. alloc1 ! (λ l2. alloc1 ! (λ l3. alloc1 ! (λ l4. alloc1 ! (λ l5. alloc0 ! $ params1 ! $
+        pass1 ! (init ! 8 refl (tt, (tt, (record { fits = im-room .0 }, tt)))) $ pass1 ! (init ! 6 refl (tt, (tt, (record { fits = ta-room .0 }, tt)))) $ pass1 ! (init ! 4 refl (tt, tt)) $ pass0 ! $
+        assigns ! (addr ! (from ! (hop ! (look ! 4 refl) (fld ! refl (stop !))))) (from ! (stop !)) (init ! 2 refl (tt, tt)) $
+        assigns ! (addr ! (from ! (hop ! (look ! 4 refl) (fld ! refl (stop !))))) (from ! (stop !)) (init ! 0 refl (tt, tt)) $
         -- a lifetime for the call, for which the state is lent as its fields
-        lft-new ! tt (λ α. move ! (35 ∷ 36 ∷ []) $
-        use2 W (later (some (λ (γs : Names members). lent α γs ⊛ kept α γs))) (lends-state 𝓤 H A W b o (named 1) (named 1) κ (α ∷ []) q γ h) $ await ! tt $ pick ! (λ γs. split ! $
-        move ! (37 ∷ 2 ∷ []) $ join ! $ move ! (0 ∷ 37 ∷ 1 ∷ []) $ use3 W (raw (G 𝓤 H A at-mem run .pre (to-g α γs))) (goes-g α γs) $
-        calls-at ! fm (G 𝓤 H A at-mem run) known (to-g α γs) (and-then ! (load ! (from ! (stop !)) (look ! 32 refl)) (and-then ! (load ! (from ! (stop !)) (look ! 28 refl)) (and-then ! (load ! (from ! (stop !)) (look ! 26 refl)) (and-then ! (load ! (from ! (stop !)) (look ! 24 refl)) (and-then ! (load ! (from ! (stop !)) (look ! 22 refl)) (and-then ! (load ! (from ! (stop !)) (look ! 20 refl)) (and-then ! (load ! (from ! (stop !)) (look ! 18 refl)) (and-then ! (load ! (from ! (stop !)) (look ! 16 refl)) (and-then ! (load ! (from ! (stop !)) (look ! 14 refl)) (and-then ! (load ! (from ! (stop !)) (look ! 12 refl)) (and-then ! (load ! (from ! (stop !)) (look ! 10 refl)) (and-then ! (load ! (from ! (stop !)) (look ! 8 refl)) (and-then ! (load ! (from ! (stop !)) (look ! 6 refl)) (and-then ! (load ! (from ! (stop !)) (look ! 4 refl)) (and-then ! (load ! (from ! (stop !)) (look ! 2 refl)) (no-more !)))))))))))))))) (λ v.
-        use1 W (later (some (λ (r : FirSaid). ((‵ (flft imκ imq) ⊛ ‵ (flft (α ∷ []) fullShare) ⊛ ‵ ftrue) ⊛ ‵ (R.the-row .own r (v ∷ []))) ⊛ raw (ensured 𝓤 H A g.ended (g.clauses 𝓤 H A at-mem run) (κs α) (y α γs) tt r)))) (id⊢ 𝓤 _) $ await ! tt $ pick ! (λ r.
-        split ! $ move ! (1 ∷ []) $ use1 W (some (λ (ws : Lasts g.ended (κs α) (y α γs)). ‵ (lasts g.ended (κs α) (y α γs) ws) ⊛ raw (fact 𝓤 (Said r (made (ws .1)))))) (id⊢ 𝓤 _) $ pick ! (λ ws.
-        split ! $ move ! (1 ∷ []) $ heard ! (Said r (made (ws .1))) (λ e.
-        fsplit ! $ drop ! $
+        lft-new ! tt (λ α. move ! (13 ∷ 14 ∷ []) $ use2 W (later (some (λ (γs : Names members). lent α γs ⊛ kept α γs))) (lends-state 𝓤 H A W b o (named 2) (named 2) κ (α ∷ []) q γ h) $ await ! tt $ pick ! (λ γs. split ! $
+        move ! (16 ∷ 2 ∷ []) $ join ! $ move ! (15 ∷ 0 ∷ []) $ join ! $ move ! (15 ∷ 17 ∷ []) $ join ! $ move ! (1 ∷ 0 ∷ 2 ∷ []) $ use3 W (raw (G 𝓤 H A at-mem run .pre (to-g α γs))) (goes-g α γs) $
+        calls-at ! fm (G 𝓤 H A at-mem run) known (to-g α γs) (and-then ! (load ! (from ! (stop !)) (look ! 10 refl)) (and-then ! (load ! (from ! (stop !)) (look ! 8 refl)) (and-then ! (load ! (from ! (stop !)) (look ! 4 refl)) (and-then ! (load ! (from ! (stop !)) (look ! 2 refl)) (no-more !))))) (λ v.
+        use1 W (later (some (λ (r : FirSaid). ((‵ (flft imκ imq) ⊛ ‵ (flft taκ taq) ⊛ ‵ (flft (α ∷ []) fullShare) ⊛ ‵ ftrue) ⊛ ‵ (R.the-row .own r (v ∷ []))) ⊛ raw (ensured 𝓤 H A g.ended (g.clauses 𝓤 H A at-mem run) (κs α) (y α γs) tt r)))) (id⊢ 𝓤 _) $ await ! tt $ pick ! (λ r.
+        split ! $ move ! (1 ∷ []) $ use1 W (some (λ (ws : Lasts g.ended (κs α) (y α γs)). ‵ (lasts g.ended (κs α) (y α γs) ws) ⊛ raw (fact 𝓤 (Said r (stored (ws .1 .1 .0) (ws .1 .1 .1 .0)))))) (id⊢ 𝓤 _) $ pick ! (λ ws. split ! $ move ! (1 ∷ []) $ heard ! (Said r (stored (ws .1 .1 .0) (ws .1 .1 .1 .0))) (λ e.
+        fsplit ! $ drop ! $ fsplit ! $ drop ! $
         -- the lifetime is over, and the state comes back
-        move ! (1 ∷ []) $ split ! $ split ! $ move ! (1 ∷ []) $ split ! $ lft-end ! tt $
-        move ! (0 ∷ 5 ∷ 4 ∷ []) $ use3 W (later (state (made (ws .1)) ⊛ ‵ (flft κ q))) (state-back 𝓤 H A W b o (named 1) (named 1) κ (α ∷ []) q γ h (made (ws .1)) γs) $ await ! tt $ split ! $
-        move ! (4 ∷ []) $ peeks ! R.the-row (Is R.the-row) (shows 𝓤 H A R.the-row) r (v ∷ []) (λ is.
-        land ! (from ! (stop !)) (init ! 37 refl (LL.lawful R.the-type R′.the-laws 𝓤 H A W .typed r _ is .0)) $
-        returns ! (look ! 37 refl) $ forget ! 5 refl $ forget ! 7 refl $ forget ! 9 refl $ forget ! 11 refl $ forget ! 13 refl $ forget ! 15 refl $ forget ! 17 refl $ forget ! 19 refl $ forget ! 21 refl $ forget ! 23 refl $ forget ! 25 refl $ forget ! 27 refl $ forget ! 29 refl $ forget ! 31 refl $ forget ! 33 refl $ forget ! 35 refl $ forget ! 37 refl $
-        move ! (37 ∷ 38 ∷ []) $ free1 ! $ move ! (35 ∷ 36 ∷ []) $ free1 ! $ move ! (33 ∷ 34 ∷ []) $ free1 ! $ move ! (31 ∷ 32 ∷ []) $ free1 ! $ move ! (29 ∷ 30 ∷ []) $ free1 ! $ move ! (27 ∷ 28 ∷ []) $ free1 ! $ move ! (25 ∷ 26 ∷ []) $ free1 ! $ move ! (23 ∷ 24 ∷ []) $ free1 ! $ move ! (21 ∷ 22 ∷ []) $ free1 ! $ move ! (19 ∷ 20 ∷ []) $ free1 ! $ move ! (17 ∷ 18 ∷ []) $ free1 ! $ move ! (15 ∷ 16 ∷ []) $ free1 ! $ move ! (13 ∷ 14 ∷ []) $ free1 ! $ move ! (11 ∷ 12 ∷ []) $ free1 ! $ move ! (9 ∷ 10 ∷ []) $ free1 ! $ move ! (7 ∷ 8 ∷ []) $ free1 ! $ move ! (5 ∷ 6 ∷ []) $ free1 ! $ free0 ! $
-        keep ! (0 ∷ 1 ∷ 4 ∷ 2 ∷ 5 ∷ []) $ by ! (exits r v (made (ws .1)) e)))))))))))))))))))))))))
+        move ! (1 ∷ []) $ split ! $ split ! $ move ! (1 ∷ []) $ split ! $ move ! (1 ∷ []) $ split ! $ lft-end ! tt $ move ! (0 ∷ 6 ∷ 5 ∷ []) $ use3 W (later (state (stored (ws .1 .1 .0) (ws .1 .1 .1 .0)) ⊛ ‵ (flft κ q))) (state-back 𝓤 H A W b o (named 2) (named 2) κ (α ∷ []) q γ h (stored (ws .1 .1 .0) (ws .1 .1 .1 .0)) γs) $ await ! tt $ split ! $ move ! (5 ∷ []) $ peeks ! R.the-row (Is R.the-row) (shows 𝓤 H A R.the-row) r (v ∷ []) (λ is.
+        land ! (from ! (stop !)) (init ! 16 refl (LL.lawful R.the-type R′.the-laws 𝓤 H A W .typed r _ is .0)) $
+        returns ! (look ! 16 refl) $ forget ! 6 refl $ forget ! 8 refl $ forget ! 10 refl $ forget ! 12 refl $ forget ! 14 refl $ forget ! 16 refl $
+        move ! (16 ∷ 17 ∷ []) $ free1 ! $ move ! (14 ∷ 15 ∷ []) $ free1 ! $ move ! (12 ∷ 13 ∷ []) $ free1 ! $ move ! (10 ∷ 11 ∷ []) $ free1 ! $ move ! (8 ∷ 9 ∷ []) $ free1 ! $ move ! (6 ∷ 7 ∷ []) $ free1 ! $ free0 ! $
+        keep ! (0 ∷ 1 ∷ 5 ∷ 4 ∷ 2 ∷ 6 ∷ 7 ∷ []) $ by ! (exits r v (stored (ws .1 .1 .0) (ws .1 .1 .1 .0)) e))))))))))))))
 
 module _ {M : Type 1} (𝓤 : URA M) (H : Heap 𝓤) (A : Atoms 𝓤) (W : Given 𝓤 H A) (at-mem : Memory → SProp 𝓤) (run : Routine → Fun 𝓤) where
   walks : (C : Calls 𝓤 H) (Λ : Loops 𝓤 H) → FmC 𝓤 H (W .laws) C → Triple 𝓤 (C #g) (G 𝓤 H A at-mem run) → Walks 𝓤 H A f.ended stayed (WpFn 𝓤 H C Λ code.function) (f.clauses 𝓤 H A at-mem run)
-  walks C Λ fm known = walked 𝓤 H A f.ended stayed (f.clauses 𝓤 H A at-mem run) (WpFn 𝓤 H C Λ code.function) (λ κs. (slice-vals, (ptr-vals, tt)))
-      (λ κs. (shr-slice-tells (named 0) (κs .0) u8, (mut-tells (named 1) (κs .1 .0) T.the-row, tt)))
-      (λ κs qs bounds a _ are. via 𝓤 _ (fst∗ 𝓤 _ (emp 𝓤)) (walk 𝓤 H A W at-mem run (κs .0) (κs .1 .0) (qs .0) (qs .1 .0) (a .0) (a .1 .0 .ptr .0) (a .1 .0 .ptr .1) (a .1 .0 .name) (a .1 .0 .now) (are .0 .0 .1) C Λ fm known))
+  walks C Λ fm known = walked 𝓤 H A f.ended stayed (f.clauses 𝓤 H A at-mem run) (WpFn 𝓤 H C Λ code.function) (λ κs. (slice-vals, (slice-vals, (ptr-vals, tt))))
+      (λ κs. (shr-slice-tells (named 0) (κs .0) u8, (shr-slice-tells (named 1) (κs .1 .0) u8, (mut-tells (named 2) (κs .1 .1 .0) T.the-row, tt))))
+      (λ κs qs bounds a _ are. via 𝓤 _ (fst∗ 𝓤 _ (emp 𝓤)) (walk 𝓤 H A W at-mem run (κs .0) (κs .1 .0) (κs .1 .1 .0) (qs .0) (qs .1 .0) (qs .1 .1 .0) (a .0) (a .1 .0) (a .1 .1 .0 .ptr .0) (a .1 .1 .0 .ptr .1) (a .1 .1 .0 .name) (a .1 .1 .0 .now) (are .0 .0 .1) (are .1 .0 .0 .1) C Λ fm known))
 
-  goes : AllGo 𝓤 H A W 2 (f.signature .params) (f.ended .kept) stayed
-  goes = (goes-none-slice 𝓤 H A W 2 (0 ∷ []) tt (plain (λ _. u8)) yes, (goes-ref 𝓤 H A W 2 1 tt (plain (λ _. T.the-row)), tt))
+  goes : AllGo 𝓤 H A W 3 (f.signature .params) (f.ended .kept) stayed
+  goes = (goes-none-slice 𝓤 H A W 3 (0 ∷ []) tt (plain (λ _. u8)) yes, (goes-none-slice 𝓤 H A W 3 (1 ∷ []) tt (plain (λ _. u8)) yes, (goes-ref 𝓤 H A W 3 2 tt (plain (λ _. T.the-row)), tt)))
 
 meets : {M : Type 1} (𝓤 : URA M) (H : Heap 𝓤) (A : Atoms 𝓤) (W : Given 𝓤 H A) (at-mem : Memory → SProp 𝓤) (run : Routine → Fun 𝓤) (𝓣 : Tables 𝓤 H) → Triple 𝓤 (𝓣 .C #g) (G 𝓤 H A at-mem run)
     → Meets 𝓤 H A f.signature (WpFn 𝓤 H (𝓣 .C) (𝓣 .Λ) code.function) (f.spec 𝓤 H A at-mem run)

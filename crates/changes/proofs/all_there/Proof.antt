@@ -16,10 +16,10 @@ use mathlib.Core.Path.{_≡_, sym, _∙_}
 use native.Mathlib.Omega.{arith}
 
 abbrev Inv-loop : tie.InvT-loop
-Inv-loop new after owners calls live k₀ k = (k ≤ live) × ((j : ℕ) → j < k → found (findVersion (programOf new) (owners ! (2 * j)) (owners ! (2 * j + 1))) (λ (v : Version). true) ≡ true)
+Inv-loop new after bytes live k₀ k = (k ≤ live) × ((j : ℕ) → j < k → found (findVersion (programOf new) (bytes ! (32 * j + 24)) (bytes ! (32 * j + 25))) (λ (v : Version). true) ≡ true)
 
 abbrev μ-loop : tie.MeasureT-loop
-μ-loop new after owners calls live k₀ k = live - k
+μ-loop new after bytes live k₀ k = live - k
 
 live-calls-requires : tie.Need-live-calls-requires Inv-loop μ-loop
 live-calls-requires c κs =
@@ -33,6 +33,10 @@ mul-byte : tie.Need-mul-byte Inv-loop μ-loop
 mul-byte c =
     omega (arith, (c .before .before .before .live-calls) .ensures .1, (c .before .loop-test) .taken)
 
+add-byte : tie.Need-add-byte Inv-loop μ-loop
+add-byte c =
+    omega (arith, (c .before .before .before .live-calls) .ensures .1, (c .before .loop-test) .taken)
+
 byte-requires : tie.Need-byte-requires Inv-loop μ-loop
 byte-requires c κs =
     search needs
@@ -41,8 +45,8 @@ mul-byte-2 : tie.Need-mul-byte-2 Inv-loop μ-loop
 mul-byte-2 c =
     omega (arith, (c .before .before .before .before .before .live-calls) .ensures .1, (c .before .before .before .loop-test) .taken)
 
-add-byte : tie.Need-add-byte Inv-loop μ-loop
-add-byte c =
+add-byte-2 : tie.Need-add-byte-2 Inv-loop μ-loop
+add-byte-2 c =
     omega (arith, (c .before .before .before .before .before .live-calls) .ensures .1, (c .before .before .before .loop-test) .taken)
 
 byte-requires-2 : tie.Need-byte-requires-2 Inv-loop μ-loop
@@ -67,7 +71,7 @@ returns c =
     let right = listed-right _ _ _ _ ((c .before .before .before .before .before .before .before .before .before .before .before) .pre) in
     let place = sym ((c .before .before .listed) .ensures ∙ right) ∙ (c .enum-told2) .given .1 in
     let gone = rw ((c .before .before .before .before .before .byte) .ensures .0, (c .before .before .before .byte2) .ensures .0) at (version-missing _ _ _ place) in
-    sym (one-gone _ _ _ ((c .before .before .before .before .before .before .before .before .loop) .k) inside (found-none _ gone))
+    sym (one-gone _ _ ((c .before .before .before .before .before .before .before .before .loop) .k) inside (found-none _ gone))
 
 add-k : tie.Need-add-k Inv-loop μ-loop
 add-k c =
@@ -87,7 +91,7 @@ loop-again c =
 
 returns-2 : tie.Need-returns-2 Inv-loop μ-loop
 returns-2 c =
-    sym (all-live _ _ _ (λ j h. (c .before .loop) .inv .1 j (omega (arith, (c .before .before .live-calls) .ensures .0, (c .loop-test) .left))))
+    sym (all-live _ _ (λ j h. (c .before .loop) .inv .1 j (omega (arith, (c .before .before .live-calls) .ensures .0, (c .loop-test) .left))))
 
 pub all-there-spec : {M : Type 1} → statement M
 all-there-spec =
@@ -98,9 +102,10 @@ all-there-spec =
     live-calls-requires
     loop-holds
     mul-byte
+    add-byte
     byte-requires
     mul-byte-2
-    add-byte
+    add-byte-2
     byte-requires-2
     listed-requires
     enum-told

@@ -12,10 +12,10 @@ use mathlib.Core.Path.{_≡_, sym, _∙_}
 use native.Mathlib.Omega.{arith}
 
 abbrev Inv-loop : tie.InvT-loop
-Inv-loop owners calls f w live k₀ k = (k ≤ live) × ((j : ℕ) → j < k → (eqb (owners ! (2 * j)) f and eqb (owners ! (2 * j + 1)) w) ≡ false)
+Inv-loop bytes f w live k₀ k = (k ≤ live) × ((j : ℕ) → j < k → (eqb (bytes ! (32 * j + 24)) f and eqb (bytes ! (32 * j + 25)) w) ≡ false)
 
 abbrev μ-loop : tie.MeasureT-loop
-μ-loop owners calls f w live k₀ k = live - k
+μ-loop bytes f w live k₀ k = live - k
 
 live-calls-requires : tie.Need-live-calls-requires Inv-loop μ-loop
 live-calls-requires c κs =
@@ -29,6 +29,10 @@ mul-byte : tie.Need-mul-byte Inv-loop μ-loop
 mul-byte c =
     omega (arith, (c .before .before .before .live-calls) .ensures .1, (c .before .loop-test) .taken)
 
+add-byte : tie.Need-add-byte Inv-loop μ-loop
+add-byte c =
+    omega (arith, (c .before .before .before .live-calls) .ensures .1, (c .before .loop-test) .taken)
+
 byte-requires : tie.Need-byte-requires Inv-loop μ-loop
 byte-requires c κs =
     search needs
@@ -37,8 +41,8 @@ mul-byte-2 : tie.Need-mul-byte-2 Inv-loop μ-loop
 mul-byte-2 c =
     omega (arith, (c .before .before .before .before .before .live-calls) .ensures .1, (c .before .before .before .loop-test) .taken)
 
-add-byte : tie.Need-add-byte Inv-loop μ-loop
-add-byte c =
+add-byte-2 : tie.Need-add-byte-2 Inv-loop μ-loop
+add-byte-2 c =
     omega (arith, (c .before .before .before .before .before .live-calls) .ensures .1, (c .before .before .before .loop-test) .taken)
 
 byte-requires-2 : tie.Need-byte-requires-2 Inv-loop μ-loop
@@ -53,7 +57,7 @@ returns : tie.Need-returns Inv-loop μ-loop
 returns c =
     let inside = rw ((c .before .before .before .before .before .before .before .before .live-calls) .ensures .0) at ((c .before .before .before .before .before .before .loop-test) .taken) in
     let same = rw ((c .before .before .before .before .byte) .ensures .0, (c .before .before .byte2) .ensures .0) at (sym ((c .before .are) .ensures) ∙ (c .if1) .taken) in
-    sym (one-live _ _ _ _ ((c .before .before .before .before .before .before .before .loop) .k) inside same)
+    sym (one-live _ _ _ ((c .before .before .before .before .before .before .before .loop) .k) inside same)
 
 add-k : tie.Need-add-k Inv-loop μ-loop
 add-k c =
@@ -71,7 +75,7 @@ loop-again c =
 
 returns-2 : tie.Need-returns-2 Inv-loop μ-loop
 returns-2 c =
-    sym (none-live _ _ _ _ (λ j h. (c .before .loop) .inv .1 j (omega (arith, (c .before .before .live-calls) .ensures .0, (c .loop-test) .left))))
+    sym (none-live _ _ _ (λ j h. (c .before .loop) .inv .1 j (omega (arith, (c .before .before .live-calls) .ensures .0, (c .loop-test) .left))))
 
 pub is-live-spec : {M : Type 1} → statement M
 is-live-spec =
@@ -82,9 +86,10 @@ is-live-spec =
     live-calls-requires
     loop-holds
     mul-byte
+    add-byte
     byte-requires
     mul-byte-2
-    add-byte
+    add-byte-2
     byte-requires-2
     are-requires
     returns

@@ -15,11 +15,11 @@ use mathlib.Core.Path.{refl, sym, _∙_}
 use native.Mathlib.Omega.{arith}
 
 abbrev Inv-loop : tie.InvT-loop
-Inv-loop old before new after owners calls p₀ here₀ p here =
-    Asking (question15 old new (ownedBy owners calls)) (first (question15 old new (ownedBy owners calls)) (programOf new)) new p here
+Inv-loop old before new after bytes p₀ here₀ p here =
+    Asking (question15 old new (ownedBy bytes)) (first (question15 old new (ownedBy bytes)) (programOf new)) new p here
 
 abbrev μ-loop : tie.MeasureT-loop
-μ-loop old before new after owners calls p₀ here₀ p here = length new - p
+μ-loop old before new after bytes p₀ here₀ p here = length new - p
 
 loop-holds : tie.Need-loop-holds Inv-loop μ-loop
 loop-holds c =

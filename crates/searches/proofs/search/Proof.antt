@@ -1,64 +1,59 @@
--- `searches::search`: nowhere, at a block end, or by the instruction that the run stands at.
-use Rattle.searches.proofs.Observed.{end-observes, frame-few, line-observes, nowhere-observes}
-use borrow.Author.Tests.{not-true, not-false, lt-ltb, le-ltb}
-use Rattle.places.proofs.Standings.{nowhere-reached}
-use Rattle.layout.proofs.Bools.{and-on, and-off}
-use mathlib.Core.List.{[]}
-use mathlib.Core.Path.{sym, _∙_}
+use Rattle.searches.proofs.Observed.{no-depth, too-deep, not-live, live-looks}
+use Rattle.acts.proofs.Delayed.{live-from}
 use borrow.Author.Needs.{needs}
 use Rattle.searches.proofs.search.Statement.{statement}
 use Rattle.searches.proofs.search.Tie as tie
-use Rattle.searches.proofs.search.Reads as reads
-use Rattle.searches.proofs.search.Lts as lts
-use Rattle.index.proofs.of.Reads as of-reads
-use Rattle.places.proofs.locate.Reads as locate-reads
-use Rattle.places.proofs.nowhere.Reads as nowhere-reads
-use Rattle.program.proofs.lookup.is_line.Reads as is-line-reads
-use Rattle.searches.proofs.looks.Reads as looks-reads
 
-of-requires : tie.Need-of-requires
-of-requires c κs = search needs
+element-copy-out-wide : tie.Need-element-copy-out-wide
+element-copy-out-wide c = search needs
 
-nowhere-requires : tie.Need-nowhere-requires
-nowhere-requires c κs = search needs
-
-locate-requires : tie.Need-locate-requires
-locate-requires c κs =
-    ((c .before .before .of) .ensures, nowhere-reached _ _ _ ((c .before .nowhere) .ensures))
+wide-requires : tie.Need-wide-requires
+wide-requires c κs = search needs
 
 returns : tie.Need-returns
 returns c =
-    nowhere-observes _ _ _ _ _ _ _ _ ((c .before .locate) .ensures) (not-true _ ((c .if1) .taken))
+    no-depth _ _ _ ((c .before .wide) .ensures .0) ((c .if1) .taken)
 
 returns-2 : tie.Need-returns-2
 returns-2 c =
-    end-observes _ _ _ _ _ _ _ _ ((c .before .before .before .locate) .ensures) (not-false _ ((c .before .before .if1) .left)) (and-off _ (le-ltb _ _ ((c .if2) .taken)))
+    too-deep _ _ _ ((c .before .before .wide) .ensures .0) ((c .if2) .taken)
 
-is-line-requires : tie.Need-is-line-requires
-is-line-requires c κs = search needs
+sub-activation : tie.Need-sub-activation
+sub-activation c = search needs
+
+activation-requires : tie.Need-activation-requires
+activation-requires c κs = search needs
+
+wide-requires-2 : tie.Need-wide-requires-2
+wide-requires-2 c κs = search needs
+
+is-live-requires : tie.Need-is-live-requires
+is-live-requires c κs = search needs
+
+looks-in-requires : tie.Need-looks-in-requires
+looks-in-requires c κs =
+    live-from _ _ _ ((c .before .is-live) .ensures) ((c .if3) .taken) .0
 
 returns-3 : tie.Need-returns-3
 returns-3 c =
-    end-observes _ _ _ _ _ _ _ _ ((c .before .before .before .before .before .locate) .ensures) (not-false _ ((c .before .before .before .before .if1) .left)) (and-on _ (lt-ltb _ _ ((c .before .before .if2) .left)) ∙ sym ((c .before .is-line) .ensures) ∙ not-true _ ((c .if3) .taken))
-
-looks-requires : tie.Need-looks-requires
-looks-requires c κs =
-    ((c .before .before .before .before .before .before .before .before .before .of) .ensures, frame-few _ _ [] _ [] _ _ _ ((c .before .before .before .before .before .before .locate) .ensures) (not-false _ ((c .before .before .before .before .before .if1) .left)))
+    live-looks _ _ _ ((c .before .before .before .before .before .before .before .wide) .ensures .0) ((c .before .before .before .before .before .before .if1) .left) ((c .before .before .before .before .before .if2) .left) ((c .before .before .before .before .activation) .ensures) ((c .before .before .before .wide2) .ensures .0) _ ((c .before .before .is-live) .ensures) _ ((c .before .if3) .taken) ((c .looks-in) .ensures)
 
 returns-4 : tie.Need-returns-4
 returns-4 c =
-    line-observes _ _ _ _ _ _ _ _ ((c .before .before .before .before .before .before .before .locate) .ensures) (not-false _ ((c .before .before .before .before .before .before .if1) .left)) _ ((c .before .before .before .before .if2) .left) (sym ((c .before .before .before .is-line) .ensures) ∙ not-false _ ((c .before .before .if3) .left)) ((c .looks) .ensures)
+    not-live _ _ _ ((c .before .before .before .before .before .before .wide) .ensures .0) ((c .before .before .before .before .before .if1) .left) ((c .before .before .before .before .if2) .left) ((c .before .before .before .activation) .ensures) ((c .before .before .wide2) .ensures .0) _ ((c .before .is-live) .ensures) ((c .if3) .left)
 
 pub search-spec : {M : Type 1} → statement M
 search-spec =
     tie.close
     (tie.spec
-    of-requires
-    nowhere-requires
-    locate-requires
+    element-copy-out-wide
+    wide-requires
     returns
     returns-2
-    is-line-requires
+    sub-activation
+    activation-requires
+    wide-requires-2
+    is-live-requires
+    looks-in-requires
     returns-3
-    looks-requires
     returns-4)

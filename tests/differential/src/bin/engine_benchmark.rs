@@ -143,13 +143,13 @@ fn main() {
         println!("The reference stands in for the proved engine.\n");
     }
     println!("nanoseconds per step: the median and the spread of all rounds, the three in turn\n");
-    for workload in workloads() {
-        compare(&workload, rounds);
-    }
+    let rows: Vec<String> = workloads().iter().map(|w| compare(w, rounds)).collect();
+    println!("| workload | proved | reference | tuned | proved / tuned |\n|---|---|---|---|---|");
+    println!("{}", rows.join("\n"));
 }
 
-/// Times the three on a workload, after asserting that they agree.
-fn compare(workload: &Workload, rounds: usize) {
+/// Times the three on a workload, after asserting that they agree; a row of the table.
+fn compare(workload: &Workload, rounds: usize) -> String {
     let name = workload.name;
     let prepared = Prepared::new(workload);
     let expected = prepared.reference();
@@ -165,9 +165,10 @@ fn compare(workload: &Workload, rounds: usize) {
     proved.print("proved");
     reference.print("reference");
     tuned.print("tuned");
-    let ratio = |times: &Times| proved.median() / times.median();
-    let (reference, tuned) = (ratio(reference), ratio(tuned));
-    println!("  proved/reference {reference:.3}, proved/tuned {tuned:.2}\n");
+    let [own, slow, fast] = [proved, reference, tuned].map(Times::median);
+    let (by_slow, by_fast) = (own / slow, own / fast);
+    println!("  proved/reference {by_slow:.3}, proved/tuned {by_fast:.2}\n");
+    format!("| {name} | {own:.1} | {slow:.0} | {fast:.1} | {by_fast:.2} |")
 }
 
 /// The times of the proved engine, the reference and the tuned interpreter,

@@ -1,18 +1,19 @@
 //! The instructions of all versions in one list, decoded.
 
-use reference::bounds::LISTED;
+use reference::bounds::{LISTED, REGISTERS};
 use reference::program::{Block, Program, Version};
 use reference::{kinds, Instruction, Kind, Register, Type};
 
-/// An instruction or a block end.
+/// An instruction or a block end, of 8 bytes.
 #[derive(Clone, Copy)]
 #[allow(missing_docs)] // The fields are the paper's letters.
 pub enum Op {
+    /// LIT; the number of its integer.
     Lit {
         d: u8,
-        value: i64,
+        literal: u16,
     },
-    /// MOVE, or a CAST that no value fails.
+    /// MOVE, STORE, or a CAST that no value fails.
     Copy {
         d: u8,
         a: u8,
@@ -25,10 +26,11 @@ pub enum Op {
         d: u8,
         a: u8,
     },
+    /// VEC; the number of its list.
     Vec {
         d: u8,
         n: u8,
-        items: [u8; LISTED],
+        list: u16,
     },
     Len {
         d: u8,
@@ -85,10 +87,6 @@ pub enum Op {
         d: u8,
         x: u8,
     },
-    Store {
-        x: u8,
-        a: u8,
-    },
     /// PROM; the kind of the promise, and where its block stands.
     Prom {
         d: u8,
@@ -134,6 +132,8 @@ pub enum Op {
     },
 }
 
+const _: () = assert!(size_of::<Op>() == 8);
+
 /// A version that a CALL enters or a DISPATCH may enter, with the arguments.
 #[derive(Clone, Copy)]
 pub struct Site {
@@ -151,10 +151,19 @@ pub struct Site {
     pub checked: [(u8, u8); LISTED],
 }
 
+/// The places for instructions and block ends: a power of two, so that a place is a mask
+/// away, and more than an image has records.
+pub const OPS: usize = 8192;
+
 /// The decoded instructions of a program.
 pub struct Code {
-    pub(super) ops: Vec<Op>,
+    /// The instructions, and behind them a place for each that no image has.
+    pub(super) ops: Box<[Op; OPS]>,
     pub(super) sites: Vec<Site>,
+    /// The integers of literals.
+    pub(super) literals: Vec<i64>,
+    /// The registers that VECs list.
+    pub(super) lists: Vec<[u8; LISTED]>,
     /// Where each block of each version stands.
     blocks: Vec<Vec<u32>>,
 }
@@ -163,13 +172,19 @@ impl Code {
     /// The code of an accepted program.
     pub fn new(program: &Program) -> Code {
         let mut code = Code {
-            ops: Vec::new(),
+            ops: Box::new([Op::Return { result: 0 }; OPS]),
             sites: Vec::new(),
+            literals: Vec::new(),
+            lists: Vec::new(),
             blocks: block_places(program),
         };
+        let mut next = 0;
         for (index, version) in program.versions.iter().enumerate() {
             for (number, block) in version.blocks.iter().enumerate() {
-                code.add_block(program, index, version, number, block);
+                for op in code.block(program, index, version, number, block) {
+                    code.ops[next] = op;
+                    next += 1;
+                }
             }
         }
         code
@@ -183,30 +198,47 @@ impl Code {
         Some(self.blocks[index][0])
     }
 
-    /// Adds the instructions of a block and its end.
-    fn add_block(
+    /// The instructions of a block and its end.
+    fn block(
         &mut self,
         program: &Program,
         index: usize,
         version: &Version,
         number: usize,
         block: &Block,
-    ) {
+    ) -> Vec<Op> {
+        let mut ops = Vec::new();
         for placed in &block.instructions {
-            let op = match placed.item {
+            ops.push(match placed.item {
+                Instruction::Lit { d, value } => self.literal(d, value),
+                Instruction::Vec { d, ref items } => self.list(d, items),
                 Instruction::Prom { d, block } => self.prom(index, version, d, block),
                 Instruction::Call { .. } | Instruction::Dispatch { .. } => {
                     self.call(program, version, &placed.item)
                 }
                 ref instruction => plain(version, instruction),
-            };
-            self.ops.push(op);
+            });
         }
         let result = block.head.result;
-        self.ops.push(match number {
+        ops.push(match number {
             0 => Op::Return { result },
             _ => Op::Forced { result },
         });
+        ops
+    }
+
+    /// A LIT.
+    fn literal(&mut self, d: Register, value: i64) -> Op {
+        self.literals.push(value);
+        let literal = (self.literals.len() - 1) as u16;
+        Op::Lit { d, literal }
+    }
+
+    /// A VEC.
+    fn list(&mut self, d: Register, items: &[Register]) -> Op {
+        self.lists.push(listed(items));
+        let (n, list) = (items.len() as u8, (self.lists.len() - 1) as u16);
+        Op::Vec { d, n, list }
     }
 
     /// A PROM.
@@ -326,35 +358,34 @@ fn listed(registers: &[Register]) -> [u8; LISTED] {
     list
 }
 
-/// An instruction that is neither PROM, CALL nor DISPATCH.
+/// An instruction that is neither LIT, VEC, PROM, CALL nor DISPATCH.
 fn plain(version: &Version, instruction: &Instruction) -> Op {
     use Instruction as I;
     match *instruction {
-        I::Lit { d, value } => Op::Lit { d, value },
         I::Move { d, a } => Op::Copy { d, a },
         I::Use { d, a } => Op::Use { d, a },
         I::Dup { d, a } => Op::Dup { d, a },
-        I::Vec { d, ref items } => Op::Vec {
-            d,
-            n: items.len() as u8,
-            items: listed(items),
-        },
         I::Len { d, a } => Op::Len { d, a },
         I::Get { d, a, i } => Op::Get { d, a, i },
         I::Set { a, i, e } => Op::Set { a, i, e },
         I::Arith { d, op, a, b } => arith(d, op, a, b),
         I::Select { d, c, a, b } => Op::Select { d, c, a, b },
         I::Cast { d, a } => cast(version, d, a),
-        I::Named { d, x } => Op::Named { d, x },
-        I::Store { x, a } => Op::Store { x, a },
+        I::Named { d, x } => Op::Named { d, x: name(x) },
+        I::Store { x, a } => Op::Copy { d: name(x), a },
         I::Force { d, a } => Op::Force { d, a },
-        I::Peek { d, a, x } => Op::Peek { d, a, x },
-        I::Poke { a, x, e } => Op::Poke { a, x, e },
+        I::Peek { d, a, x } => Op::Peek { d, a, x: name(x) },
+        I::Poke { a, x, e } => Op::Poke { a, x: name(x), e },
         I::Skip { a, n } => Op::Skip { a, n },
-        I::Prom { .. } | I::Call { .. } | I::Dispatch { .. } => {
+        I::Lit { .. } | I::Vec { .. } | I::Prom { .. } | I::Call { .. } | I::Dispatch { .. } => {
             unreachable!("these are decoded elsewhere")
         }
     }
+}
+
+/// The place of a name in its frame.
+fn name(x: u8) -> u8 {
+    REGISTERS as u8 + x
 }
 
 /// An ARITH.

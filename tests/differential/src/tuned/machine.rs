@@ -1,7 +1,7 @@
 //! The run of decoded instructions.
 
-use super::code::{Code, Op, Site};
-use super::frames::{Cell, Frames, FRAME};
+use super::code::{Code, Op, Site, OPS};
+use super::frames::{Cell, Frame, Frames};
 use super::places::{Forcing, Free, Promise, Promises, Vector, Vectors};
 use reference::bounds::{Steps, ACTIVATIONS, ITEMS, PROMISES, VECTORS};
 use reference::{Answer, End, Integer, Kind, Program, State, Value};
@@ -12,7 +12,7 @@ struct Waiting {
     /// The instruction to go on with.
     next: u32,
     /// The frame of the activation below.
-    frame: u32,
+    frame: u8,
     /// The register that takes the result.
     d: u8,
     /// The promise that is forced, or [`CALL`].
@@ -26,6 +26,8 @@ const CALL: u8 = u8::MAX;
 pub struct Machine<'c> {
     code: &'c Code,
     frames: Frames,
+    /// The frame of the newest activation, which a run takes.
+    out: Option<Box<Frame>>,
     vectors: Vectors,
     promises: Promises,
     free_vectors: Free,
@@ -33,11 +35,11 @@ pub struct Machine<'c> {
     waiting: [Waiting; ACTIVATIONS],
     /// How many activations live.
     depth: usize,
-    /// Where the frame of the next call begins.
-    top: usize,
+    /// How many calls live.
+    calls: usize,
     /// The next instruction.
     next: usize,
-    /// The frame of the newest activation.
+    /// The number of the frame of the newest activation.
     frame: usize,
     ended: Option<End>,
     result: Vec<Integer>,
@@ -56,36 +58,30 @@ impl<'c> Machine<'c> {
             d: 0,
             forced: CALL,
         };
+        let (frames, mut out) = Frames::new();
+        take_arguments(&mut out, begun);
         let mut machine = Machine {
             code,
-            frames: Frames::new(),
+            frames,
+            out: Some(out),
             vectors: [Vector::EMPTY; VECTORS],
             promises: [Promise::NONE; PROMISES],
             free_vectors: Free::from(given),
             free_promises: Free::from(0),
             waiting: [waiting; ACTIVATIONS],
             depth: 1,
-            top: FRAME,
+            calls: 1,
             next: entry.expect("the entry exists") as usize,
             frame: 0,
             ended: None,
             result: Vec::new(),
         };
-        machine.take_arguments(begun);
+        machine.take_vectors(begun);
         machine
     }
 
-    /// Puts the arguments of a begun run into the first frame.
-    fn take_arguments(&mut self, begun: &State) {
-        for (register, value) in (0..).zip(&begun.frames[0].registers) {
-            let cell = match *value {
-                None => Cell::EMPTY,
-                Some(Value::Integer(integer)) => Cell::integer(integer),
-                Some(Value::Vector(place)) => Cell::at(Kind::VECTOR.0, place),
-                Some(Value::Promise(_)) => unreachable!("no argument is a promise"),
-            };
-            self.frames.put(0, register, cell);
-        }
+    /// Takes the vectors of a begun run over.
+    fn take_vectors(&mut self, begun: &State) {
         let given = begun.vectors.iter().flatten();
         for (vector, items) in self.vectors.iter_mut().zip(given) {
             vector.length = items.len();
@@ -117,190 +113,197 @@ impl<'c> Machine<'c> {
     /// Runs until nothing is left of the budget, or to the end, whose step is
     /// taken off the budget.
     fn run(&mut self, left: &mut Steps) -> Option<End> {
-        let ops = &self.code.ops[..];
+        let code = self.code;
+        let ops = &*code.ops;
+        let mut out = self.out.take().expect("it is put back after each run");
         let (mut next, mut frame, mut steps) = (self.next, self.frame, *left);
         let end = loop {
             if steps == 0 {
                 break None;
             }
             steps -= 1;
-            let op = &ops[next];
+            let op = &ops[next % OPS];
             next += 1;
-            let frames = &mut self.frames;
             match *op {
-                Op::Lit { d, value } => frames.put_integer(frame, d, value),
-                Op::Copy { d, a } => frames.put(frame, d, frames.get(frame, a)),
+                Op::Lit { d, literal } => out.put_integer(d, code.literals[usize::from(literal)]),
+                Op::Copy { d, a } => out.put(d, out.get(a)),
                 Op::Use { d, a } => {
-                    let vector = frames.get(frame, a);
-                    frames.put(frame, a, Cell::EMPTY);
-                    frames.put(frame, d, vector);
+                    let vector = out.get(a);
+                    out.empty(a);
+                    out.put(d, vector);
                 }
                 Op::Dup { d, a } => {
-                    let place = frames.get(frame, a).place();
-                    if !self.add_vector(frame, d, self.vectors[place]) {
+                    let Some(place) = self.free_vector(&out) else {
                         break Some(End::Vectors);
-                    }
+                    };
+                    self.vectors[place] = self.vectors[out.place(a)];
+                    out.put(d, Cell::at(Kind::VECTOR.0, place));
                 }
-                Op::Vec { d, n, items } => {
-                    let mut vector = Vector::EMPTY;
-                    vector.length = usize::from(n);
-                    for (item, &register) in vector.items.iter_mut().zip(&items[..n.into()]) {
-                        *item = frames.integer(frame, register);
-                    }
-                    if !self.add_vector(frame, d, vector) {
+                Op::Vec { d, n, list } => {
+                    let Some(place) = self.free_vector(&out) else {
                         break Some(End::Vectors);
+                    };
+                    let vector = &mut self.vectors[place];
+                    vector.length = usize::from(n);
+                    let list = &code.lists[usize::from(list)][..n.into()];
+                    for (item, &register) in vector.items.iter_mut().zip(list) {
+                        *item = out.integer(register);
                     }
+                    out.put(d, Cell::at(Kind::VECTOR.0, place));
                 }
                 Op::Len { d, a } => {
-                    let length = self.vectors[frames.get(frame, a).place()].length;
-                    frames.put_integer(frame, d, length as Integer);
+                    let length = self.vectors[out.place(a)].length;
+                    out.put_integer(d, length as Integer);
                 }
                 Op::Get { d, a, i } => {
-                    let vector = &self.vectors[frames.get(frame, a).place()];
-                    let Some(position) = vector.position(frames.integer(frame, i)) else {
+                    let vector = &self.vectors[out.place(a)];
+                    let Some(position) = vector.position(out.integer(i)) else {
                         break Some(End::Undef);
                     };
-                    frames.put_integer(frame, d, vector.items[position]);
+                    out.put_integer(d, vector.items[position]);
                 }
                 Op::Set { a, i, e } => {
-                    let vector = &mut self.vectors[frames.get(frame, a).place()];
-                    let Some(position) = vector.position(frames.integer(frame, i)) else {
+                    let vector = &mut self.vectors[out.place(a)];
+                    let Some(position) = vector.position(out.integer(i)) else {
                         break Some(End::Undef);
                     };
-                    vector.items[position] = frames.integer(frame, e);
+                    vector.items[position] = out.integer(e);
                 }
                 Op::Add { d, a, b } => {
-                    let a = frames.integer(frame, a);
-                    let Some(sum) = a.checked_add(frames.integer(frame, b)) else {
+                    let Some(sum) = out.integer(a).checked_add(out.integer(b)) else {
                         break Some(End::Undef);
                     };
-                    frames.put_integer(frame, d, sum);
+                    out.put_integer(d, sum);
                 }
                 Op::Subtract { d, a, b } => {
-                    let a = frames.integer(frame, a);
-                    let Some(difference) = a.checked_sub(frames.integer(frame, b)) else {
+                    let Some(difference) = out.integer(a).checked_sub(out.integer(b)) else {
                         break Some(End::Undef);
                     };
-                    frames.put_integer(frame, d, difference);
+                    out.put_integer(d, difference);
                 }
                 Op::Multiply { d, a, b } => {
-                    let a = frames.integer(frame, a);
-                    let Some(product) = a.checked_mul(frames.integer(frame, b)) else {
+                    let Some(product) = out.integer(a).checked_mul(out.integer(b)) else {
                         break Some(End::Undef);
                     };
-                    frames.put_integer(frame, d, product);
+                    out.put_integer(d, product);
                 }
                 Op::Divide { d, a, b } => {
-                    let (a, b) = (frames.integer(frame, a), frames.integer(frame, b));
+                    let (a, b) = (out.integer(a), out.integer(b));
                     let Some(quotient) = a.checked_div(b) else {
                         break Some(End::Undef);
                     };
                     // Toward minus infinity: one less where the signs differ and it is not exact.
                     let less = (a ^ b) < 0 && quotient * b != a;
-                    frames.put_integer(frame, d, quotient - Integer::from(less));
+                    out.put_integer(d, quotient - Integer::from(less));
                 }
                 Op::Less { d, a, b } => {
-                    let less = frames.integer(frame, a) < frames.integer(frame, b);
-                    frames.put_integer(frame, d, less.into());
+                    let less = out.integer(a) < out.integer(b);
+                    out.put_integer(d, less.into());
                 }
                 Op::Select { d, c, a, b } => {
-                    let chosen = if frames.integer(frame, c) != 0 { a } else { b };
-                    frames.put(frame, d, frames.get(frame, chosen));
+                    let chosen = if out.integer(c) != 0 { a } else { b };
+                    out.put_integer(d, out.integer(chosen));
                 }
                 Op::Cast { d, a, kinds } => {
-                    let value = frames.get(frame, a);
+                    let value = out.get(a);
                     if kinds >> value.kind() & 1 == 0 {
                         break Some(End::Undef);
                     }
-                    frames.put(frame, d, value);
+                    out.put(d, value);
                 }
                 Op::Named { d, x } => {
-                    let value = frames.name(frame, x);
+                    let value = out.get(x);
                     if value.is_empty() {
                         break Some(End::Undef);
                     }
-                    frames.put(frame, d, value);
+                    out.put(d, value);
                 }
-                Op::Store { x, a } => frames.put_name(frame, x, frames.get(frame, a)),
                 Op::Prom { d, kind, block } => {
-                    if !self.add_promise(frame, d, kind, block) {
+                    if !self.add_promise(&mut out, frame, kind, (d, block)) {
                         break Some(End::Promises);
                     }
                 }
                 Op::Force { d, a } => {
-                    let place = frames.get(frame, a).place();
+                    let place = out.place(a);
                     let promise = self.promises[place];
                     if promise.state == Forcing::Done {
-                        frames.put_integer(frame, d, promise.cache);
-                        continue;
-                    }
-                    if promise.state == Forcing::Begun {
+                        out.put_integer(d, promise.cache);
+                    } else if promise.state == Forcing::Begun {
                         break Some(End::Undef);
-                    }
-                    if !self.wait(next, frame, d, place as u8) {
+                    } else if !self.wait(next, frame, d, place as u8) {
                         break Some(End::Deep);
+                    } else {
+                        self.promises[place].state = Forcing::Begun;
+                        self.frames.turn(&mut out, &mut frame, promise.frame);
+                        next = promise.block as usize;
                     }
-                    self.promises[place].state = Forcing::Begun;
-                    (next, frame) = (promise.block as usize, promise.frame);
                 }
                 Op::Peek { d, a, x } => {
-                    let promise = &self.promises[frames.get(frame, a).place()];
-                    let value = frames.name(promise.frame, x);
+                    let at = self.promises[out.place(a)].frame;
+                    let value = match at == frame {
+                        true => out.get(x),
+                        false => self.frames.at(at).get(x),
+                    };
                     if value.is_empty() {
                         break Some(End::Undef);
                     }
-                    frames.put(frame, d, value);
+                    out.put(d, value);
                 }
                 Op::Poke { a, x, e } => {
-                    let promise = &self.promises[frames.get(frame, a).place()];
-                    frames.put_name(promise.frame, x, frames.get(frame, e));
+                    let (at, value) = (self.promises[out.place(a)].frame, out.get(e));
+                    match at == frame {
+                        true => out.put(x, value),
+                        false => self.frames.at(at).put(x, value),
+                    }
                 }
                 Op::Call { d, site } => {
-                    let site = &self.code.sites[usize::from(site)];
+                    let site = &code.sites[usize::from(site)];
                     if !self.wait(next, frame, d, CALL) {
                         break Some(End::Deep);
                     }
-                    (next, frame) = (site.entry as usize, self.enter(frame, site));
+                    next = self.enter(&mut out, &mut frame, site);
                 }
                 Op::Dispatch { d, first, last } => {
-                    let sites = &self.code.sites[first.into()..last.into()];
-                    let Some(site) = sites.iter().find(|site| frames_fit(frames, frame, site))
-                    else {
+                    let sites = &code.sites[first.into()..last.into()];
+                    let Some(site) = sites.iter().find(|site| fits(&out, site)) else {
                         break Some(End::Undef);
                     };
                     if !self.wait(next, frame, d, CALL) {
                         break Some(End::Deep);
                     }
-                    (next, frame) = (site.entry as usize, self.enter(frame, site));
+                    next = self.enter(&mut out, &mut frame, site);
                 }
                 Op::Skip { a, n } => {
-                    if frames.integer(frame, a) == 0 {
-                        next += usize::from(n);
-                    }
+                    let skipped = if out.integer(a) == 0 { n } else { 0 };
+                    next += usize::from(skipped);
                 }
                 Op::Return { result } => {
-                    let value = frames.get(frame, result);
-                    self.top = frame;
+                    let value = out.get(result);
+                    out.clear();
+                    self.calls -= 1;
                     self.depth -= 1;
                     if self.depth == 0 {
                         break Some(self.done(value));
                     }
                     let waiting = self.waiting[self.depth % ACTIVATIONS];
-                    (next, frame) = (waiting.next as usize, waiting.frame as usize);
-                    self.frames.put(frame, waiting.d, value);
+                    self.frames.turn(&mut out, &mut frame, waiting.frame.into());
+                    next = waiting.next as usize;
+                    out.put(waiting.d, value);
                 }
                 Op::Forced { result } => {
-                    let value = frames.get(frame, result);
+                    let integer = out.integer(result);
                     self.depth -= 1;
                     let waiting = self.waiting[self.depth % ACTIVATIONS];
                     let promise = &mut self.promises[usize::from(waiting.forced) % PROMISES];
-                    (promise.state, promise.cache) = (Forcing::Done, value.number());
-                    (next, frame) = (waiting.next as usize, waiting.frame as usize);
-                    frames.put(frame, waiting.d, value);
+                    (promise.state, promise.cache) = (Forcing::Done, integer);
+                    self.frames.turn(&mut out, &mut frame, waiting.frame.into());
+                    next = waiting.next as usize;
+                    out.put_integer(waiting.d, integer);
                 }
             }
         };
         (self.next, self.frame, *left) = (next, frame, steps);
+        self.out = Some(out);
         end
     }
 
@@ -312,7 +315,7 @@ impl<'c> Machine<'c> {
         };
         *place = Waiting {
             next: next as u32,
-            frame: frame as u32,
+            frame: frame as u8,
             d,
             forced,
         };
@@ -320,43 +323,44 @@ impl<'c> Machine<'c> {
         true
     }
 
-    /// Opens a frame with the arguments of a site; the frame.
+    /// Opens a frame, whose registers are empty, with the arguments of a site; where its
+    /// instructions stand.
     #[inline(always)]
-    fn enter(&mut self, caller: usize, site: &Site) -> usize {
-        let opened = self.top;
-        self.frames.clear(opened);
-        for place in 0..site.count {
-            let register = site.arguments[usize::from(place)];
-            let value = self.frames.get(caller, register);
-            self.frames.put(opened, place, value);
+    fn enter(&mut self, out: &mut Box<Frame>, frame: &mut usize, site: &Site) -> usize {
+        let opened = self.calls;
+        let callee = self.frames.at(opened);
+        for (place, &register) in (0..).zip(&site.arguments[..site.count.into()]) {
+            callee.put(place, out.get(register));
             if site.emptied >> place & 1 == 1 {
-                self.frames.put(caller, register, Cell::EMPTY);
+                out.empty(register);
             }
         }
-        self.top = opened + FRAME;
-        opened
+        self.calls += 1;
+        self.frames.turn(out, frame, opened);
+        site.entry as usize
     }
 
-    /// Puts a new vector into a register; no if 64 count.
+    /// The place of a new vector; none if 64 count.
     #[inline(always)]
-    fn add_vector(&mut self, frame: usize, d: u8, vector: Vector) -> bool {
-        let (frames, top) = (&self.frames, self.top);
-        let Some(place) = self.free_vectors.take(|| frames.vectors(top)) else {
-            return false;
-        };
-        self.vectors[place] = vector;
-        self.frames.put(frame, d, Cell::at(Kind::VECTOR.0, place));
-        true
+    fn free_vector(&mut self, out: &Frame) -> Option<usize> {
+        let (frames, calls) = (&self.frames, self.calls);
+        self.free_vectors.take(|| frames.vectors(out, calls))
     }
 
-    /// Puts a new promise into a register; no if 64 count.
+    /// Puts a new promise of a kind, of a block, into a register; no if 64 count.
     #[inline(always)]
-    fn add_promise(&mut self, frame: usize, d: u8, kind: u8, block: u32) -> bool {
-        let (frames, top) = (&self.frames, self.top);
+    fn add_promise(
+        &mut self,
+        out: &mut Frame,
+        frame: usize,
+        kind: u8,
+        (d, block): (u8, u32),
+    ) -> bool {
+        let (frames, calls) = (&self.frames, self.calls);
         let pending = &self.waiting[1..self.depth];
         let counted = || {
             let forced = pending.iter().filter(|waiting| waiting.forced != CALL);
-            let held = frames.promises(top);
+            let held = frames.promises(out, calls);
             forced.fold(held, |counted, waiting| counted | 1 << waiting.forced)
         };
         let Some(place) = self.free_promises.take(counted) else {
@@ -367,7 +371,7 @@ impl<'c> Machine<'c> {
             block,
             ..Promise::NONE
         };
-        self.frames.put(frame, d, Cell::at(kind, place));
+        out.put(d, Cell::at(kind, place));
         true
     }
 
@@ -382,11 +386,26 @@ impl<'c> Machine<'c> {
     }
 }
 
+/// Puts the arguments of a begun run into its first frame.
+fn take_arguments(frame: &mut Frame, begun: &State) {
+    for (register, value) in (0..).zip(&begun.frames[0].registers) {
+        frame.put(
+            register,
+            match *value {
+                None => Cell::EMPTY,
+                Some(Value::Integer(integer)) => Cell::integer(integer),
+                Some(Value::Vector(place)) => Cell::at(Kind::VECTOR.0, place),
+                Some(Value::Promise(_)) => unreachable!("no argument is a promise"),
+            },
+        );
+    }
+}
+
 /// Do the values of the arguments match the parameters of a site's version?
 #[inline(always)]
-fn frames_fit(frames: &Frames, frame: usize, site: &Site) -> bool {
+fn fits(frame: &Frame, site: &Site) -> bool {
     let checked = &site.checked[..site.checks.into()];
     checked
         .iter()
-        .all(|&(register, kinds)| kinds >> frames.get(frame, register).kind() & 1 == 1)
+        .all(|&(register, kinds)| kinds >> frame.kind(register) & 1 == 1)
 }

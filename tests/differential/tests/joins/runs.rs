@@ -8,7 +8,7 @@ use differential::engine;
 use differential::paced::Paced;
 use differential::snapshot::state_of;
 use generator::{entry, steps_and_budgets, words, Event, Tally};
-use library::OWNER;
+use library::{FIR_STRIDE, OWNER};
 use reference::bounds::BUFFER;
 use reference::joins::Sizes;
 use reference::{Answer, Integer, Program, Refusal, Said};
@@ -40,8 +40,8 @@ struct Part<'a> {
 /// Two runs that are to be alike.
 struct Twins<'a> {
     part: &'a Part<'a>,
-    alone: Paced<'a>,
-    together: Paced<'a>,
+    alone: Paced<'static>,
+    together: Paced<'static>,
     origin: &'a str,
 }
 
@@ -194,37 +194,17 @@ impl Twins<'_> {
     }
 
     /// Are all numbers of both states the same, with those of live calls' functions
-    /// raised? Where they are not, what means nothing in them may differ.
+    /// raised? Where they are not, what means nothing in them may differ; the functions of
+    /// calls that have ended are left out.
     fn is_same_by_numbers(&self) -> bool {
-        let (own, other) = (self.alone.state(), self.together.state());
-        let raised = self.part.functions as u8;
-        let owners = |state: &library::State| {
-            let live = usize::from(state.calls) * OWNER;
-            state.owners[..live].to_vec()
-        };
-        let mut expected = owners(own);
-        for owner in expected.chunks_mut(OWNER) {
-            owner[0] += raised;
+        let (mut own, other) = (self.alone.state().clone(), self.together.state());
+        for (call, at) in (OWNER..own.tags.len()).step_by(FIR_STRIDE).enumerate() {
+            own.tags[at] = match call < own.calls.into() {
+                true => own.tags[at] + self.part.functions as u8,
+                false => other.tags[at],
+            };
         }
-        let counts = |state: &library::State| {
-            (
-                state.calls,
-                state.depth,
-                state.status,
-                state.length,
-                state.value,
-            )
-        };
-        expected == owners(other)
-            && counts(own) == counts(other)
-            && own.codes == other.codes
-            && own.numbers == other.numbers
-            && own.items == other.items
-            && own.caches == other.caches
-            && own.result == other.result
-            && own.stack == other.stack
-            && own.lengths == other.lengths
-            && own.promises == other.promises
+        own == *other
     }
 }
 

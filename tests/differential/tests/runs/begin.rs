@@ -27,11 +27,11 @@ pub struct Start<'i> {
 /// Begins a run on both sides; the state of the reference and the run of the
 /// proved engine, or the refusal.
 #[track_caller]
-pub fn begin<'i>(
-    start: &Start<'i>,
+pub fn begin(
+    start: &Start,
     program: &Result<Program, Refusal>,
     origin: &str,
-) -> Result<(State, Paced<'i>), Refusal> {
+) -> Result<(State, Paced<'static>), Refusal> {
     let Start {
         image,
         level,

@@ -44,18 +44,18 @@ impl Lent {
 }
 
 /// A run on both sides.
-pub struct Pair<'p> {
+pub struct Pair {
     /// The image in force.
     image: Vec<u8>,
     reference: Watched,
-    proved: Paced<'p>,
+    proved: Paced<'static>,
     events: usize,
     changes: History,
 }
 
-impl<'p> Pair<'p> {
+impl Pair {
     /// A run of an image that has begun on both sides.
-    pub fn new(image: &[u8], reference: Watched, proved: Paced<'p>) -> Pair<'p> {
+    pub fn new(image: &[u8], reference: Watched, proved: Paced<'static>) -> Pair {
         Pair {
             image: image.to_vec(),
             reference,
@@ -71,7 +71,7 @@ impl<'p> Pair<'p> {
     }
 
     /// The run of the proved engine.
-    pub fn proved(&self) -> &Paced<'p> {
+    pub fn proved(&self) -> &Paced<'static> {
         &self.proved
     }
 
@@ -214,7 +214,7 @@ impl<'p> Pair<'p> {
         let live = self.reference.state().live_versions();
         let new = update(aim, seed, &self.image, &live);
         let before = self.proved.state().clone();
-        let found = engine::change(&mut self.proved, new.clone());
+        let found = engine::change(&mut self.proved, &new);
         let expected = self.reference.change(&self.image, &new);
         self.assert_same(expected, found, origin);
         let kept = before == *self.proved.state();

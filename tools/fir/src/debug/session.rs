@@ -17,8 +17,8 @@ pub struct Session<'s> {
     source: &'s Source,
     program: Program,
     /// The run before its first step.
-    start: Run<'s>,
-    run: Run<'s>,
+    start: Run<'static>,
+    run: Run<'static>,
     /// The steps taken.
     steps: u32,
     /// The most steps.
@@ -27,7 +27,7 @@ pub struct Session<'s> {
 
 impl<'s> Session<'s> {
     /// That of a run before its first step.
-    pub fn new(source: &'s Source, run: Run<'s>, budget: u32) -> Session<'s> {
+    pub fn new(source: &'s Source, run: Run<'static>, budget: u32) -> Session<'s> {
         let program = Program::ordered(&source.image);
         Session {
             source,

@@ -1,17 +1,17 @@
--- `abi::entry::run`: a refusal, or the budget after the beginning.
-use Rattle.abi.proofs.Coming.{run-answers, run-answers-refused}
+-- `abi::entry::run`: a refusal leaves all; a begun run gets its first budget.
+use Rattle.abi.proofs.Pausing.{run-begun, run-refused}
 use borrow.Author.Needs.{needs}
 use Rattle.abi.proofs.entry.run.Statement.{statement}
 use Rattle.abi.proofs.entry.run.Tie as tie
 
-enter-requires : tie.Need-enter-requires
-enter-requires c κs = search needs
+begin-requires : tie.Need-begin-requires
+begin-requires c κs = search needs
 
-enum-known-entry : tie.Need-enum-known-entry
-enum-known-entry c = search needs
+enum-known-q : tie.Need-enum-known-q
+enum-known-q c = search needs
 
-answer-requires : tie.Need-answer-requires
-answer-requires c κs = search needs
+refused-requires : tie.Need-refused-requires
+refused-requires c κs = search needs
 
 enum-told : tie.Need-enum-told
 enum-told c = search needs
@@ -24,22 +24,22 @@ same-length c = search needs
 
 returns : tie.Need-returns
 returns c =
-    run-answers-refused _ _ _ _ _ _ _ _ _ _ ((c .before .before .before .before .enter) .ensures) _ _ ((c .before .before .entry) .given .1) ((c .answer) .ensures)
+    run-refused _ _ _ _ _ _ _ _ _ _ _ ((c .before .before .before .before .begin) .ensures) _ _ ((c .before .before .q) .given .1) ((c .refused) .ensures)
 
 same-length-2 : tie.Need-same-length-2
 same-length-2 c = search needs
 
 returns-2 : tie.Need-returns-2
 returns-2 c =
-    run-answers _ _ _ _ _ _ _ _ _ _ ((c .before .before .before .before .before .before .before .before .before .before .before .before .before .before .before .before .before .before .before .enter) .ensures) _ ((c .before .before .before .before .before .before .before .before .before .before .before .before .before .before .before .before .before .enum-told) .given .1) ((c .before .budget) .ensures)
+    run-begun _ _ _ _ _ _ _ _ _ _ _ ((c .before .before .before .before .before .before .before .begin) .ensures) _ _ _ ((c .before .before .before .before .before .enum-told) .given .1) ((c .before .budget) .ensures .0)
 
 pub run-spec : {M : Type 1} → statement M
 run-spec =
     tie.close
     (tie.spec
-    enter-requires
-    enum-known-entry
-    answer-requires
+    begin-requires
+    enum-known-q
+    refused-requires
     enum-told
     budget-requires
     same-length

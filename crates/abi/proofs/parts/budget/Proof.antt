@@ -1,44 +1,44 @@
--- `abi::parts::budget`: question 13, then the budget and what it delivers.
-use Rattle.abi.proofs.Coming.{answers-refused, answers-taken}
-use Rattle.snapshots.specs.Held.{held, snapshotOf}
-use Rattle.engine.proofs.Driving.{refuses}
-use mathlib.Core.Path.{refl}
+-- `abi::parts::budget`: 13 first; else what the steps come to.
+use Rattle.abi.proofs.Pausing.{budget-refused, budget-taken}
 use borrow.Author.Needs.{needs}
 use Rattle.abi.proofs.parts.budget.Statement.{statement}
 use Rattle.abi.proofs.parts.budget.Tie as tie
 
-answer-requires : tie.Need-answer-requires
-answer-requires c κs = search needs
+refused-requires : tie.Need-refused-requires
+refused-requires c κs = search needs
 
 returns : tie.Need-returns
 returns c =
-    answers-refused _ _ _ _ (refuses _ _ _ _ ((c .before .if1) .taken)) ((c .answer) .ensures) refl
+    budget-refused _ _ _ _ _ ((c .before .if1) .taken) ((c .refused) .ensures)
 
-under-requires : tie.Need-under-requires
-under-requires c κs = search needs
+resume-requires : tie.Need-resume-requires
+resume-requires c κs = search needs
 
-deliver-requires : tie.Need-deliver-requires
-deliver-requires c κs = search needs
+leave-requires : tie.Need-leave-requires
+leave-requires c κs = search needs
 
-answer-requires-2 : tie.Need-answer-requires-2
-answer-requires-2 c κs = search needs
+said-requires : tie.Need-said-requires
+said-requires c κs = search needs
+
+taken-requires : tie.Need-taken-requires
+taken-requires c κs = search needs
 
 same-length : tie.Need-same-length
 same-length c = search needs
 
 returns-2 : tie.Need-returns-2
-unfolding held snapshotOf
 returns-2 c =
-    answers-taken _ _ _ _ _ _ ((c .before .before .before .before .before .under) .ensures) ((c .before .before .before .before .before .before .before .before .before .before .before .before .before .before .before .before .before .before .before .before .if1) .left) ((c .answer2) .ensures) ((c .before .before .deliver) .ensures)
+    budget-taken _ _ _ _ _ _ _ _ _ ((c .before .before .before .before .before .before .before .before .before .before .before .before .if1) .left) ((c .before .before .before .before .before .before .before .before .before .resume) .ensures) ((c .before .before .before .before .before .leave) .ensures) ((c .before .said) .ensures) ((c .taken) .ensures)
 
 pub budget-spec : {M : Type 1} → statement M
 budget-spec =
     tie.close
     (tie.spec
-    answer-requires
+    refused-requires
     returns
-    under-requires
-    deliver-requires
-    answer-requires-2
+    resume-requires
+    leave-requires
+    said-requires
+    taken-requires
     same-length
     returns-2)

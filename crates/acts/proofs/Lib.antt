@@ -1,0 +1,5 @@
+pub mod Answers
+pub mod Clauses
+pub mod Delayed
+pub mod Setting
+pub mod Undef

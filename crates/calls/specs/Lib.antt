@@ -1,3 +1,0 @@
-pub mod Frames
-pub mod Entering
-pub mod Searching

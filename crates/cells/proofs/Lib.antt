@@ -1,6 +1,0 @@
-pub mod Codes
-pub mod Undef
-pub mod Given
-pub mod Giving
-pub mod Reading
-pub mod Feeding

@@ -1,0 +1,4 @@
+pub mod Answered
+pub mod Calls
+pub mod Forces
+pub mod Runs

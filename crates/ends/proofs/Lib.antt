@@ -1,4 +1,0 @@
-pub mod Backs
-pub mod Forces
-pub mod Finishes
-pub mod Closings

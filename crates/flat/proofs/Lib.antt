@@ -1,5 +1,0 @@
-pub mod Parts
-pub mod Stacks
-pub mod Delayed
-pub mod Heaps
-pub mod Cells

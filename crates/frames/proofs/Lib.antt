@@ -1,0 +1,4 @@
+pub mod Closing
+pub mod Dropping
+pub mod Opening
+pub mod Tallying

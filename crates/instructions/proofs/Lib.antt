@@ -1,3 +1,0 @@
-pub mod Forming
-pub mod Arms
-pub mod Skipping

@@ -1,3 +1,0 @@
-pub mod Kinded
-pub mod Looking
-pub mod Moving

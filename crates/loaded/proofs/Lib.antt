@@ -1,0 +1,12 @@
+pub mod Decoding
+pub mod Stores
+pub mod Reading
+pub mod Lookups
+pub mod Standing
+pub mod Finding
+pub mod Entries
+pub mod Filled
+pub mod Loads
+pub mod Runs
+pub mod Steps
+pub mod Dispatching

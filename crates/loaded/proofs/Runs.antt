@@ -1,0 +1,169 @@
+-- A loaded image runs as its program: begins, steps, budgets, searches and positions are the same, for every state.
+use mathlib.Core.Path.{_≡_, refl, ap, _∙_}
+use mathlib.Core.List.{List, [], _∷_}
+use mathlib.Core.Bool.{Bool, true, false}
+use mathlib.Core.Option.{Option}
+use Prim.Native.Nat.{ℕ, zero, suc, _+_, _-_}
+use native.Mathlib.Omega.{arith}
+use lib.IntN.{ℤ}
+use lib.ListN.{length}
+use Rattle.layout.specs.Bounds.{VERSIONS}
+use Rattle.layout.specs.Tests.{found}
+use Rattle.program.specs.Program.{Argument, Instr, LIT, MOVE, USE, DUP, VEC, LEN, GET, SET, ARITH, SELECT, CAST, NAMED, STORE, PROM, FORCE, PEEK, POKE, CALL, DISPATCH, SKIP, Program, Version, findVersion}
+use Rattle.checker.specs.Verdicts.{verdictOf}
+use Rattle.checker.specs.declared.Verdict.{Verdict}
+use Rattle.machine.specs.Begin.{beginAfter, beginOf, enteredOf, programOf, runAfterTo, runOfTo}
+use Rattle.machine.specs.Calls.{dispatches, looked, present, searched, versionsOf}
+use Rattle.machine.specs.Runs.{budgetInTo, budgetOfTo, continued, longEnough, runFromTo, settled, stepInTo, stepOfTo}
+use Rattle.machine.specs.Searches.{kindsOf, lookedBy, searchAt, searchBy, searchFrom, searchOf}
+use Rattle.machine.specs.States.{kindIn, liveActivations, liveFrames, value}
+use Rattle.machine.specs.Steps.{Here, Position, instruction, blockEnd, outside, here, positionOf, registersOf}
+use Rattle.machine.specs.Try.{Try, got, stuck, stop, at, each}
+use Rattle.machine.specs.declared.Answer.{Answer}
+use Rattle.machine.specs.declared.Begun.{Begun}
+use Rattle.machine.specs.declared.Entry.{Entry}
+use Rattle.machine.specs.declared.Frame.{Frame}
+use Rattle.machine.specs.declared.Ran.{Ran}
+use Rattle.machine.specs.declared.Search.{Search}
+use Rattle.machine.specs.declared.State.{State}
+use Rattle.machine.specs.declared.Status.{Status}
+use Rattle.machine.specs.declared.Value.{Value}
+use Rattle.runs.specs.Alike.{AllAlike, bareOf}
+use Rattle.runs.proofs.Alike.{advance-alike, bind-same, entered-alike, kind-alike}
+use Rattle.loaded.specs.Loaded.{programIn}
+use Rattle.loaded.specs.Loading.{Stands, answered, loadOf}
+use Rattle.loaded.specs.Running.{runInTo}
+use Rattle.loaded.specs.declared.Loaded.{Loaded}
+
+-- two programs with the same versions under the same numbers, offsets too
+module _ (P Q : Program) (h : (f w : ℕ) → findVersion P f w ≡ findVersion Q f w) where
+  pub alike : AllAlike P Q
+  unfolding AllAlike
+  alike = λ f w. ap bareOf (h f w)
+
+  -- where a run stands: `whereOf` looks at nothing else
+  pub here-same : (x : State) → here P x ≡ here Q x
+  unfolding here
+  here-same x = bind-same (at (liveActivations x) (x .depth - 1)) _ _ (λ a. bind-same (at (liveFrames x) (a .frame)) _ _ (λ f. rw (h (f .function) (f .version)) refl))
+
+  module _ (R : ℕ) where
+    pub step-same : (x : State) → stepOfTo R P x ≡ stepOfTo R Q x
+    unfolding stepOfTo stepInTo
+    step-same x = go (x .status)
+      where
+        go : (st : Status) → stepInTo R P x st ≡ stepInTo R Q x st
+        go Status.Running = ap (settled x) (advance-alike R P Q alike x)
+        go (Status.Ended e) = refl
+
+    run-same : (n : ℕ) (x : State) (m : ℕ) → runFromTo R P n x m ≡ runFromTo R Q n x m
+    unfolding runFromTo
+    run-same zero x m = refl
+    run-same (suc n) x m = rw (step-same x) (ap (continued (stepOfTo R Q x .state) (stepOfTo R Q x .said) m) (λ i t. run-same n t (m + 1) i))
+
+    pub budget-same : (x : State) (n : ℕ) (buffer : List ℤ) → budgetOfTo R P x n buffer ≡ budgetOfTo R Q x n buffer
+    unfolding budgetOfTo budgetInTo
+    budget-same x n buffer = ap (λ (r : Ran). elim (longEnough buffer) [ true ↦ r | false ↦ record { state = x; answer = Answer.Refused 13 0; steps = 0 } ]) (go (x .status))
+      where
+        go : (st : Status) → budgetInTo R P x n st ≡ budgetInTo R Q x n st
+        go Status.Running = run-same n x 0
+        go (Status.Ended e) = refl
+
+  -- a search
+  looked-same : (f : ℕ) (passes : Version → Bool) (n w : ℕ) → looked P f passes n w ≡ looked Q f passes n w
+  unfolding looked
+  looked-same f passes zero w = refl
+  looked-same f passes (suc n) w =
+      ap (λ (o : Option Version). elim (found o passes) [ true ↦ 1 | false ↦ present o + looked P f passes n (suc w) ]) (h f w)
+      ∙ ap (λ (m : ℕ). elim (found (findVersion Q f w) passes) [ true ↦ 1 | false ↦ present (findVersion Q f w) + m ]) (looked-same f passes n (suc w))
+
+  kinds-same : (x : State) (vs : List Value) → each (kindIn P x) vs ≡ each (kindIn Q x) vs
+  unfolding each
+  kinds-same x [] = refl
+  kinds-same x (v ∷ vs) = rw (kind-alike 0 P Q alike x v, kinds-same x vs) refl
+
+  looked-by-same : (level f mark ret : ℕ) (pairs : List Argument) (ks : Try (List ℕ)) → lookedBy P level f mark ret pairs ks ≡ lookedBy Q level f mark ret pairs ks
+  unfolding lookedBy searched versionsOf
+  looked-by-same level f mark ret pairs (got ks) = let a = looked-same f (dispatches level mark ret pairs ks) VERSIONS 0 in let b = looked-same f (λ W. false) VERSIONS 0 in λ i. Search.Looked (a i) (b i)
+  looked-by-same level f mark ret pairs stuck = refl
+  looked-by-same level f mark ret pairs (stop e) = refl
+
+  search-by-same : (x : State) (f : Frame) (level : ℕ) (i : Instr) → searchBy P x f level i ≡ searchBy Q x f level i
+  unfolding searchBy kindsOf
+  search-by-same x f level (LIT d i) = refl
+  search-by-same x f level (MOVE d a) = refl
+  search-by-same x f level (USE d a) = refl
+  search-by-same x f level (DUP d a) = refl
+  search-by-same x f level (VEC d rs) = refl
+  search-by-same x f level (LEN d a) = refl
+  search-by-same x f level (GET d a i) = refl
+  search-by-same x f level (SET a i e) = refl
+  search-by-same x f level (ARITH d op a b) = refl
+  search-by-same x f level (SELECT d c a b) = refl
+  search-by-same x f level (CAST d a) = refl
+  search-by-same x f level (NAMED d y) = refl
+  search-by-same x f level (STORE y a) = refl
+  search-by-same x f level (PROM d block) = refl
+  search-by-same x f level (FORCE d a) = refl
+  search-by-same x f level (PEEK d a y) = refl
+  search-by-same x f level (POKE a y e) = refl
+  search-by-same x f level (CALL d g w rs) = refl
+  search-by-same x f level (DISPATCH d g mark ret pairs) = ap (lookedBy P level g mark ret pairs) (bind-same (each (value f) (registersOf pairs)) _ _ (λ vs. kinds-same x vs)) ∙ looked-by-same level g mark ret pairs _
+  search-by-same x f level (SKIP a n) = refl
+
+  search-at-same : (x : State) (f : Frame) (level : ℕ) (p : Position) → searchAt P x f level p ≡ searchAt Q x f level p
+  unfolding searchAt
+  search-at-same x f level (instruction i) = search-by-same x f level i
+  search-at-same x f level blockEnd = refl
+  search-at-same x f level outside = refl
+
+  pub search-same : (x : State) → searchOf P x ≡ searchOf Q x
+  unfolding searchOf searchFrom
+  search-same x = ap (searchFrom P x) (here-same x) ∙ go (here Q x)
+    where
+      go : (t : Try Here) → searchFrom P x t ≡ searchFrom Q x t
+      go (got a) = search-at-same x (a .frame) (a .version .level) (positionOf a)
+      go stuck = refl
+      go (stop e) = refl
+
+  -- a run that is begun
+  pub entered-same : (level f w : ℕ) (words buffer : List ℤ) → enteredOf P level f w words buffer ≡ enteredOf Q level f w words buffer
+  entered-same level f w words buffer = entered-alike P Q alike level f w words buffer
+
+-- ---- behind a load that was ready
+
+-- a run is begun without the questions to the image: they were asked
+pub loaded-begin : (s t : List ℕ) (m n : ℕ) → loadOf s m ≡ Loaded.Ready n → Stands s t (Loaded.Ready n) → (level f w : ℕ) (words buffer : List ℤ) → enteredOf (programIn s t) level f w words buffer ≡ beginOf s level f w words buffer
+unfolding Stands answered beginOf beginAfter
+loaded-begin s t m n e h level f w words buffer = entered-same (programIn s t) (programOf s) h level f w words buffer ∙ go (verdictOf s) e
+  where
+    go : (v : Verdict) → answered v (length s) m ≡ Loaded.Ready n → enteredOf (programOf s) level f w words buffer ≡ beginAfter v (programOf s) level f w words buffer
+    go (Verdict.Accepted k) g = refl
+    go (Verdict.Refused q p) g = let z : _≡_ {A = ℕ} 0 1 = cc in absurd (omega arith)
+
+module _ (s t : List ℕ) (n : ℕ) (h : Stands s t (Loaded.Ready n)) where
+  pub loaded-step : (R : ℕ) (x : State) → stepOfTo R (programIn s t) x ≡ stepOfTo R (programOf s) x
+  unfolding Stands
+  loaded-step R x = step-same (programIn s t) (programOf s) h R x
+
+  pub loaded-budget : (R : ℕ) (x : State) (k : ℕ) (buffer : List ℤ) → budgetOfTo R (programIn s t) x k buffer ≡ budgetOfTo R (programOf s) x k buffer
+  unfolding Stands
+  loaded-budget R x k buffer = budget-same (programIn s t) (programOf s) h R x k buffer
+
+  pub loaded-search : (x : State) → searchOf (programIn s t) x ≡ searchOf (programOf s) x
+  unfolding Stands
+  loaded-search x = search-same (programIn s t) (programOf s) h x
+
+  pub loaded-here : (x : State) → here (programIn s t) x ≡ here (programOf s) x
+  unfolding Stands
+  loaded-here x = here-same (programIn s t) (programOf s) h x
+
+-- a run from the start
+pub loaded-run : (s t : List ℕ) (m n : ℕ) → loadOf s m ≡ Loaded.Ready n → Stands s t (Loaded.Ready n) → (R level f w : ℕ) (words : List ℤ) (k : ℕ) (buffer : List ℤ) → runInTo R s t level f w words k buffer ≡ runOfTo R s level f w words k buffer
+unfolding runInTo runOfTo runAfterTo
+loaded-run s t m n e h R level f w words k buffer =
+    let b = beginOf s level f w words buffer in
+    ap (λ (x : Begun). runAfterTo R (x .entry) (programIn s t) (x .state) k buffer) (loaded-begin s t m n e h level f w words buffer) ∙ go (b .entry) (b .state)
+  where
+    go : (x : Entry) (y : State) → runAfterTo R x (programIn s t) y k buffer ≡ runAfterTo R x (programOf s) y k buffer
+    go (Entry.Refused q p) y = refl
+    go Entry.Begun y = loaded-budget s t n h R y k buffer

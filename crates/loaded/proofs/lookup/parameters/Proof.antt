@@ -1,0 +1,22 @@
+-- `loaded::lookup::parameters`: the third field of its record.
+use mathlib.Core.Path.{refl, _∙_}
+use Rattle.loaded.specs.Loaded.{versionIn}
+use borrow.Author.Needs.{needs}
+use Rattle.loaded.proofs.lookup.parameters.Statement.{statement}
+use Rattle.loaded.proofs.lookup.parameters.Tie as tie
+
+head-requires : tie.Need-head-requires
+head-requires c κs = search needs
+
+add-byte : tie.Need-add-byte
+add-byte c = search needs
+
+byte-requires : tie.Need-byte-requires
+byte-requires c κs = search needs
+
+returns : tie.Need-returns
+unfolding versionIn
+returns c = c .byte .ensures ∙ rw (c .before .head .ensures .0) refl
+
+pub parameters-spec : {M : Type 1} → statement M
+parameters-spec = tie.close (tie.spec head-requires add-byte byte-requires returns)

@@ -1,0 +1,6 @@
+pub mod Kinding
+pub mod Gathering
+pub mod Picking
+pub mod Caching
+pub mod Joined
+pub mod Looking

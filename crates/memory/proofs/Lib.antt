@@ -1,6 +1,0 @@
-pub mod Lists
-pub mod Frames
-pub mod Free
-pub mod Heap
-pub mod Counts
-pub mod Stack

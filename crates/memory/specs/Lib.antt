@@ -1,4 +1,0 @@
-pub mod Lists
-pub mod Memory
-pub mod Parts
-pub mod Works

@@ -1,4 +1,0 @@
-pub mod Operands
-pub mod Naming
-pub mod Forcing
-pub mod Making

@@ -1,0 +1,12 @@
+pub mod Lists
+pub mod Free
+pub mod Counting
+pub mod Frames
+pub mod Kept
+pub mod Puts
+pub mod Recounting
+pub mod Rows
+pub mod Vectors
+pub mod Pushing
+pub mod Promises
+pub mod Freed

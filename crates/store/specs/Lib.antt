@@ -1,0 +1,5 @@
+pub mod Lists
+pub mod Store
+pub mod Answers
+pub mod Acts
+pub mod Counts

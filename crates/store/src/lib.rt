@@ -1,0 +1,29 @@
+//! The state of a run in two lent arrays: `bytes` (tags and places of cells, the versions of frames, activations, promises, lengths of vectors, the numbers
+//! of live calls and activations, the status) and `numbers` (integers of cells, items, caches, the result). `counts` says how many refer to
+//! each vector and promise, how many force each promise, and how many cells of each live frame refer to one.
+//! Each function says by the machine's own definitions what it does to the state that the arrays stand for.
+//! What they require, the loop of `running` keeps; `whereabouts` and `searches` ask first.
+pub mod cells;
+pub mod heap;
+pub mod stack;
+
+/// What stops a step.
+pub enum Halt {
+    Undef,
+    Deep,
+    Vectors,
+    Promises,
+}
+
+/// What a part of a step has done: its work, or nothing, where it is stuck or stopped.
+pub enum Did {
+    On,
+    Stuck,
+    Stop(Halt),
+}
+
+/// An integer operand, or stuck.
+pub enum Whole {
+    Is(i64),
+    Stuck,
+}
