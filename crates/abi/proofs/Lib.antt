@@ -6,4 +6,7 @@ pub mod Lent
 pub mod Pausing
 pub mod Seen
 pub mod Starting
+pub mod Structs
 pub mod Texts
+pub mod TrailLent
+pub mod Trailing

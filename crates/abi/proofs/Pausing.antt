@@ -15,7 +15,6 @@ use Rattle.machine.specs.States.{over}
 use Rattle.machine.specs.Values.{RANGE}
 use Rattle.machine.specs.declared.Answer.{Answer}
 use Rattle.machine.specs.declared.Begun.{Begun}
-use Rattle.machine.specs.declared.End.{End}
 use Rattle.machine.specs.declared.Entry.{Entry}
 use Rattle.machine.specs.declared.Ran.{Ran}
 use Rattle.machine.specs.declared.Said.{Said}
@@ -28,11 +27,11 @@ use Rattle.loaded.specs.Loaded.{programIn}
 use Rattle.loaded.specs.Running.{runInTo}
 use Rattle.begin.specs.Asking.{Begins, enteredAt}
 use Rattle.begin.specs.declared.Entrance.{Entrance}
-use Rattle.running.specs.Budgets.{Resumes, Steps as Stepping, answerOf, outcomeIn, saidOf}
+use Rattle.running.specs.Budgets.{Resumes, Steps as Stepping, answerOf, saidOf}
 use Rattle.running.specs.declared.Counted.{Counted}
 use Rattle.running.specs.declared.Pause.{Pause}
 use Rattle.abi.specs.Answers.{answerNumbers, answerWith, saidNumbers}
-use Rattle.abi.specs.Exits.{Answers, Left, Rests, Steps, endedBy, entrance, itemsIn}
+use Rattle.abi.specs.Exits.{Answers, Left, Rests, Steps, endedBy, itemsIn}
 use Rattle.abi.specs.Held.{held, stored}
 use Rattle.abi.specs.declared.answers.FirAnswer.{FirAnswer}
 use Rattle.abi.specs.declared.answers.FirSaid.{FirSaid}
@@ -63,6 +62,9 @@ answered Pause.Steps st n = refl
 answered Pause.Stuck st n = refl
 answered Pause.Ended Status.Running n = refl
 answered Pause.Ended (Status.Ended e) n = refl
+
+pub answered-by : (p : Pause) (st : Status) (n : ℕ) {w : FirSaid} {a : FirAnswer} → w ≡ saidNumbers (saidOf p st) → a ≡ answerWith w n → a ≡ answerNumbers (answerOf p st) n
+answered-by p st n e f = f ∙ ap (λ (x : FirSaid). answerWith x n) e ∙ answered p st n
 
 -- no pause is a refusal
 left-paused : (p : Pause) (st : Status) (s : State) (E X : FirState) → held X ≡ s → Left (answerOf p st) s E X
@@ -107,7 +109,7 @@ unfolding StuckSaid
 stuck-said-is w e = subst StuckSaid (sym e) tt
 
 -- the same arrays are the same memory
-same-memory : {b b′ : List ℕ} {n n′ : List ℤ} → (b′ ≡ b) × (n′ ≡ n) → stored b′ n′ ≡ stored b n
+pub same-memory : {b b′ : List ℕ} {n n′ : List ℤ} → (b′ ≡ b) × (n′ ≡ n) → stored b′ n′ ≡ stored b n
 same-memory h = λ i. stored (h .0 i) (h .1 i)
 
 -- ---- the single step
@@ -130,24 +132,24 @@ module _ (P : Program) (b : List ℕ) (n : List ℤ) (b′ : List ℕ) (n′ : L
   after = stored b′ n′
 
   module _ (m : ℕ) (buffer : List ℤ) where
-    refuses : length buffer < 16 → record { state = stateIn b n; answer = Answer.Refused 13 0; steps = 0 } ≡ budgetOf P (stateIn b n) m buffer
+    pub refuses : length buffer < 16 → record { state = stateIn b n; answer = Answer.Refused 13 0; steps = 0 } ≡ budgetOf P (stateIn b n) m buffer
     unfolding budgetOfTo longEnough
     refuses h = rw (lt-leb 16 (length buffer) h, budgetOfTo)
 
-    takes : 16 ≤ length buffer → budgetIn P (stateIn b n) m (stateIn b n .status) ≡ budgetOf P (stateIn b n) m buffer
+    pub takes : 16 ≤ length buffer → budgetIn P (stateIn b n) m (stateIn b n .status) ≡ budgetOf P (stateIn b n) m buffer
     unfolding budgetOfTo longEnough
     takes h = rw (le-leb 16 (length buffer) h, budgetOfTo) refl
 
-    pub budget-taken : (r : Counted) (last : List ℤ) {w : FirSaid} {a : FirAnswer} → 16 ≤ length buffer → Resumes r P b n b′ n′ m
-        → last ≡ over (written (stateIn b′ n′ .result) (answerOf (r .pause) (stateIn b′ n′ .status))) buffer → w ≡ saidNumbers (saidOf (r .pause) (stateIn b′ n′ .status)) → a ≡ answerWith w (r .steps)
+    pub budget-taken : (r : Counted) (last : List ℤ) {a : FirAnswer} → 16 ≤ length buffer → Resumes r P b n b′ n′ m
+        → (a ≡ answerNumbers (answerOf (r .pause) (stateIn b′ n′ .status)) (r .steps)) × (last ≡ over (written (stateIn b′ n′ .result) (answerOf (r .pause) (stateIn b′ n′ .status))) buffer)
         → Answers a (budgetOf P (stateIn b n) m buffer) before after buffer last × Rests m (budgetOf P (stateIn b n) m buffer) before after
     unfolding bufferOf
-    budget-taken r last {w} {a} l h d e f =
+    budget-taken r last {a} l h f =
         subst (λ (x : Ran). Answers a x before after buffer last × Rests m x before after) (sym (h .ran) ∙ takes l) (
           record {
-            numbers = f ∙ ap (λ (x : FirSaid). answerWith x (r .steps)) e ∙ answered (r .pause) (stateIn b′ n′ .status) (r .steps);
+            numbers = f .0;
             state = left-paused (r .pause) (stateIn b′ n′ .status) (stateIn b′ n′) before after refl;
-            written = d;
+            written = f .1;
           },
           record {
             none = λ z. same-memory (h .none z);

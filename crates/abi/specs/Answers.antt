@@ -11,6 +11,7 @@ use Rattle.joins.specs.declared.Joined.{Joined}
 use Rattle.loaded.specs.declared.Loaded.{Loaded}
 use Rattle.machine.specs.Runs.{saying}
 use Rattle.machine.specs.declared.Answer.{Answer}
+use Rattle.machine.specs.declared.Back.{Back}
 use Rattle.machine.specs.declared.Changed.{Changed}
 use Rattle.machine.specs.declared.End.{End}
 use Rattle.machine.specs.declared.Entry.{Entry}
@@ -79,6 +80,11 @@ entryNumbers (Entry.Refused q p) = record { offset = p; question = q }
 unfoldable pub changedNumbers : Changed → FirEntry
 changedNumbers Changed.Taken = record { offset = 0; question = 0 }
 changedNumbers (Changed.Refused q p) = record { offset = p; question = q }
+
+-- a step back: a refusal's offset and number
+unfoldable pub backNumbers : Back → FirEntry
+backNumbers Back.Taken = record { offset = 0; question = 0 }
+backNumbers (Back.Refused q p) = record { offset = p; question = q }
 
 -- a search: 1, how many versions it looks at and how many there are; all 0 where there is none
 unfoldable pub searchNumbers : Search → FirSearched

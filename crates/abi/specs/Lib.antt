@@ -2,3 +2,4 @@ pub mod Answers
 pub mod Exits
 pub mod Held
 pub mod Looks
+pub mod Trails

@@ -1,7 +1,7 @@
 //! Answers as numbers, in the layout of C.
 ghost use mathlib.Core.Path.{_≡_};
 ghost use Rattle.machine.specs.declared.Answer.{Answer};
-ghost use Rattle.abi.specs.Answers.{answerNumbers, answerWith, boundingNumbers, changedNumbers, endIn, entryNumbers, formOf};
+ghost use Rattle.abi.specs.Answers.{answerNumbers, answerWith, backNumbers, boundingNumbers, changedNumbers, endIn, entryNumbers, formOf};
 ghost use Rattle.abi.specs.Answers.{joinedNumbers, loadedNumbers, mendedNumbers, movedNumbers, plainNumbers};
 ghost use Rattle.abi.specs.Answers.{searchNumbers, verdictNumbers, versionNumbers, whereNumbers};
 ghost use Rattle.abi.specs.Looks.{noPlace, valueNumbers};
@@ -10,6 +10,7 @@ use checker::Verdict;
 use joins::Joined;
 use layout::Form;
 use loaded::Loaded;
+use machine::Back;
 use machine::Changed;
 use machine::Entry;
 use machine::Search;
@@ -66,7 +67,7 @@ pub struct FirMended {
     pub value: u8,
 }
 
-/// Whether a run has begun, or goes on under a new image: 0, or the question that refuses it and the offset.
+/// Whether a run has begun, goes on under a new image, or has gone a step back: 0, or the question that refuses it and the offset.
 #[repr(C)]
 pub struct FirEntry {
     pub offset: u16,
@@ -298,6 +299,22 @@ pub fn changed(changed: Changed) -> FirEntry
             question: 0,
         },
         Changed::Refused(q, p) => FirEntry {
+            offset: p,
+            question: q,
+        },
+    }
+}
+
+/// The numbers of a step back.
+pub fn back(back: Back) -> FirEntry
+    ensures { λ r. ⌜ r ≡ backNumbers back ⌝ }
+{
+    match back {
+        Back::Taken => FirEntry {
+            offset: 0,
+            question: 0,
+        },
+        Back::Refused(q, p) => FirEntry {
             offset: p,
             question: q,
         },

@@ -30,6 +30,7 @@ ghost use Rattle.abi.specs.Answers.{movedNumbers, searchNumbers, stateAl
 ghost use Rattle.abi.specs.Exits.{Answers, Began, Rests, Steps, entrance};
 ghost use Rattle.abi.specs.Held.{held};
 ghost use Rattle.abi.specs.Looks.{readNumbers};
+ghost use Rattle.abi.specs.Trails.{AnswersOn, BacksOn, ChangesOn, Started, StepsOn};
 use answers::FirAnswer;
 use answers::FirEntry;
 use answers::FirJoined;
@@ -47,11 +48,13 @@ use checker::questions;
 use checker::report;
 use entry::Start;
 use state::FirState;
+use state::FirTrail;
 
 pub mod answers;
 pub mod entry;
 pub mod parts;
 pub mod state;
+pub mod trail;
 
 /// The number of the interface, and that of the layout of a stored state.
 #[no_mangle]
@@ -316,6 +319,110 @@ pub extern "C" fn fir_change(old: &[u8], new: &[u8], state: &FirState) -> FirEnt
     ensures { λ r. ⌜ r ≡ changedNumbers (changeOf (now (old .entry)) (now (new .entry)) (held (now (state .entry)))) ⌝ }
 {
     parts::change(old, new, &state.bytes)
+}
+
+/// 02, request 8: keeps the state as the start of a trail. No step lies behind.
+#[no_mangle]
+pub extern "C" fn fir_trail_start(state: &FirState, trail: &mut FirTrail)
+    ensures { λ _. ⌜ Started (now (state .entry)) (now (trail .exit)) ⌝ }
+{
+    trails::start(
+        &state.bytes,
+        &state.numbers,
+        &mut trail.bytes,
+        &mut trail.numbers,
+        &mut trail.steps,
+        &mut trail.past,
+    )
+}
+
+/// Takes a single step, as `fir_step`, and counts it in the trail. One that does not count leaves the trail as it was.
+#[no_mangle]
+pub extern "C" fn fir_trail_step(
+    image: &[u8],
+    table: &[u8],
+    state: &mut FirState,
+    trail: &mut FirTrail,
+) -> FirSaid
+    ensures { λ r. ⌜ StepsOn r (programIn (now (image .entry)) (now (table .entry))) (now (state .entry)) (now (trail .entry)) (now (state .exit)) (now (trail .exit)) ⌝ }
+{
+    trail::step(
+        image,
+        table,
+        &mut state.bytes,
+        &mut state.numbers,
+        &mut trail.steps,
+        &mut trail.past,
+    )
+}
+
+/// Takes at most `budget` steps, as `fir_budget`, and counts them in the trail. Where none counts the trail is left as it was.
+#[no_mangle]
+pub extern "C" fn fir_trail_budget(
+    image: &[u8],
+    table: &[u8],
+    state: &mut FirState,
+    trail: &mut FirTrail,
+    budget: u32,
+    buffer: &mut [i64],
+) -> FirAnswer
+    ensures { λ r. ⌜ AnswersOn r (programIn (now (image .entry)) (now (table .entry))) budget (now (state .entry)) (now (trail .entry)) (now (state .exit)) (now (trail .exit))
+        (now (buffer .entry)) (now (buffer .exit)) ⌝ }
+{
+    trail::budget(
+        image,
+        table,
+        budget,
+        buffer,
+        &mut state.bytes,
+        &mut state.numbers,
+        &mut trail.steps,
+        &mut trail.past,
+    )
+}
+
+/// Asks whether the state goes on under the new image, as `fir_change`. Where it does, the state is a new start; a refusal writes nothing.
+#[no_mangle]
+pub extern "C" fn fir_trail_change(
+    old: &[u8],
+    new: &[u8],
+    state: &FirState,
+    trail: &mut FirTrail,
+) -> FirEntry
+    ensures { λ r. ⌜ ChangesOn r (now (old .entry)) (now (new .entry)) (now (state .entry)) (now (trail .entry)) (now (trail .exit)) ⌝ }
+{
+    trail::change(
+        old,
+        new,
+        &state.bytes,
+        &state.numbers,
+        &mut trail.bytes,
+        &mut trail.numbers,
+        &mut trail.steps,
+        &mut trail.past,
+    )
+}
+
+/// Takes a step back: 0, and the state is the one that one step less gives from the start; or 20 where no step lies behind, and nothing is written.
+#[no_mangle]
+pub extern "C" fn fir_trail_back(
+    image: &[u8],
+    table: &[u8],
+    state: &mut FirState,
+    trail: &mut FirTrail,
+) -> FirEntry
+    ensures { λ r. ⌜ BacksOn r (programIn (now (image .entry)) (now (table .entry))) (now (state .entry)) (now (trail .entry)) (now (state .exit)) (now (trail .exit)) ⌝ }
+{
+    trail::back(
+        image,
+        table,
+        &mut state.bytes,
+        &mut state.numbers,
+        &trail.bytes,
+        &trail.numbers,
+        &mut trail.steps,
+        &trail.past,
+    )
 }
 
 /// What the place of a live call holds: registers are the places 0 to 15, names the places 16 to 23.

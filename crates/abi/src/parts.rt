@@ -13,7 +13,7 @@ ghost use Rattle.store.specs.Store.{stateIn};
 ghost use Rattle.running.specs.Budgets.{answerOf, saidOf};
 ghost use Rattle.whereabouts.specs.Looks.{lookOf};
 ghost use Rattle.whereabouts.specs.Where.{whereOf};
-ghost use Rattle.abi.specs.Answers.{changedNumbers, saidNumbers, searchNumbers, whereNumbers};
+ghost use Rattle.abi.specs.Answers.{answerNumbers, changedNumbers, saidNumbers, searchNumbers, whereNumbers};
 ghost use Rattle.abi.specs.Exits.{Answers, Rests, Steps, itemsIn, resultIn};
 ghost use Rattle.abi.specs.Held.{stored};
 ghost use Rattle.abi.specs.Looks.{readNumbers};
@@ -26,6 +26,7 @@ use crate::answers::FirValue;
 use crate::answers::FirWhere;
 use machine::Read;
 use machine::Vector;
+use running::Counted;
 use running::Pause;
 
 /// Where the status of a state stands among its bytes, and the length of its result; where the result stands among its numbers.
@@ -109,7 +110,7 @@ pub fn deliver(bytes: &[u8; 2632], numbers: &[i64; 2129], buffer: &mut [i64])
 }
 
 /// What is said of a run that pauses.
-fn said(pause: Pause, bytes: &[u8; 2632], numbers: &[i64; 2129]) -> FirSaid
+pub fn said(pause: Pause, bytes: &[u8; 2632], numbers: &[i64; 2129]) -> FirSaid
     ensures { λ r. ⌜ r ≡ saidNumbers (saidOf pause (stateIn (now (bytes .entry)) (now (numbers .entry)) .status)) ⌝ }
 {
     match pause {
@@ -129,6 +130,23 @@ fn leave(pause: Pause, bytes: &[u8; 2632], numbers: &[i64; 2129], buffer: &mut [
         Pause::Ended => deliver(bytes, numbers, buffer),
         Pause::Stuck => {}
     }
+}
+
+/// The answer to a budget that pauses, and what it leaves for the lent buffer.
+pub fn answered(
+    counted: Counted,
+    bytes: &[u8; 2632],
+    numbers: &[i64; 2129],
+    buffer: &mut [i64],
+) -> FirAnswer
+    ensures { λ r. ⌜ (r ≡ answerNumbers (answerOf (counted .pause) (stateIn (now (bytes .entry)) (now (numbers .entry)) .status)) (counted .steps))
+        × (now (buffer .exit) ≡ over (written (stateIn (now (bytes .entry)) (now (numbers .entry)) .result)
+        (answerOf (counted .pause) (stateIn (now (bytes .entry)) (now (numbers .entry)) .status))) (now (buffer .entry))) ⌝ }
+{
+    let pause = counted.pause;
+    leave(pause, bytes, numbers, buffer);
+    let said = said(pause, bytes, numbers);
+    answers::taken(said, counted.steps)
 }
 
 /// A single step.
@@ -163,8 +181,5 @@ pub fn budget<'s>(
         return answers::refused(BUFFER, 0);
     }
     let counted = running::resume(image, table, bytes, numbers, budget);
-    let pause = counted.pause;
-    leave(pause, bytes, numbers, buffer);
-    let said = said(pause, bytes, numbers);
-    answers::taken(said, counted.steps)
+    answered(counted, bytes, numbers, buffer)
 }

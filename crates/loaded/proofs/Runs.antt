@@ -1,4 +1,4 @@
--- A loaded image runs as its program: begins, steps, budgets, searches and positions are the same, for every state.
+-- A loaded image runs as its program: begins, steps, budgets, steps back, searches and positions are the same, for every state.
 use mathlib.Core.Path.{_≡_, refl, ap, _∙_}
 use mathlib.Core.List.{List, [], _∷_}
 use mathlib.Core.Bool.{Bool, true, false}
@@ -18,15 +18,21 @@ use Rattle.machine.specs.Runs.{budgetInTo, budgetOfTo, continued, longEnough, r
 use Rattle.machine.specs.Searches.{kindsOf, lookedBy, searchAt, searchBy, searchFrom, searchOf}
 use Rattle.machine.specs.States.{kindIn, liveActivations, liveFrames, value}
 use Rattle.machine.specs.Steps.{Here, Position, instruction, blockEnd, outside, here, positionOf, registersOf}
+use Rattle.machine.specs.Trails.{backBy, backOf, budgetOn, stepOn}
 use Rattle.machine.specs.Try.{Try, got, stuck, stop, at, each}
+use Rattle.machine.specs.Values.{RANGE}
 use Rattle.machine.specs.declared.Answer.{Answer}
+use Rattle.machine.specs.declared.Back.{Back}
 use Rattle.machine.specs.declared.Begun.{Begun}
+use Rattle.machine.specs.declared.Behind.{Behind}
 use Rattle.machine.specs.declared.Entry.{Entry}
 use Rattle.machine.specs.declared.Frame.{Frame}
 use Rattle.machine.specs.declared.Ran.{Ran}
+use Rattle.machine.specs.declared.Returned.{Returned}
 use Rattle.machine.specs.declared.Search.{Search}
 use Rattle.machine.specs.declared.State.{State}
 use Rattle.machine.specs.declared.Status.{Status}
+use Rattle.machine.specs.declared.Trail.{Trail}
 use Rattle.machine.specs.declared.Value.{Value}
 use Rattle.runs.specs.Alike.{AllAlike, bareOf}
 use Rattle.runs.proofs.Alike.{advance-alike, bind-same, entered-alike, kind-alike}
@@ -60,13 +66,35 @@ module _ (P Q : Program) (h : (f w : ℕ) → findVersion P f w ≡ findVersion 
     run-same zero x m = refl
     run-same (suc n) x m = rw (step-same x) (ap (continued (stepOfTo R Q x .state) (stepOfTo R Q x .said) m) (λ i t. run-same n t (m + 1) i))
 
+    in-same : (x : State) (n : ℕ) (st : Status) → budgetInTo R P x n st ≡ budgetInTo R Q x n st
+    unfolding budgetInTo
+    in-same x n Status.Running = run-same n x 0
+    in-same x n (Status.Ended e) = refl
+
     pub budget-same : (x : State) (n : ℕ) (buffer : List ℤ) → budgetOfTo R P x n buffer ≡ budgetOfTo R Q x n buffer
-    unfolding budgetOfTo budgetInTo
-    budget-same x n buffer = ap (λ (r : Ran). elim (longEnough buffer) [ true ↦ r | false ↦ record { state = x; answer = Answer.Refused 13 0; steps = 0 } ]) (go (x .status))
-      where
-        go : (st : Status) → budgetInTo R P x n st ≡ budgetInTo R Q x n st
-        go Status.Running = run-same n x 0
-        go (Status.Ended e) = refl
+    unfolding budgetOfTo
+    budget-same x n buffer = ap (λ (r : Ran). elim (longEnough buffer) [ true ↦ r | false ↦ record { state = x; answer = Answer.Refused 13 0; steps = 0 } ]) (in-same x n (x .status))
+
+  -- a state with its start kept
+  pub step-on-same : (t : Trail) → stepOn P t ≡ stepOn Q t
+  unfolding stepOn
+  step-on-same t = rw (step-same RANGE (t .state)) refl
+
+  pub budget-on-same : (t : Trail) (n : ℕ) (buffer : List ℤ) → budgetOn P t n buffer ≡ budgetOn Q t n buffer
+  unfolding budgetOn
+  budget-on-same t n buffer = rw (budget-same RANGE (t .state) n buffer) refl
+
+  pub back-same : (t : Trail) → backOf P t ≡ backOf Q t
+  unfolding backOf backBy
+  back-same t = go (t .behind)
+    where
+      again : ℕ → Ran → Returned
+      again m r = record { trail = record { start = t .start; behind = Behind.Steps m; state = r .state }; back = Back.Taken }
+
+      go : (b : Behind) → backBy P t b ≡ backBy Q t b
+      go Behind.Past = refl
+      go (Behind.Steps zero) = refl
+      go (Behind.Steps (suc m)) = ap (again m) (in-same RANGE (t .start) m (t .start .status))
 
   -- a search
   looked-same : (f : ℕ) (passes : Version → Bool) (n w : ℕ) → looked P f passes n w ≡ looked Q f passes n w
@@ -148,6 +176,18 @@ module _ (s t : List ℕ) (n : ℕ) (h : Stands s t (Loaded.Ready n)) where
   pub loaded-budget : (R : ℕ) (x : State) (k : ℕ) (buffer : List ℤ) → budgetOfTo R (programIn s t) x k buffer ≡ budgetOfTo R (programOf s) x k buffer
   unfolding Stands
   loaded-budget R x k buffer = budget-same (programIn s t) (programOf s) h R x k buffer
+
+  pub loaded-step-on : (x : Trail) → stepOn (programIn s t) x ≡ stepOn (programOf s) x
+  unfolding Stands
+  loaded-step-on x = step-on-same (programIn s t) (programOf s) h x
+
+  pub loaded-budget-on : (x : Trail) (k : ℕ) (buffer : List ℤ) → budgetOn (programIn s t) x k buffer ≡ budgetOn (programOf s) x k buffer
+  unfolding Stands
+  loaded-budget-on x k buffer = budget-on-same (programIn s t) (programOf s) h x k buffer
+
+  pub loaded-back : (x : Trail) → backOf (programIn s t) x ≡ backOf (programOf s) x
+  unfolding Stands
+  loaded-back x = back-same (programIn s t) (programOf s) h x
 
   pub loaded-search : (x : State) → searchOf (programIn s t) x ≡ searchOf (programOf s) x
   unfolding Stands

@@ -9,3 +9,4 @@ pub mod Begin
 pub mod Changes
 pub mod Events
 pub mod Frames
+pub mod Trails

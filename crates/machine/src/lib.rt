@@ -139,6 +139,31 @@ pub struct Begun {
     pub entry: Entry,
 }
 
+/// 02, request 8: how many steps lie behind a state since its start or the last change of its image; past 4,294,967,295 none does any more.
+pub enum Behind {
+    Steps(u32),
+    Past,
+}
+
+/// A state with its start kept: the one that the run began in, or that the last change of its image carried over.
+pub struct Trail {
+    pub start: State,
+    pub behind: Behind,
+    pub state: State,
+}
+
+/// Whether a step back is taken, or a refusal's number and offset.
+pub enum Back {
+    Taken,
+    Refused(u8, u16),
+}
+
+/// A step back: the trail after it, as it was where it is refused.
+pub struct Returned {
+    pub trail: Trail,
+    pub back: Back,
+}
+
 /// What reading a register or a name finds: its value, or that the frame has no such place.
 pub enum Read {
     Outside,

@@ -20,19 +20,19 @@ abbrev pub All : {A : Type 0} → (A → Type 0) → List A → Type 0
 All Q l = (b : _) → List·Memᴰ b l → Q b
 
 module _ {A : Type 0} (Q : A → Type 0) where
-  all-none : All Q []
+  pub all-none : All Q []
   all-none b m = elim m [ ]
 
   all-cons : (s : A) (l : List A) → Q s → All Q l → All Q (s ∷ l)
   all-cons s l q all b (List·Memᴰ·head e) = subst Q (sym e) q
   all-cons s l q all b (List·Memᴰ·tail m) = all b m
 
-  all-append : (l m : List A) → All Q l → All Q m → All Q (l ++ m)
+  pub all-append : (l m : List A) → All Q l → All Q m → All Q (l ++ m)
   all-append [] m p q b i = q b i
   all-append (x ∷ l) m p q b (List·Memᴰ·head e) = p b (List·Memᴰ·head e)
   all-append (x ∷ l) m p q b (List·Memᴰ·tail i) = all-append l m (λ c j. p c (List·Memᴰ·tail j)) q b i
 
-all-map : {A B : Type 0} (Q : B → Type 0) (g : A → B) (l : List A) → All (λ x. Q (g x)) l → All Q (map g l)
+pub all-map : {A B : Type 0} (Q : B → Type 0) (g : A → B) (l : List A) → All (λ x. Q (g x)) l → All Q (map g l)
 all-map Q g [] h b m = elim m [ ]
 all-map Q g (x ∷ l) h b (List·Memᴰ·head e) = subst Q (sym e) (h x (List·Memᴰ·head refl))
 all-map Q g (x ∷ l) h b (List·Memᴰ·tail m) = all-map Q g l (λ c i. h c (List·Memᴰ·tail i)) b m
@@ -53,7 +53,7 @@ module _ (P : Program) (Q : State → Type 0) (keeps : (s : State) → Q s → Q
   run-keeps (suc m) s n q = continued-keeps (stepOf P s .state) (stepOf P s .said) n (λ t. runFrom P m t (n + 1)) (keeps s q) (λ t i. run-keeps m t (n + 1) i)
 
   -- a budget that is not refused
-  in-keeps : (s : State) (n : ℕ) (st : Status) → Q s → Q (budgetIn P s n st .state)
+  pub in-keeps : (s : State) (n : ℕ) (st : Status) → Q s → Q (budgetIn P s n st .state)
   unfolding budgetInTo
   in-keeps s n Status.Running q = run-keeps n s 0 q
   in-keeps s n (Status.Ended e) q = q
@@ -81,7 +81,7 @@ module _ (P : Program) (Q : State → Type 0) (keeps : (s : State) → Q s → Q
   under-all (suc m) s q = all-cons Q s _ q (onward-all (stepOf P s .state) (stepOf P s .said) (λ t. triedUnder P m t) (keeps s q) (λ t i. under-all m t i))
 
   -- those of a budget that is not refused
-  in-all : (s : State) (n : ℕ) (st : Status) → Q s → All Q (triedIn P s n st)
+  pub in-all : (s : State) (n : ℕ) (st : Status) → Q s → All Q (triedIn P s n st)
   unfolding triedIn
   in-all s n Status.Running q = under-all n s q
   in-all s n (Status.Ended e) q = all-none Q
@@ -121,7 +121,7 @@ module _ (I : Run → Type 0)
   after-keeps [] r i = i
   after-keeps (e ∷ es) r i = after-keeps es (handle e r .run) (handle-keeps e r i)
 
-  tried-keeps : (e : Event) (r : Run) → I r → All I (tried e r)
+  pub tried-keeps : (e : Event) (r : Run) → I r → All I (tried e r)
   unfolding tried
   tried-keeps single r i = all-cons I r [] i (all-none I)
   tried-keeps (budget n buffer) r i = all-map I (inState r) (triedBy (programIn r) (r .state) n buffer) (tried-all (programIn r) (λ s. I (inState r s)) (under r) (r .state) n buffer i)

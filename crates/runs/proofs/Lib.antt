@@ -17,3 +17,6 @@ pub mod Always
 pub mod Levels
 pub mod Singles
 pub mod Driven
+pub mod Counted
+pub mod Backs
+pub mod Visits

@@ -162,7 +162,7 @@ run-splits P n (suc m) s h = rw (suc-add m n) (go (stepOf P s .said) refl (λ t 
 -- ---- with buffers
 
 -- a buffer that is long enough is not refused
-budget-long : (P : Program) (s : State) (n : ℕ) (buffer : List ℤ) → longEnough buffer ≡ true → budgetOf P s n buffer ≡ budgetIn P s n (s .status)
+pub budget-long : (P : Program) (s : State) (n : ℕ) (buffer : List ℤ) → longEnough buffer ≡ true → budgetOf P s n buffer ≡ budgetIn P s n (s .status)
 unfolding budgetOfTo
 budget-long P s n buffer h = rw (h, budgetOfTo) refl
 

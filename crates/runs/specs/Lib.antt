@@ -6,3 +6,4 @@ pub mod Wider
 pub mod Levels
 pub mod Singles
 pub mod Driven
+pub mod Backs

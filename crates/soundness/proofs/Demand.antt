@@ -1,8 +1,9 @@
 -- Demand 3, that a change leaves each live call its version, and that DONE ends one call alone: for every list of events of every begun run.
 use mathlib.Core.List.{List}
 use Rattle.program.specs.Program.{Program}
-use Rattle.machine.specs.Events.{Run, Event, programIn, after, history}
+use Rattle.machine.specs.Events.{Run, programIn, after, history}
 use Rattle.machine.specs.declared.State.{State}
+use Rattle.runs.proofs.Always.{All}
 use Rattle.soundness.specs.Claim.{entered, Safe, begun, Demand3}
 use Rattle.soundness.specs.LastCall.{LastCall}
 use Rattle.soundness.specs.Stay.{Stay}
@@ -13,33 +14,33 @@ use Rattle.soundness.proofs.Safety.{one-call}
 use Rattle.soundness.proofs.Taken.{taken-passed, live-alike}
 use Rattle.soundness.proofs.Histories.{Sound, sure-of, safe-of, after-sound, history-sound, begun-sound}
 
--- what the claim says of a sound run and the list of events that follow
-sound-safe : (es : List Event) (r : Run) → Sound r → Safe (history es r) (after es r)
-sound-safe es r o = record {
+-- what the claim says of a run that is sound, as every one in its history was
+pub sound-safe : (h : List Run) (now : Run) → All Sound h → Sound now → Safe h now
+sound-safe h now all last = record {
   known = λ k f l. (versionAt P (s .frames) k, live-known P sure s (last .inv) k f l);
   typed = λ k i t f l d. register-typed P sure s (last .inv) k f l i t d;
-  unstuck = λ b m. let x = history-sound es r o b m in step-unstuck (programIn b) (safe-of b x) (b .state) (x .inv);
+  unstuck = λ b m. let x = all b m in step-unstuck (programIn b) (safe-of b x) (b .state) (x .inv);
   unnamed = λ k i v w k′ x f′ l. none-named P sure s (last .inv) k i v w k′ x f′ l;
   owned = λ k i v w k′ i′ f′ l e. none-shared P sure s (last .inv) k i v w k′ i′ f′ l e;
-  quiet = λ b m e k f l. let x = history-sound es r o b m in none-quiet (programIn b) (sure-of b x) (b .state) (x .inv) (reflective-runs (programIn b) (b .state) e) e k f l;
+  quiet = λ b m e k f l. let x = all b m in none-quiet (programIn b) (sure-of b x) (b .state) (x .inv) (reflective-runs (programIn b) (b .state) e) e k f l;
 }
   where
-    last : Sound (after es r)
-    last = after-sound es r o
-
     P : Program
-    P = programIn (after es r)
+    P = programIn now
 
     s : State
-    s = after es r .state
+    s = now .state
 
     sure : Sure P
-    sure = sure-of (after es r) last
+    sure = sure-of now last
 
 -- DEMAND 3
 pub demand3 : Demand3
 unfolding Demand3
-demand3 image level f v words buffer h events = sound-safe events (begun image level f v words buffer) (begun-sound image level f v words buffer h)
+demand3 image level f v words buffer h events =
+    let r = begun image level f v words buffer in
+    let o = begun-sound image level f v words buffer h in
+    sound-safe (history events r) (after events r) (history-sound events r o) (after-sound events r o)
 
 -- THE LAW: a change that is taken leaves every live call the version that it entered
 pub stay : Stay

@@ -48,19 +48,19 @@ live-of s k f w e = go (getElem? (liveFrames s) k) refl e
     go (some g) l h = (g, l, some-pair h .0, some-pair h .1)
 
 -- a run of an accepted image without a call above the level
-record Low (level : ℕ) (r : Run) : Type 0 where
-  sound : Sound r
-  low : AtOrBelow level r
+pub record Low (level : ℕ) (r : Run) : Type 0 where
+  pub sound : Sound r
+  pub low : AtOrBelow level r
 
 module _ (level : ℕ) where
-  low-step : (r : Run) → Low level r → Low level (inState r (stepOf (programIn r) (r .state) .state))
+  pub low-step : (r : Run) → Low level r → Low level (inState r (stepOf (programIn r) (r .state) .state))
   low-step r o = record {
     sound = sound-step r (o .sound);
     low = step-low (programIn r) (runLevel level) (passed (r .image) (o .sound .versions) (o .sound .verdict) .q18) (r .state) (o .low);
   }
 
   -- the live versions are alike in both images, so their levels are
-  low-taken : (new : List ℕ) (r : Run) → Low level r → changeOf (r .image) new (r .state) ≡ Changed.Taken → Low level (record { image = new; state = r .state })
+  pub low-taken : (new : List ℕ) (r : Run) → Low level r → changeOf (r .image) new (r .state) ≡ Changed.Taken → Low level (record { image = new; state = r .state })
   unfolding NoneAbove
   low-taken new r o e = record { sound = sound-taken new r (o .sound) e; low = λ k f w c. at k f w c (live-of (r .state) k f w c) }
     where
@@ -74,7 +74,7 @@ module _ (level : ℕ) where
 
 -- ---- the claims
 
-begun-low : (image : List ℕ) (level f v : ℕ) (words buffer : List ℤ) → beginOf image level f v words buffer .entry ≡ Entry.Begun → AtOrBelow level (begun image level f v words buffer)
+pub begun-low : (image : List ℕ) (level f v : ℕ) (words buffer : List ℤ) → beginOf image level f v words buffer .entry ≡ Entry.Begun → AtOrBelow level (begun image level f v words buffer)
 unfolding beginOf beginAfter refused
 begun-low image level f v words buffer e = go (verdictOf image) e
   where

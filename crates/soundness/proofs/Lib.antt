@@ -37,3 +37,4 @@ pub mod Demand
 pub mod Levels
 pub mod Staying
 pub mod Inside
+pub mod Backs

@@ -220,7 +220,7 @@ outcome old new s = go (verdictOf new) (verdict-numbered new)
     go (Verdict.Refused q p) m = isRefusedImage q p m
     go (Verdict.Accepted n) m = by15 (answer15 old new s)
 
-listed : (e : Event) (r : Run) → Sound r → Listed e (handle e r .reply)
+pub listed : (e : Event) (r : Run) → Sound r → Listed e (handle e r .reply)
 unfolding handleTo
 listed single r o = steps _ (step-unstuck (programIn r) (safe-of r o) (r .state) (o .inv))
 listed (budget n buffer) r o = gives n buffer (budgetOf (programIn r) (r .state) n buffer) (budget-told (programIn r) (safe-of r o) (r .state) n buffer (o .inv)) (refused-13 (programIn r) (safe-of r o) (r .state) n buffer (o .inv))

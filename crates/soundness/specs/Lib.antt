@@ -4,3 +4,4 @@ pub mod Results
 pub mod Stay
 pub mod Levels
 pub mod Inside
+pub mod Backs

@@ -34,6 +34,7 @@ questionText n = choose n [] (
     (17, text "the moved image has more than 32768 bytes or does not fit the buffer") ∷
     (18, text "a CALL goes to a version of a higher level") ∷
     (19, text "the entry is above the level of the run") ∷
+    (20, text "no step lies behind") ∷
     (23, text "the joined image would break a bound of the layout, or does not fit the buffer") ∷ [])
 
 -- what the code of an answer to a step or a budget says

@@ -135,6 +135,12 @@ slice-aggregate-say-21 c = search needs
 say-requires-21 : tie.Need-say-requires-21
 say-requires-21 c κs = search needs
 
+slice-aggregate-say-22 : tie.Need-slice-aggregate-say-22
+slice-aggregate-say-22 c = search needs
+
+say-requires-22 : tie.Need-say-requires-22
+say-requires-22 c κs = search needs
+
 same-length : tie.Need-same-length
 same-length c = search needs
 
@@ -303,11 +309,20 @@ unfolding questionText choose text
 returns-21 c =
     rw ((c .before .before .before .before .before .match) .keys21) ((c .before .before .say21) .ensures)
 
+same-length-22 : tie.Need-same-length-22
+same-length-22 c = search needs
+
 returns-22 : tie.Need-returns-22
-unfolding questionText
+unfolding questionText choose text
 returns-22 c =
+    rw ((c .before .before .before .before .before .match) .keys22) ((c .before .before .say22) .ensures)
+
+returns-23 : tie.Need-returns-23
+unfolding questionText
+returns-23 c =
     let q = (c .before .before) .args .question in
-    nothing (questionText q) _ (next-row q [] _ _ ((c .match) .rest .0 .0 .0 .0 .0 .0 .0 .0 .0 .0 .0 .0 .0 .0 .0 .0 .0 .0 .0 .0 .1)
+    nothing (questionText q) _ (next-row q [] _ _ ((c .match) .rest .0 .0 .0 .0 .0 .0 .0 .0 .0 .0 .0 .0 .0 .0 .0 .0 .0 .0 .0 .0 .0 .1)
+    ∙ next-row q [] _ _ ((c .match) .rest .0 .0 .0 .0 .0 .0 .0 .0 .0 .0 .0 .0 .0 .0 .0 .0 .0 .0 .0 .0 .1)
     ∙ next-row q [] _ _ ((c .match) .rest .0 .0 .0 .0 .0 .0 .0 .0 .0 .0 .0 .0 .0 .0 .0 .0 .0 .0 .0 .1)
     ∙ next-row q [] _ _ ((c .match) .rest .0 .0 .0 .0 .0 .0 .0 .0 .0 .0 .0 .0 .0 .0 .0 .0 .0 .0 .1)
     ∙ next-row q [] _ _ ((c .match) .rest .0 .0 .0 .0 .0 .0 .0 .0 .0 .0 .0 .0 .0 .0 .0 .0 .0 .1)
@@ -376,6 +391,8 @@ question-text-spec =
     say-requires-20
     slice-aggregate-say-21
     say-requires-21
+    slice-aggregate-say-22
+    say-requires-22
     same-length
     returns
     same-length-2
@@ -418,4 +435,6 @@ question-text-spec =
     returns-20
     same-length-21
     returns-21
-    returns-22)
+    same-length-22
+    returns-22
+    returns-23)

@@ -14,31 +14,15 @@ returns c =
 resume-requires : tie.Need-resume-requires
 resume-requires c κs = search needs
 
-leave-requires : tie.Need-leave-requires
-leave-requires c κs = search needs
-
-said-requires : tie.Need-said-requires
-said-requires c κs = search needs
-
-taken-requires : tie.Need-taken-requires
-taken-requires c κs = search needs
+answered-requires : tie.Need-answered-requires
+answered-requires c κs = search needs
 
 same-length : tie.Need-same-length
 same-length c = search needs
 
 returns-2 : tie.Need-returns-2
 returns-2 c =
-    budget-taken _ _ _ _ _ _ _ _ _ ((c .before .before .before .before .before .before .before .before .before .before .before .before .if1) .left) ((c .before .before .before .before .before .before .before .before .before .resume) .ensures) ((c .before .before .before .before .before .leave) .ensures) ((c .before .said) .ensures) ((c .taken) .ensures)
+    budget-taken _ _ _ _ _ _ _ _ _ ((c .before .before .before .before .before .before .before .before .if1) .left) ((c .before .before .before .before .before .resume) .ensures) ((c .before .answered) .ensures)
 
 pub budget-spec : {M : Type 1} → statement M
-budget-spec =
-    tie.close
-    (tie.spec
-    refused-requires
-    returns
-    resume-requires
-    leave-requires
-    said-requires
-    taken-requires
-    same-length
-    returns-2)
+budget-spec = tie.close (tie.spec refused-requires returns resume-requires answered-requires same-length returns-2)
