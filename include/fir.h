@@ -8,29 +8,32 @@
  * What the caller owes, in every call:
  *   - A pointer with a length points to that many elements, aligned for their type; where the length is 0 it need not
  *     point to anything, but it is not NULL.
- *   - A pointer to a fir_state points to one, aligned as fir_state_alignment says. Its content may be anything.
- *   - What a call writes (a state, a table, a text, a result buffer, a moved or joined image, rows) overlaps nothing else that
- *     the call is lent.
+ *   - A pointer to a fir_state points to one, aligned as fir_state_alignment says, and a pointer to a fir_trail to one. The
+ *     content of both may be anything.
+ *   - What a call writes (a state, a trail, a table, a text, a result buffer, a moved or joined image, rows) overlaps nothing else
+ *     that the call is lent.
  *   - Until the call returns, nobody else writes what is lent, and nobody else reads what the call writes.
  *   - An image that is lent with a table was loaded into it: fir_load answered FIR_LOADED, and neither was written since.
- *   - A step, a budget, fir_search and fir_where are lent the image in force, and its table; fir_change, as its old image, the
- *     image in force. That is the one that the run was begun with, or the last one that fir_change accepted for it. The caller
- *     keeps it, byte for byte, until another is accepted or the run is given up.
- * Nothing of this can be tested by the library. All else is: every image, table, entry, argument list, budget, buffer and state
- * gets an answer that is listed here, and nothing outside the lent memory is read or written.
+ *   - A step, forward or back, a budget, fir_search and fir_where are lent the image in force, and its table; fir_change and
+ *     fir_trail_change, as their old image, the image in force. That is the one that the run was begun with, or the last one that
+ *     such a change accepted for it. The caller keeps it, byte for byte, until another is accepted or the run is given up.
+ *   - A trail is lent with its own state: the one that it was started at, as the calls with this trail have left it.
+ * Nothing of this can be tested by the library. All else is: every image, table, entry, argument list, budget, buffer, state and
+ * trail gets an answer that is listed here, and nothing outside the lent memory is read or written.
  *
- * Threads: every function may be called from several threads at once, each with its own states, texts and buffers. What calls
- * only read they may share: an image, its table once it is loaded, and a state behind a pointer to const.
+ * Threads: every function may be called from several threads at once, each with its own states, trails, texts and buffers. What
+ * calls only read they may share: an image, its table once it is loaded, and a state behind a pointer to const.
  *
  * Linking: the archive that `rt staticlib` makes is for x86-64 and its calling convention of System V; tools/dist makes it for
- * aarch64, ARMv7 and riscv64 too. It needs two functions of the C library, memcpy and memset, on ARMv7 and riscv64 also memmove, on
- * ARMv7 also libgcc, and nothing else.
+ * aarch64, ARMv7 and riscv64 too. It needs three functions of the C library, memcpy, memmove and memset, on ARMv7 also libgcc,
+ * and nothing else.
  *
  * Costs: fir_check, fir_load, fir_change, fir_widen, fir_narrow and fir_bounds put an image to its questions and read all of it;
  * fir_join does so with two; fir_report and fir_mend take longer. The calls with a table look up what they need, so that what they
  * cost does not grow with the image: fir_begin writes a state, a step or a budget costs something of its own beside the steps
- * taken. So an image is loaded once, and one budget costs less than as many single steps. tests/interface/costs.c measures all of
- * these. On a machine of 2026 for x86-64, microseconds, with an image of 512 bytes and with the longest:
+ * taken, and a step back as much as the steps that lie behind. So an image is loaded once, and one budget costs less than as many
+ * single steps. tests/interface/costs.c measures all of these. On a machine of 2026 for x86-64, microseconds, with an image of 512
+ * bytes and with the longest:
  *   fir_check, which reads the image         3.6    214      fir_begin                            0.13   0.13
  *   fir_load, once for an image              3.9    226      fir_step; fir_budget of 0, 1 steps   0.06   0.04
  *   fir_change, the new image                4.5    230      fir_budget of 10 steps               0.08   0.07
@@ -108,8 +111,8 @@ fir_versions fir_version(void);
 
 /* A version CALLs versions of its own level or lower ones alone (18); a DISPATCH passes over versions above the level of
  * the version that it stands in, also where a lower version forces the block; and a run begins at a version of its level
- * or a lower one alone (19). So no version above the run's level is ever entered, whatever the arguments, steps, budgets
- * and changes of the image are. At each higher level the run is the same: nothing of its level is kept in the state.
+ * or a lower one alone (19). So no version above the run's level is ever entered, whatever the arguments, steps, budgets,
+ * changes of the image and steps back are. At each higher level the run is the same: nothing of its level is kept in the state.
  *
  * What that protects from: somebody who chooses entry, arguments and budgets, and for whom the controller states the level,
  * reaches nothing above it. What it does not protect from:
@@ -147,6 +150,7 @@ fir_versions fir_version(void);
 #define FIR_REFUSED_CHANGE 15    /* every version with a live call has the same bytes and number in both images */
 #define FIR_REFUSED_LITERAL 16   /* every literal of an image that is moved fits 32 bits */
 #define FIR_REFUSED_ROOM 17      /* the moved image has at most 32,768 bytes and fits the buffer */
+#define FIR_REFUSED_BACK 20      /* a step lies behind the state */
 #define FIR_REFUSED_JOIN 23      /* the joined image has at most 32,768 bytes, 32 functions and 64 versions and fits the buffer */
 
 #define FIR_QUESTION_TEXT_BYTES 128 /* room for the words of every question */
@@ -176,8 +180,9 @@ typedef struct fir_verdict {
     uint8_t question;
 } fir_verdict;
 
-/* Whether a run has begun, or goes on under a new image: FIR_ACCEPTED, or the question that refuses it and the offset. A run is
- * refused by 11, 19, 12 or 13, a new image by 1 to 10, 14, 15 or 18. With FIR_ACCEPTED, 11 to 13 and 19 the offset is 0. */
+/* Whether a run has begun, goes on under a new image or has gone back: FIR_ACCEPTED, or the question that refuses it and the
+ * offset. A run is refused by 11, 19, 12 or 13, a new image by 1 to 10, 14, 15 or 18, a step back by 20. With FIR_ACCEPTED, 11 to
+ * 13, 19 and 20 the offset is 0. */
 typedef struct fir_entry {
     uint16_t offset;
     uint8_t question;
@@ -216,7 +221,7 @@ size_t fir_answer_text(uint8_t code, uint8_t *text, size_t text_length);
 
 /* A run that has ended gives its end again: each further step says the same code, value and length, and each further budget,
  * of 0 steps too, answers them with 0 steps and writes the items of a vector to its buffer as before. The state stays, byte for
- * byte. Only the length of the buffer is still asked (FIR_REFUSED_BUFFER). */
+ * byte. Only the length of the buffer is still asked (FIR_REFUSED_BUFFER). A step back alone leads to before the end. */
 
 /* What a single step says: FIR_STEPS to FIR_STUCK. */
 typedef struct fir_said {
@@ -256,7 +261,7 @@ typedef struct fir_answer {
  * and compares it. A state does not hold its image, nor the table: whoever stores it stores the image in force with it, or knows
  * which one that was. The table need not be stored; it is made again from the image (fir_load).
  *
- * Where the image was exchanged without an accepted fir_change, every step and budget still gives an answer that is listed
+ * Where the image was exchanged without an accepted change, every step and budget still gives an answer that is listed
  * here and keeps to the lent memory, but nothing that is promised of a begun run holds any more: a step may be stuck, and
  * what registers hold may be of other types than the image declares.
  *
@@ -464,8 +469,9 @@ fir_mended fir_mend(const uint8_t *image, size_t image_length);
 
 /* Lists the versions of an image with the most steps that a run of each can take. Whatever its level, its arguments and its
  * buffer are, and into however many steps and budgets it is divided: a run never takes more steps than a bound given for its
- * entry, as long as no change of its image was taken (fir_change). A bound need not be met: skipped parts, promises that are
- * never forced and the longest version that a DISPATCH may enter all count.
+ * entry, as long as no change of its image was taken (fir_change), and no step back (fir_trail_back), behind which steps are taken
+ * again. A bound need not be met: skipped parts, promises that are never forced and the longest version that a DISPATCH may enter
+ * all count.
  *
  * The row i is the version numbers[2 * i].numbers[2 * i + 1], and steps[i] its bound: its instructions and block ends in all
  * blocks, promise bodies too, and for each CALL and DISPATCH the largest bound that it may reach, 0 where nothing fits. A
@@ -630,6 +636,102 @@ fir_answer fir_run(const uint8_t *image, size_t image_length, const uint8_t *tab
  */
 fir_entry fir_change(const uint8_t *old_image, size_t old_length, const uint8_t *new_image, size_t new_length,
                      const fir_state *state);
+
+/* ---- Stepping back ---- */
+
+#define FIR_TRAIL_NUMBERS 2129 /* the integers of a state: its `numbers`, `items`, `caches`, `result` and `value` */
+#define FIR_TRAIL_BYTES 2632   /* its bytes behind them: `tags` to `spare` */
+
+/* A state with its start kept: the start, and how many steps lie behind the state. The caller keeps state and trail side by side,
+ * and makes every step, budget and change by the functions below: then a step back leads to the state before the last step, and
+ * further back up to the start, names, caches and counts included.
+ *
+ * The steps that count are those that a budget counts: each that goes on, and the one that makes DONE or UNDEF. One that DEEP,
+ * VECTORS or PROMISES stops does not, nor does one that is stuck or refused, or one of a run that has ended. Where more than
+ * 4,294,967,295 were taken since the start, none lies behind any more, until a new start.
+ *
+ * What the caller owes: a trail belongs to one state, and both go together where they are copied or stored. A state that is
+ * stepped without its trail leaves the trail behind, and nothing is promised of the two: a step back gives the state of one step
+ * less than the trail has counted. So does one whose image is changed by fir_change alone; fir_trail_start behind it puts that right.
+ *
+ * A trail may be stored as a state is, under the same FIR_STATE_LAYOUT: its first fir_state_size() bytes are the start, laid out as
+ * a state is; `steps` stands at 19664, `past` at 19668, and the three bytes behind it mean nothing. So memcpy(state, trail, sizeof
+ * *state), and then fir_trail_start, brings a state back to its start. Every content of a trail has an answer, as every content of
+ * a state has: its first two fields stand for a state, and its last two for a count. */
+typedef struct fir_trail {
+    int64_t numbers[FIR_TRAIL_NUMBERS]; /* the start */
+    uint8_t bytes[FIR_TRAIL_BYTES];
+    uint32_t steps;                     /* how many steps lie behind, where `past` is 0 */
+    uint8_t past;                       /* all else than 0: more than 4,294,967,295 were taken, and none lies behind */
+} fir_trail;
+
+/* Keeps a state as the start, with no step behind it. The state is mostly one that fir_begin has written; it may be any other, and
+ * then the run goes back to that one and no further. */
+void fir_trail_start(const fir_state *state, fir_trail *trail);
+
+/* Takes a single step as fir_step does, with the same answer and the same state, and counts it where it counts. */
+fir_said fir_trail_step(const uint8_t *image, size_t image_length, const uint8_t *table, size_t table_length, fir_state *state,
+                        fir_trail *trail);
+
+/* Takes at most `budget` steps as fir_budget does, with the same answer, the same state and the same buffer, and counts those that
+ * the answer counts. */
+fir_answer fir_trail_budget(const uint8_t *image, size_t image_length, const uint8_t *table, size_t table_length, fir_state *state,
+                            fir_trail *trail, uint32_t budget, int64_t *buffer, size_t buffer_length);
+
+/* Asks what fir_change asks. With FIR_ACCEPTED the new image is in force, and the state is a new start with no step behind it: a
+ * run goes back no further than a change. Any refusal writes nothing, and leaves the steps behind the state. */
+fir_entry fir_trail_change(const uint8_t *old_image, size_t old_length, const uint8_t *new_image, size_t new_length,
+                           const fir_state *state, fir_trail *trail);
+
+/* Takes a step back: with n steps behind the state, n from 1 to 4,294,967,295, the state that n - 1 steps give from the start, and
+ * n - 1 steps behind it. A run that has ended goes on from there: after DONE and UNDEF its last step is taken back, and after DEEP,
+ * VECTORS and PROMISES the step before the one that was stopped. With no step behind, 20 at 0: state and trail are as they were,
+ * and an end stays. The trail knows where the state came from: what the state held makes no difference.
+ *
+ * It costs a copy of the start and a budget of n - 1 steps: 21 milliseconds for n = 1,000,000, on a busy machine. Where that is too slow, keep
+ * checkpoints: below, each of them is a state with a trail of its own, which was started at the state of the one before, so that no
+ * step back takes EACH steps or more while there are checkpoints left. Where its trail has no step behind, the run goes back in the
+ * one before. After a change that is taken, the checkpoints of before belong to the old image and are given up.
+ *
+ * Example:
+ *
+ *     enum { CHECKPOINTS = 20, EACH = 100 };
+ *
+ *     static struct {
+ *         fir_state state;
+ *         fir_trail trail;
+ *     } points[CHECKPOINTS];
+ *     static size_t last;
+ *
+ *     static void keep_begun(const fir_state *state)
+ *     {
+ *         last = 0;
+ *         points[0].state = *state;
+ *         fir_trail_start(state, &points[0].trail);
+ *     }
+ *
+ *     static fir_said one_forward(const uint8_t *image, size_t image_length)
+ *     {
+ *         if (points[last].trail.steps == EACH && last + 1 < CHECKPOINTS) {
+ *             points[last + 1].state = points[last].state;
+ *             last++;
+ *             fir_trail_start(&points[last].state, &points[last].trail);
+ *         }
+ *         return fir_trail_step(image, image_length, table, sizeof table, &points[last].state, &points[last].trail);
+ *     }
+ *
+ *     static fir_entry one_back(const uint8_t *image, size_t image_length)
+ *     {
+ *         fir_entry back = fir_trail_back(image, image_length, table, sizeof table, &points[last].state, &points[last].trail);
+ *         if (back.question == FIR_REFUSED_BACK && last > 0) {
+ *             last--;
+ *             back = fir_trail_back(image, image_length, table, sizeof table, &points[last].state, &points[last].trail);
+ *         }
+ *         return back;
+ *     }
+ */
+fir_entry fir_trail_back(const uint8_t *image, size_t image_length, const uint8_t *table, size_t table_length, fir_state *state,
+                         fir_trail *trail);
 
 /* ---- Looking at a state ---- */
 

@@ -1,7 +1,7 @@
 /* What each function of the interface costs: microseconds of the processor's time for a call, the median of some rounds of many calls,
  * with an image of one version and with the longest, of 64 such versions, and beside each how often that is what fir_check costs with
  * the same image. A run stands in the middle of its first version; for one search, which is of an image of its own, at a DISPATCH of
- * eight arguments that four versions do not fit. */
+ * eight arguments that four versions do not fit. Then what a step back costs with many steps behind, beside a budget of as many. */
 #include <stdio.h>
 #include <stdlib.h>
 #include <time.h>
@@ -14,6 +14,8 @@
 #define SUMS 17     /* so many sums: 512 bytes in all */
 #define MIDWAY 24   /* steps of a run that takes more than 1,000 */
 #define IMAGES 2
+#define DOUBLED 20    /* functions of a run that takes more than a million steps */
+#define MANY 1000000u /* steps behind the longest step back */
 
 static image images[IMAGES];
 static image narrow_images[IMAGES];
@@ -26,7 +28,12 @@ static const image *tried;
 static const image *narrow_tried;
 static const image *wrong_tried;
 static const fir_state *midway;
+static fir_trail trails[IMAGES]; /* of runs from their beginning to their middle */
+static const fir_trail *trailed;
 static fir_state state;
+static fir_trail trail;
+static image doubled;
+static fir_state doubled_start;
 static int64_t buffer[FIR_ITEMS];
 static const int64_t words[] = {-1, 40};
 static uint8_t text[FIR_REPORT_BYTES];
@@ -77,6 +84,63 @@ static void budget_of(uint32_t steps)
 {
     bring_back();
     seen += fir_budget(LENT(*tried), &state, steps, buffer, FIR_ITEMS).steps;
+}
+
+/* The trail brought back too. */
+static void bring_both_back(void)
+{
+    bring_back();
+    memcpy(&trail, trailed, sizeof trail);
+}
+
+static void trail_start(void)
+{
+    fir_trail_start(midway, &trail);
+    seen += trail.steps;
+}
+
+static void trail_step(void)
+{
+    bring_both_back();
+    seen += fir_trail_step(LENT(*tried), &state, &trail).code;
+}
+
+static void trail_budget_of(uint32_t steps)
+{
+    bring_both_back();
+    seen += fir_trail_budget(LENT(*tried), &state, &trail, steps, buffer, FIR_ITEMS).steps;
+}
+
+static void trail_budget_1(void) { trail_budget_of(1); }
+static void trail_budget_100(void) { trail_budget_of(100); }
+
+static void trail_change(void)
+{
+    seen += fir_trail_change(tried->bytes, tried->length, tried->bytes, tried->length, midway, &trail).question;
+}
+
+/* A step back with so many steps behind: what the state holds makes no difference. */
+static void back_from(uint32_t steps)
+{
+    bring_both_back();
+    trail.steps = steps;
+    seen += fir_trail_back(LENT(*tried), &state, &trail).question;
+}
+
+static void back_from_0(void) { back_from(0); }
+static void back_from_1(void) { back_from(1); }
+static void back_from_101(void) { back_from(101); }
+
+static void many_forward(void)
+{
+    memcpy(&state, &doubled_start, sizeof state);
+    seen += fir_budget(LENT(doubled), &state, MANY - 1, buffer, FIR_ITEMS).steps;
+}
+
+static void many_back(void)
+{
+    trail.steps = MANY;
+    seen += fir_trail_back(LENT(doubled), &state, &trail).question;
 }
 
 static void budget_0(void) { budget_of(0); }
@@ -152,7 +216,9 @@ static int prepare(void)
         narrow_images[i].length = moved.detail;
         if (load(image) != FIR_LOADED)
             return 0;
-        fir_run(LENT(*image), FIR_PORTAL, 0, 0, words, 2, MIDWAY, buffer, FIR_ITEMS, &midways[i]);
+        fir_begin(LENT(*image), FIR_PORTAL, 0, 0, words, 2, buffer, FIR_ITEMS, &midways[i]);
+        fir_trail_start(&midways[i], &trails[i]);
+        fir_trail_budget(LENT(*image), &midways[i], &trails[i], MIDWAY, buffer, FIR_ITEMS);
         wrong_images[i] = *image;
         wrong_images[i].bytes[last_types[i]] = 3;
         if (fir_mend(wrong_images[i].bytes, image->length).mend != FIR_MENDED)
@@ -170,24 +236,52 @@ static void turn_to(size_t i)
     narrow_tried = &narrow_images[i];
     wrong_tried = &wrong_images[i];
     midway = &midways[i];
+    trailed = &trails[i];
 }
+
+/* A step back with many steps behind, and a budget of as many: milliseconds; whether the run was as long. */
+static int many(void)
+{
+    double forward, back;
+    doubling(&doubled, DOUBLED);
+    load(&doubled);
+    fir_begin(LENT(doubled), FIR_PORTAL, 0, 0, words, 2, buffer, FIR_ITEMS, &doubled_start);
+    fir_trail_start(&doubled_start, &trail);
+    memcpy(&state, &doubled_start, sizeof state);
+    fir_trail_budget(LENT(doubled), &state, &trail, MANY, buffer, FIR_ITEMS);
+    if (trail.steps != MANY)
+        return 0;
+    forward = cost(many_forward);
+    back = cost(many_back);
+    printf("costs: fir_trail_back with %lu steps behind %.2f milliseconds, a budget of one step less %.2f\n",
+           (unsigned long)MANY, back / 1e3, forward / 1e3);
+    return 1;
+}
+
+/* The calls that are measured, each with what is done besides. */
+static const struct {
+    const char *name;
+    void (*function)(void);
+    void (*besides)(void);
+} calls[] = {{"fir_check", check, nothing}, {"fir_load", loads, nothing}, {"fir_report", report, nothing},
+             {"fir_change", change, nothing}, {"fir_widen", widen, nothing}, {"fir_narrow", narrow, nothing},
+             {"fir_join, with itself", join, nothing}, {"fir_bounds", bounds, nothing}, {"fir_mend", mend, nothing},
+             {"fir_begin", begin, nothing}, {"fir_run, 1 step", run, nothing}, {"fir_step", step, bring_back},
+             {"fir_budget, 0 steps", budget_0, bring_back}, {"fir_budget, 1 step", budget_1, bring_back},
+             {"fir_budget, 10 steps", budget_10, bring_back}, {"fir_budget, 100 steps", budget_100, bring_back},
+             {"fir_trail_start", trail_start, nothing}, {"fir_trail_step", trail_step, bring_both_back},
+             {"fir_trail_budget, 1", trail_budget_1, bring_both_back},
+             {"fir_trail_budget, 100", trail_budget_100, bring_both_back},
+             {"fir_trail_change", trail_change, nothing}, {"fir_trail_back, 20", back_from_0, bring_both_back},
+             {"fir_trail_back, 1", back_from_1, bring_both_back},
+             {"fir_trail_back, 101", back_from_101, bring_both_back},
+             {"fir_where", where, nothing}, {"fir_search", search, nothing},
+             {"fir_search, 4 in vain", search_all, nothing}, {"fir_look", look, nothing},
+             {"fir_table_size", table_size, nothing}, {"fir_question_text", question_text, nothing},
+             {"fir_answer_text", answer_text, nothing}};
 
 int main(void)
 {
-    static const struct {
-        const char *name;
-        void (*function)(void);
-        void (*besides)(void);
-    } calls[] = {{"fir_check", check, nothing}, {"fir_load", loads, nothing}, {"fir_report", report, nothing},
-                 {"fir_change", change, nothing}, {"fir_widen", widen, nothing}, {"fir_narrow", narrow, nothing},
-                 {"fir_join, with itself", join, nothing}, {"fir_bounds", bounds, nothing}, {"fir_mend", mend, nothing},
-                 {"fir_begin", begin, nothing}, {"fir_run, 1 step", run, nothing}, {"fir_step", step, bring_back},
-                 {"fir_budget, 0 steps", budget_0, bring_back}, {"fir_budget, 1 step", budget_1, bring_back},
-                 {"fir_budget, 10 steps", budget_10, bring_back}, {"fir_budget, 100 steps", budget_100, bring_back},
-                 {"fir_where", where, nothing}, {"fir_search", search, nothing},
-                 {"fir_search, 4 in vain", search_all, nothing}, {"fir_look", look, nothing},
-                 {"fir_table_size", table_size, nothing}, {"fir_question_text", question_text, nothing},
-                 {"fir_answer_text", answer_text, nothing}};
     double checked[IMAGES], taken;
     size_t i, k;
     if (!prepare()) {
@@ -208,6 +302,10 @@ int main(void)
             printf(" %9.2f %7.3f", taken, taken / checked[k]);
         }
         printf("\n");
+    }
+    if (!many()) {
+        printf("costs: a run is too short\n");
+        return 1;
     }
     return 0;
 }

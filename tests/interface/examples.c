@@ -159,6 +159,42 @@ static void without_words(void)
     same("a missing word", begin_without_words(tried.bytes, tried.length, items, &state).question, FIR_REFUSED_ARGUMENTS);
 }
 
+/* Asserts that the last checkpoint is in the state of so many steps, as far as its calls can see. */
+static void at_point(uint32_t steps)
+{
+    static fir_state wanted;
+    const fir_state *is = &points[last].state;
+    const fir_position here = fir_where(TABLED(tried), is);
+    fir_run(TABLED(tried), FIR_PORTAL, 0, 0, words, 2, steps, items, FIR_ITEMS, &wanted);
+    same("the offset", here.offset, fir_where(TABLED(tried), &wanted).offset);
+    same("the instruction", here.instruction, fir_where(TABLED(tried), &wanted).instruction);
+    same("the calls", is->calls, wanted.calls);
+    same("r2", (size_t)fir_look(is, is->calls - 1u, 2).number, (size_t)fir_look(&wanted, wanted.calls - 1u, 2).number);
+}
+
+/* A run forward and back over checkpoints: no step back takes more than as many steps as lie between two. */
+static void checkpoints(void)
+{
+    uint32_t steps, forward = 3 * EACH + 7;
+    chain(&tried, FIR_FUNCTIONS);
+    begins(words, 2);
+    keep_begun(&state);
+    for (steps = 1; steps <= forward; steps++) {
+        same("a step's code", one_forward(tried.bytes, tried.length).code, FIR_STEPS);
+        at_point(steps);
+    }
+    same("the checkpoint", last, 3);
+    for (steps = forward; steps > 0; steps--) {
+        same("a step back's question", one_back(tried.bytes, tried.length).question, FIR_ACCEPTED);
+        at_point(steps - 1);
+        same("whether few steps lie behind", points[last].trail.steps <= EACH, 1);
+    }
+    same("the question at the start", one_back(tried.bytes, tried.length).question, FIR_REFUSED_BACK);
+    for (steps = 0; steps < (CHECKPOINTS + 1) * EACH && one_forward(tried.bytes, tried.length).code == FIR_STEPS; steps++)
+        ;
+    same("the steps to the end", steps + 1, FIR_FUNCTIONS * 49u);
+}
+
 static void positions(void)
 {
     FILE *file = opened();
@@ -231,6 +267,7 @@ int main(void)
     stepped();
     changing();
     without_words();
+    checkpoints();
     positions();
     joining();
     mending();

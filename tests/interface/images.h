@@ -91,6 +91,51 @@ static inline void chain(image *to, unsigned functions)
     }
 }
 
+/* Functions that each call the next one twice: a run of them takes 2^(functions + 1) steps, less 3. */
+static inline void doubling(image *to, unsigned functions)
+{
+    unsigned f;
+    to->length = 0;
+    for (f = 0; f < functions; f++) {
+        RECORD(to, VERSION, (uint8_t)f, 0, 1, 1, 2, 1, 2);
+        RECORD(to, LEVEL, FIR_PORTAL);
+        RECORD(to, BLOCK, 0, 0, f + 1 < functions ? 2 : 0);
+        if (f + 1 < functions) {
+            RECORD(to, CALL, 0, (uint8_t)(f + 1), 0, 1, 0);
+            RECORD(to, CALL, 0, (uint8_t)(f + 1), 0, 1, 0);
+        }
+    }
+}
+
+/* 0.0 makes 15 vectors and calls itself, until a 65th is needed. */
+static inline void hoarding_vectors(image *to)
+{
+    unsigned r;
+    to->length = 0;
+    RECORD(to, VERSION, 0, 0, 1, FIR_REGISTERS, 2, 1, /* and the types: */
+           2, 3, 3, 3, 3, 3, 3, 3, 3, 3, 3, 3, 3, 3, 3, 3);
+    RECORD(to, LEVEL, FIR_PORTAL);
+    RECORD(to, BLOCK, 0, 0, FIR_REGISTERS);
+    for (r = 1; r < FIR_REGISTERS; r++)
+        RECORD(to, VEC, (uint8_t)r, 1, 0);
+    RECORD(to, CALL, 0, 0, 0, 1, 0);
+}
+
+/* 0.0 makes 7 promises and calls itself, until a 65th is needed. */
+static inline void hoarding_promises(image *to)
+{
+    unsigned b;
+    to->length = 0;
+    RECORD(to, VERSION, 0, 0, 1, 8, 2, 8, 2, 4, 4, 4, 4, 4, 4, 4);
+    RECORD(to, LEVEL, FIR_PORTAL);
+    RECORD(to, BLOCK, 0, 0, 8);
+    for (b = 1; b < 8; b++)
+        RECORD(to, PROM, (uint8_t)b, (uint8_t)b);
+    RECORD(to, CALL, 0, 0, 0, 1, 0);
+    for (b = 1; b < 8; b++)
+        RECORD(to, BLOCK, 0, 0, 0);
+}
+
 /* Seven promise blocks, each made and forced by the one before it, and a dispatch at the end. */
 static inline void nested(image *to)
 {

@@ -1,5 +1,6 @@
 /* The layout of what crosses the interface, as this compiler has it, against what the header says and the library was built
- * with. The size of each field is that of its type; each field of a state follows on the one before it, and no byte is left over. */
+ * with. The size of each field is that of its type; each field of a state follows on the one before it, and no byte is left over.
+ * The first bytes of a trail are those of the state that it was started at. */
 #include <stdio.h>
 #include <stdlib.h>
 #include <string.h>
@@ -23,6 +24,17 @@ static void same(const char *what, size_t is, size_t wanted)
 #define ALIGNMENT(type) \
     offsetof(struct { char before; struct type it; }, it)
 
+/* A trail begins with the bytes of its start, and no step lies behind, whatever it held before. */
+static void start_first(const fir_state *state)
+{
+    static fir_trail trail;
+    memset(&trail, 0xa5, sizeof trail);
+    fir_trail_start(state, &trail);
+    same("the start of a trail", memcmp(&trail, state, sizeof *state) != 0, 0);
+    same("its steps", trail.steps, 0);
+    same("whether more were taken", trail.past, 0);
+}
+
 /* The lowest byte of a number stands first in a state, and an integer is in two's complement. */
 static void byte_order(void)
 {
@@ -35,6 +47,7 @@ static void byte_order(void)
     fir_begin(identity, sizeof identity, table, sizeof table, FIR_PORTAL, 0, 0, words, 2, buffer, FIR_ITEMS, &state);
     same("the bytes of r0", memcmp(bytes + offsetof(fir_state, numbers), wanted, sizeof wanted) != 0, 0);
     same("the tag of r0", bytes[offsetof(fir_state, tags)], FIR_IS_INTEGER);
+    start_first(&state);
 }
 
 int main(void)
@@ -58,6 +71,11 @@ int main(void)
     AT(fir_state, status, 19658);
     AT(fir_state, length, 19659);
     AT(fir_state, spare, 19660);
+    same("sizeof fir_trail", sizeof(fir_trail), 19672);
+    AT(fir_trail, numbers, 0);
+    AT(fir_trail, bytes, offsetof(fir_state, tags));
+    AT(fir_trail, steps, sizeof(fir_state));
+    AT(fir_trail, past, sizeof(fir_state) + 4);
     same("FIR_TABLE_BYTES", FIR_TABLE_BYTES(FIR_IMAGE_BYTES), 45992);
     same("sizeof fir_loaded", sizeof(fir_loaded), 2 * size);
     AT(fir_loaded, detail, 0);

@@ -1,6 +1,6 @@
 /* Plays recorded cases, as the program `recorded` of tests/generator writes them, from standard input, and prints a sum over all that
- * the library answers and leaves: numbers, verdicts and texts, moves, joined images, bounds, mends, tables, states, buffers, positions
- * and searches. On two machines the same cases print the same. */
+ * the library answers and leaves: numbers, verdicts and texts, moves, joined images, bounds, mends, tables, states, trails, buffers,
+ * positions and searches. On two machines the same cases print the same. */
 #include <stdio.h>
 #include <stdlib.h>
 #include <string.h>
@@ -21,14 +21,22 @@ typedef struct image {
 /* The four arguments of an image and its table. */
 #define LENT(image) (image).bytes, (image).length, (image).table, sizeof (image).table
 
-static image images[2];
+/* A run: its image in force, and its state. */
+typedef struct run {
+    image *in_force;
+    fir_state state;
+} run;
+
+static image images[3];
 static uint8_t out[FIR_IMAGE_BYTES];
 static uint8_t text[FIR_REPORT_BYTES];
 static uint8_t row_numbers[2 * FIR_ROWS];
 static uint64_t row_steps[FIR_ROWS];
 static int64_t words[WORDS];
 static int64_t buffer[PLACES];
-static fir_state state;
+static run plain;      /* by fir_step, fir_budget and fir_change */
+static run trailed;    /* by the functions that are lent a trail, and back */
+static fir_trail trail;
 static uint64_t sum = 14695981039346656037u; /* FNV-1a */
 static unsigned long steps;
 
@@ -175,20 +183,21 @@ static void mend(const image *image)
     add(mended.question * 65536u + mended.mend * 256u + mended.value);
 }
 
-/* What can be asked of the state. */
-static void look(const image *image)
+/* What can be asked of the state of a run. */
+static void look(const run *run)
 {
-    fir_position at = fir_where(LENT(*image), &state);
-    fir_searched searched = fir_search(LENT(*image), &state);
+    const fir_state *state = &run->state;
+    fir_position at = fir_where(LENT(*run->in_force), state);
+    fir_searched searched = fir_search(LENT(*run->in_force), state);
     size_t place;
-    add_bytes(&state, sizeof state);
+    add_bytes(state, sizeof *state);
     add(at.kind);
     add(at.offset);
     add(at.function * 256u + at.version);
     add(at.block * 256u + at.instruction);
     add(searched.dispatch * 65536u + searched.looked * 256u + searched.versions);
     for (place = 0; place <= FIR_REGISTERS + FIR_NAMES; place++) {
-        fir_value value = fir_look(&state, state.calls > 0 ? state.calls - 1u : 0, place);
+        fir_value value = fir_look(state, state->calls > 0 ? state->calls - 1u : 0, place);
         add((uint64_t)value.number);
         add(value.kind * 256u + value.place);
     }
@@ -204,42 +213,84 @@ static void add_answer(fir_answer answer)
     add_bytes(buffer, sizeof buffer);
 }
 
-/* One thing done with the run. */
-static void act(image **in_force, image **other)
+/* How many steps lie behind, and the start. */
+static void look_behind(void)
 {
-    fir_said said;
+    add_bytes(trail.numbers, sizeof trail.numbers);
+    add_bytes(trail.bytes, sizeof trail.bytes);
+    add(trail.steps);
+    add(trail.past);
+}
+
+static void add_said(fir_said said)
+{
+    add((uint64_t)said.value);
+    add(said.code * 256u + said.length);
+}
+
+static void add_entry(fir_entry entry)
+{
+    add(entry.question * 65536u + entry.offset);
+}
+
+/* An image that neither run is under. */
+static image *unused(void)
+{
+    image *image = images;
+    while (image == plain.in_force || image == trailed.in_force)
+        image++;
+    return image;
+}
+
+/* A change of the image in both runs, each for itself. */
+static void change(void)
+{
+    image *new_image = unused();
     fir_entry entry;
-    uint64_t budget;
-    image *changed;
+    read_image(new_image, number());
+    load(new_image);
+    entry = fir_change(plain.in_force->bytes, plain.in_force->length, new_image->bytes, new_image->length, &plain.state);
+    add_entry(entry);
+    if (entry.question == FIR_ACCEPTED)
+        plain.in_force = new_image;
+    entry = fir_trail_change(trailed.in_force->bytes, trailed.in_force->length, new_image->bytes, new_image->length, &trailed.state,
+                             &trail);
+    add_entry(entry);
+    if (entry.question == FIR_ACCEPTED)
+        trailed.in_force = new_image;
+}
+
+/* One thing done with both runs; a step back with one of them alone. */
+static void act(void)
+{
+    uint32_t budget;
+    size_t places;
     switch (number()) {
     case 0:
-        said = fir_step(LENT(**in_force), &state);
-        add((uint64_t)said.value);
-        add(said.code * 256u + said.length);
+        add_said(fir_step(LENT(*plain.in_force), &plain.state));
+        add_said(fir_trail_step(LENT(*trailed.in_force), &trailed.state, &trail));
         break;
     case 1:
-        budget = number();
-        add_answer(fir_budget(LENT(**in_force), &state, (uint32_t)budget, buffer, (size_t)number()));
+        budget = (uint32_t)number();
+        places = (size_t)number();
+        add_answer(fir_budget(LENT(*plain.in_force), &plain.state, budget, buffer, places));
+        add_answer(fir_trail_budget(LENT(*trailed.in_force), &trailed.state, &trail, budget, buffer, places));
+        break;
+    case 2:
+        change();
         break;
     default:
-        read_image(*other, number());
-        entry = fir_change((*in_force)->bytes, (*in_force)->length, (*other)->bytes, (*other)->length, &state);
-        add(entry.question * 65536u + entry.offset);
-        if (entry.question == FIR_ACCEPTED) {
-            load(*other);
-            changed = *in_force;
-            *in_force = *other;
-            *other = changed;
-        }
+        add_entry(fir_trail_back(LENT(*trailed.in_force), &trailed.state, &trail));
     }
-    look(*in_force);
+    look(&plain);
+    look(&trailed);
+    look_behind();
 }
 
 static void play(uint64_t length)
 {
-    image *in_force = &images[0], *other = &images[1];
+    image *in_force = &images[0];
     uint64_t level, function, version, count, i;
-    fir_entry entry;
     read_image(in_force, length);
     level = number();
     function = number();
@@ -254,17 +305,20 @@ static void play(uint64_t length)
     bound(in_force);
     mend(in_force);
     load(in_force);
-    memset(&state, 0, sizeof state);
+    plain.in_force = trailed.in_force = in_force;
+    memset(&plain.state, 0, sizeof plain.state);
     memset(buffer, 0, sizeof buffer);
-    entry = fir_begin(LENT(*in_force), (size_t)level, (size_t)function, (size_t)version, words, (size_t)count,
-                      buffer, FIR_ITEMS, &state);
-    add(entry.question * 65536u + entry.offset);
-    look(in_force);
+    add_entry(fir_begin(LENT(*in_force), (size_t)level, (size_t)function, (size_t)version, words, (size_t)count,
+                        buffer, FIR_ITEMS, &plain.state));
+    look(&plain);
+    trailed.state = plain.state;
+    fir_trail_start(&trailed.state, &trail);
+    look_behind();
     for (i = number(); i > 0; i--)
-        act(&in_force, &other);
-    add_answer(fir_run(LENT(*in_force), (size_t)level, (size_t)function, (size_t)version, words, (size_t)count,
-                       500, buffer, PLACES, &state));
-    look(in_force);
+        act();
+    add_answer(fir_run(LENT(*plain.in_force), (size_t)level, (size_t)function, (size_t)version, words, (size_t)count,
+                       500, buffer, PLACES, &plain.state));
+    look(&plain);
 }
 
 static void show(unsigned long cases)

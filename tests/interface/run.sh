@@ -1,9 +1,9 @@
 #!/usr/bin/env bash
 # Tries the C interface: its header as C99 and as C++ and the examples in it, the symbols of the archive, the layout of what
-# crosses it, the bytes of states, the stack that each function takes, what a search and a position answer, texts, images loaded, one moved
-# there and back, two joined, mends, bounds, levels, calls from several threads, and the examples controller, update, stored and standby, whose output stands beside them; and
-# prints what each call costs. Needs a C and a C++ compiler with nm, and valgrind. Its last line is `interface: N passed, 0 failed`; where something fails, it
-# says what and its status is 1.
+# crosses it, the bytes of states, the stack that each function takes, what a search and a position answer, steps back, texts, images
+# loaded, one moved there and back, two joined, mends, bounds, levels, calls from several threads, and the examples controller, update,
+# stored, standby and stepper, whose output stands beside them; and prints what each call costs. Needs a C and a C++ compiler with nm,
+# and valgrind. Its last line is `interface: N passed, 0 failed`; where something fails, it says what and its status is 1.
 #
 # With the name of another machine, as tools/dist/target.sh gives it, the library for that machine is tried: by its compiler, under
 # qemu, and without C++ and valgrind.
@@ -56,8 +56,7 @@ declared=$(sed -n 's/^[a-z][a-z0-9_]* \(fir_[a-z_]*\)(.*/\1/p' include/fir.h | s
 [ "$(symbols --defined-only '^T$')" = "$declared" ] || fail "the archive has other functions than the header declares"
 ok "the archive has the functions that the header declares"
 case $target in
-"" | aarch64-*) needs="memcpy memset" ;;
-riscv64-*) needs="memcpy memmove memset" ;;
+"" | aarch64-* | riscv64-*) needs="memcpy memmove memset" ;;
 *) needs="__aeabi_uldivmod memcpy memmove memset" ;; # the first is libgcc's
 esac
 [ "$(symbols --undefined-only '^U$')" = "$needs" ] || fail "the archive needs $(symbols --undefined-only '^U$')"
@@ -66,7 +65,7 @@ ok "the archive needs $needs alone"
 ok "the archive has no variable"
 
 awk -f tests/interface/examples.awk include/fir.h >"$out/examples.inc"
-for host in layout bytes loads stack search where texts moves join mend bounds levels threads costs examples; do
+for host in layout bytes loads stack search where back texts moves join mend bounds levels threads costs examples; do
     "$cc" -std=c99 -O2 "${strict[@]}" -I"$out" "tests/interface/$host.c" "$library" -lpthread -o "$out/$host" || fail "$host does not compile"
     "${run[@]}" "$out/$host" || fail "$host"
     ok "$host"
@@ -111,9 +110,16 @@ standby() {
     with_status "$@" "$out/standby"
 }
 
+# The stepper by keys that are stored beside it, and with an image that is cut short.
+stepper() {
+    with_status "$@" "$out/stepper" <examples/stepper.keys
+    with_status "$@" "$out/stepper" "$out/short.fir" </dev/null
+}
+
 example controller
 example update
 example stored
 example standby
+example stepper
 
 echo "interface: $passed passed, 0 failed"

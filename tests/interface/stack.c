@@ -15,6 +15,8 @@
 static image tried;
 static fir_state state;
 static fir_state midway; /* of a run with live calls */
+static fir_trail trail; /* of `state` */
+static fir_trail midway_trail; /* of a run that began at `midway` */
 static image searched;
 static fir_state at_dispatch; /* of a run that no version of four fits */
 static int64_t buffer[FIR_ITEMS];
@@ -39,6 +41,24 @@ static void budget(void) { fir_budget(LENT(tried), &state, 100000, buffer, FIR_I
 static void run(void)
 {
     fir_run(LENT(tried), FIR_FACTORY, 0, 0, words, 2, 100000, buffer, FIR_ITEMS, &state);
+}
+
+static void trail_start(void) { fir_trail_start(&midway, &trail); }
+
+/* Behind it the run of `state` goes on from the middle, with the trail at its start. */
+static void trail_step(void)
+{
+    fir_trail_start(&midway, &trail);
+    memcpy(&state, &midway, sizeof state);
+    fir_trail_step(LENT(tried), &state, &trail);
+}
+
+static void trail_budget(void) { fir_trail_budget(LENT(tried), &state, &trail, 100000, buffer, FIR_ITEMS); }
+static void trail_back(void) { fir_trail_back(LENT(tried), &state, &trail); }
+
+static void trail_change(void)
+{
+    fir_trail_change(tried.bytes, tried.length, tried.bytes, tried.length, &midway, &midway_trail);
 }
 
 static void change(void) { fir_change(tried.bytes, tried.length, tried.bytes, tried.length, &midway); }
@@ -91,7 +111,8 @@ static void question_text(void) { fir_question_text(FIR_REFUSED_BOUNDS, text, si
 static void answer_text(void) { fir_answer_text(FIR_STUCK, text, sizeof text); }
 
 /* Images that are not loaded, refused by 3 and with a table that is too short, runs that are refused by 11, 19 where the entry is for the factory, 12 and 13, changes that are refused by 1 and by 15, moves that are by 3 and by 17,
- * images that are not joined, by the first, the second and 23, bounds that are refused by 3, and an image that no mend is looked for. */
+ * images that are not joined, by the first, the second and 23, bounds that are refused by 3, an image that no mend is looked for, and a
+ * step back, a budget and changes with a trail that are refused by 20, 13, 1 and 15. */
 static void refusals(void)
 {
     fir_load(stored.bytes, stored.length, stored.table, sizeof stored.table);
@@ -110,6 +131,11 @@ static void refusals(void)
     fir_join(half.bytes, half.length, half.bytes, half.length, out, sizeof out - 1);
     fir_bounds(stored.bytes, stored.length, row_numbers, row_steps);
     fir_mend(stored.bytes, stored.length);
+    fir_trail_start(&midway, &midway_trail);
+    fir_trail_back(LENT(tried), &midway, &midway_trail);
+    fir_trail_budget(LENT(tried), &midway, &midway_trail, 1000, buffer, FIR_ITEMS - 1);
+    fir_trail_change(tried.bytes, tried.length, tried.bytes, 0, &midway, &midway_trail);
+    fir_trail_change(tried.bytes, 0, tried.bytes, tried.length, &midway, &midway_trail);
 }
 
 static void *call(void *function)
@@ -145,6 +171,8 @@ int main(void)
                  {"fir_budget", budget}, {"fir_run", run}, {"fir_change", change}, {"fir_look", look},
                  {"fir_search", search}, {"fir_check_in", check_in}, {"fir_report_in", report_in}, {"fir_widen", widen},
                  {"fir_narrow", narrow}, {"fir_join", join}, {"fir_mend", mend}, {"fir_bounds", bounds}, {"fir_where", where},
+                 {"fir_trail_start", trail_start}, {"fir_trail_step", trail_step}, {"fir_trail_budget", trail_budget},
+                 {"fir_trail_back", trail_back}, {"fir_trail_change", trail_change},
                  {"fir_question_text", question_text}, {"fir_answer_text", answer_text}, {"refusals", refusals}};
     size_t least;
     size_t deepest[sizeof calls / sizeof *calls] = {0};

@@ -6,7 +6,7 @@
 #include "images.h"
 
 enum {
-    QUESTIONS = 20, /* 0, accepted, to 19; and 23 */
+    QUESTIONS = 21, /* 0, accepted, to 20; and 23 */
     CODES = FIR_REFUSED + 1,
     NUMBERS = 256,
     MARGIN = 8,

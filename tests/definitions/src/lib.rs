@@ -11,6 +11,7 @@
 //! | `machine/specs/Try.antt`, `States.antt` | [`state`], `cells` |
 //! | `machine/specs/Steps.antt`, `Values.antt`, `Calls.antt` | `steps`, `calls` |
 //! | `machine/specs/Runs.antt` | [`runs`] |
+//! | `machine/specs/Trails.antt` | [`trails`] |
 //! | `machine/specs/Begin.antt` | `begin` |
 //! | `machine/specs/Searches.antt`, `whereabouts/specs/Where.antt` | [`views`] |
 
@@ -23,10 +24,12 @@ pub mod runs;
 pub mod state;
 mod steps;
 pub mod store;
+pub mod trails;
 pub mod views;
 
 pub use instruction::Instruction;
 pub use program::{Block, Position, Program, Version};
 pub use runs::{Answer, Ran, Said};
 pub use state::{Activation, End, Frame, Halt, Opener, Promise, State, Status, Try, Value, Vector};
+pub use trails::{Behind, Trail};
 pub use views::{Search, Where};

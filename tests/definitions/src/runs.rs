@@ -47,7 +47,7 @@ pub fn long_enough(places: usize) -> bool {
 
 impl End {
     /// Does the step that makes this end count?
-    fn counts(self) -> bool {
+    pub fn counts(self) -> bool {
         matches!(self, End::Integer(_) | End::Vector(_) | End::Undef)
     }
 }
@@ -88,7 +88,7 @@ impl State {
     }
 
     /// Takes at most so many steps.
-    fn run(&mut self, program: Program, budget: u32) -> Ran {
+    pub fn run(&mut self, program: Program, budget: u32) -> Ran {
         if let Status::Ended(end) = self.status {
             let answer = Answer::Ended(end);
             return Ran { answer, steps: 0 };

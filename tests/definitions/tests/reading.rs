@@ -3,7 +3,7 @@
 
 use definitions::store::{Arrays, BYTES, CALLS, CELL_PLACES, DEPTH, NUMBERS, STACK, STATUS};
 use definitions::{
-    Answer, End, Instruction, Opener, Position, Program, Said, State, Status, Value,
+    Answer, Behind, End, Instruction, Opener, Position, Program, Said, State, Status, Trail, Value,
 };
 
 /// Where the records of a table begin, and the bytes of one.
@@ -265,4 +265,86 @@ fn every_mark_but_0_is_reflective() {
         let said = state.step(program);
         assert_eq!(said == Said::GoesOn, goes_on, "{kind}: {said:?}");
     }
+}
+
+/// A state of 0.0 that stands at an instruction of block 0.
+fn standing(next: u8) -> State {
+    state(|bytes, _| {
+        bytes[0] = 1;
+        bytes[STACK + 5] = next;
+        (bytes[CALLS], bytes[DEPTH]) = (1, 1);
+    })
+}
+
+/// A table whose block 0 of 0.0 has so many MOVEs of r0 to r1.
+fn moving(count: usize) -> Vec<u8> {
+    table_of(&vec![[17, 1, 0, 0, 0, 0, 0, 0]; count])
+}
+
+#[test]
+fn every_past_but_0_says_that_no_step_lies_behind() {
+    assert_eq!(Behind::read(7, 0), Behind::Steps(7));
+    assert_eq!(Behind::read(u32::MAX, 0), Behind::Steps(u32::MAX));
+    for past in [1, 2, 255] {
+        assert_eq!(Behind::read(7, past), Behind::Past, "{past}");
+    }
+}
+
+#[test]
+fn a_step_back_runs_the_start_whatever_the_state_is() {
+    let table = moving(9);
+    let program = Program {
+        image: &IMAGE,
+        table: &table,
+    };
+    let mut trail = Trail {
+        start: standing(2),
+        behind: Behind::Steps(4),
+        state: State::empty(),
+    };
+    assert_eq!(trail.back(program), Ok(()));
+    assert_eq!(trail.behind, Behind::Steps(3));
+    assert_eq!(trail.state.activations[0].next, 5);
+    assert_eq!(trail.start, standing(2));
+}
+
+#[test]
+fn a_start_that_is_stuck_stays_where_it_is() {
+    let table = moving(3);
+    let program = Program {
+        image: &IMAGE,
+        table: &table,
+    };
+    let mut trail = Trail {
+        start: standing(200),
+        behind: Behind::Steps(u32::MAX),
+        state: State::empty(),
+    };
+    assert_eq!(trail.back(program), Ok(()));
+    assert_eq!(trail.state, standing(200));
+    assert_eq!(trail.behind, Behind::Steps(u32::MAX - 1));
+}
+
+#[test]
+fn steps_go_past_what_a_count_holds_and_stay_there() {
+    let table = moving(9);
+    let program = Program {
+        image: &IMAGE,
+        table: &table,
+    };
+    let mut trail = Trail::started(standing(0));
+    trail.behind = Behind::Steps(u32::MAX - 1);
+    assert_eq!(trail.step(program), Said::GoesOn);
+    assert_eq!(trail.behind, Behind::Steps(u32::MAX));
+    let before = trail.clone();
+    assert_eq!(trail.budget(program, 0, &mut [0; 16]).steps, 0);
+    assert_eq!(trail, before);
+    assert_eq!(trail.step(program), Said::GoesOn);
+    assert_eq!(trail.behind, Behind::Past);
+    let before = trail.clone();
+    assert_eq!(trail.back(program), Err(20));
+    assert_eq!(trail, before);
+    trail.change();
+    assert_eq!(trail.behind, Behind::Steps(0));
+    assert_eq!(trail.back(program), Err(20));
 }

@@ -3,7 +3,7 @@
 
 use crate::paced::{steps_of, Paced};
 use crate::snapshot::{untouched, FILLING};
-use library::{At, Entry, Loaded, Program, Ran, Run, FIR_ROWS, ROW_NUMBERS};
+use library::{At, Entry, Loaded, Program, Ran, Run, Trail, FIR_ROWS, ROW_NUMBERS};
 use reference::bounds::Steps;
 use reference::longest::Row;
 use reference::{
@@ -164,12 +164,7 @@ pub fn begin(
 #[track_caller]
 pub fn step(run: &mut Paced) -> Said {
     let goes_on = run.goes_on();
-    let step = |run: &mut Run| match run.step() {
-        library::Said::GoesOn => Said::GoesOn,
-        library::Said::Ended(how) => Said::Ended(end(how)),
-        library::Said::Stuck => Said::Stuck,
-    };
-    run.stepped(step, |&said| steps_of(goes_on, said))
+    run.stepped(|run| said_of(run.step()), |&said| steps_of(goes_on, said))
 }
 
 /// Takes at most so many steps; the answer, and the steps taken.
@@ -194,6 +189,38 @@ pub fn change(run: &mut Paced, image: &[u8]) -> Result<(), Refusal> {
         (answer, Err(no)) => assert_eq!(answer, Err(no), "of an image that is refused"),
     }
     answer
+}
+
+/// Takes a single step of a run with its start kept; what it says.
+pub fn step_on(trail: &mut Trail) -> Said {
+    said_of(trail.step())
+}
+
+/// Takes at most so many steps of it; the answer, and the steps taken.
+pub fn budget_on(trail: &mut Trail, budget: Steps, buffer: &mut [Integer]) -> (Answer, Steps) {
+    let Ran { answer, steps } = trail.budget(budget, buffer);
+    (answer_of(answer), steps)
+}
+
+/// Goes on under another image, or under the old one where that is refused. What refuses
+/// it is what refuses it without a trail.
+#[track_caller]
+pub fn change_on(trail: &mut Trail, image: &[u8]) -> Result<(), Refusal> {
+    let asked = trail.may_change(image).map_err(refusal);
+    let answer = match load(image) {
+        Ok(program) => trail.change(program).map_err(refusal),
+        Err(_) => {
+            let refused = Program::of_any_bytes(image, []);
+            trail.change(refused).map_err(refusal)
+        }
+    };
+    assert_eq!(asked, answer, "a change with a trail, and without one");
+    answer
+}
+
+/// Takes a step back, or says what refuses it.
+pub fn back(trail: &mut Trail) -> Result<(), Refusal> {
+    trail.back().map_err(refusal)
 }
 
 /// How many versions the DISPATCH looks at that the run stands at, and of how many.
@@ -238,6 +265,15 @@ pub fn run(
         false => Paced::begun(run, (function, version), ran.steps),
     };
     (paced, answer_of(ran.answer), ran.steps)
+}
+
+/// What a step says.
+fn said_of(said: library::Said) -> Said {
+    match said {
+        library::Said::GoesOn => Said::GoesOn,
+        library::Said::Ended(how) => Said::Ended(end(how)),
+        library::Said::Stuck => Said::Stuck,
+    }
 }
 
 /// The answer to a budget.

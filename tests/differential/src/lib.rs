@@ -7,7 +7,9 @@ pub mod comparison;
 pub mod difference;
 pub mod edges;
 pub mod engine;
+pub mod lent;
 pub mod paced;
+pub mod parallel;
 pub mod snapshot;
 #[cfg(feature = "stand_in")]
 mod stand_in;

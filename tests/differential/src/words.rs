@@ -2,7 +2,7 @@
 
 /// What a refusal by each question says, by its number; what 0 says of an image that
 /// none refuses.
-const QUESTIONS: [&str; 20] = [
+const QUESTIONS: [&str; 21] = [
     "accepted",
     "the image is empty or has more than 32768 bytes",
     "a record has no full head, a length below 4, or an end behind the image",
@@ -23,6 +23,7 @@ const QUESTIONS: [&str; 20] = [
     "the moved image has more than 32768 bytes or does not fit the buffer",
     "a CALL goes to a version of a higher level",
     "the entry is above the level of the run",
+    "no step lies behind",
 ];
 
 /// What a refusal by 23 says, which follows on no number before it.

@@ -1,5 +1,5 @@
-//! Deterministic images, argument words, event lists and new images for runs that go
-//! on: a seed decides all of it.
+//! Deterministic images, argument words, event lists, with steps back too, and new images
+//! for runs that go on: a seed decides all of it.
 //!
 //! Accepted images are accepted by construction: types, marks and flow are
 //! kept while a version grows. Damaged images are accepted ones with one rule
@@ -25,6 +25,7 @@ mod run;
 mod special;
 mod tally;
 mod theme;
+mod turns;
 mod update;
 mod world;
 
@@ -39,6 +40,7 @@ pub use run::Event;
 pub use special::Special;
 pub use tally::Tally;
 pub use theme::Theme;
+pub use turns::Turn;
 pub use update::{Live, Update};
 
 use draft::Draft;
@@ -233,6 +235,13 @@ pub fn update(aim: Update, seed: u64, image: &[u8], live: &Live) -> Vec<u8> {
 /// lists of five changes of the image.
 pub fn events(seed: u64) -> Vec<Event> {
     run::event_list(&mut Random::new(seed))
+}
+
+/// A list of steps, budgets, changes of the image and steps back, for a run whose start is
+/// kept: back where no step lies behind, after changes that are taken and refused, after the
+/// end, several in a row, and forward again.
+pub fn turns(seed: u64) -> Vec<Turn> {
+    turns::list(&mut Random::new(seed))
 }
 
 /// A list of single steps and budgets alone, some lent too short a buffer.

@@ -150,7 +150,7 @@ fn changing(random: &mut Random) -> Vec<Event> {
 }
 
 /// A change of any aim.
-fn change(random: &mut Random) -> Event {
+pub fn change(random: &mut Random) -> Event {
     let (aim, seed) = (Update::any(random), random.number());
     Event::Change { aim, seed }
 }
@@ -189,7 +189,7 @@ fn event(random: &mut Random) -> Event {
 }
 
 /// Mostly enough places, sometimes too few.
-fn places(random: &mut Random) -> usize {
+pub fn places(random: &mut Random) -> usize {
     let few = random.below(BUFFER);
     random.weighted(&[
         (60, BUFFER),

@@ -19,6 +19,7 @@
 //! | Smallest mend | [`mends`] |
 //! | Levels of staff | [`types`], [`questions`], [`begin`], [`search`], [`monitor`] |
 //! | How long at most | [`longest`] |
+//! | Step back | [`trail`] |
 
 pub mod begin;
 pub mod bounds;
@@ -42,6 +43,7 @@ pub mod report;
 pub mod search;
 pub mod state;
 pub mod steps;
+pub mod trail;
 pub mod types;
 pub mod watched;
 
@@ -62,4 +64,5 @@ pub use report::{report, report_in, report_of};
 pub use search::Search;
 pub use state::{End, State, Status, Value};
 pub use steps::{Answer, Said};
+pub use trail::Trail;
 pub use types::{Kind, Level, Mark, Ownership, Type};

@@ -14,8 +14,8 @@ use crate::steps::{Answer, Said};
 use crate::types::Level;
 
 /// A run; demand 3, and that no live call is above the run's level, is asserted at
-/// its start, at each step and at each change of its image, under the image then in
-/// force.
+/// its start, at each step, forward or back, and at each change of its image, under the
+/// image then in force.
 pub struct Watched {
     /// The level that the run stated.
     level: Level,
@@ -163,6 +163,14 @@ impl Watched {
         let checked = check(&self.program, &self.state, self.level);
         assert_eq!(checked, Ok(()), "{}, at a change", self.origin);
         Ok(())
+    }
+
+    /// Goes back to a state that the run was in under the image in force.
+    #[track_caller]
+    pub fn return_to(&mut self, state: State) {
+        let checked = check(&self.program, &state, self.level);
+        assert_eq!(checked, Ok(()), "{}, at a step back", self.origin);
+        self.state = state;
     }
 
     /// Asserts that an end other than DONE leaves all but the status.

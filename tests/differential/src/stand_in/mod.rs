@@ -5,6 +5,7 @@
 
 mod put;
 mod runs;
+mod trails;
 
 use crate::words::{answer_words, question_words};
 use library::State as Snapshot;

@@ -8,6 +8,7 @@ use definitions::store::{
 };
 use definitions::{Activation, End, Opener, Promise, State, Status, Value};
 use library::State as Snapshot;
+use library::FIR_IMAGE_BYTES;
 use reference::questions::records;
 use reference::Record;
 
@@ -140,9 +141,9 @@ const RECORDS: usize = 2304;
 const RECORD: usize = 8;
 
 /// The bytes of a table for an image of so many: no block and no instruction has fewer
-/// than 6.
+/// than 6. No image is longer than the longest.
 pub fn table_size(image_length: usize) -> usize {
-    RECORDS + image_length / 6 * RECORD
+    RECORDS + image_length.min(FIR_IMAGE_BYTES) / 6 * RECORD
 }
 
 /// Fills the table of an accepted image, which is long enough.

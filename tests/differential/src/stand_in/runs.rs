@@ -21,7 +21,7 @@ const VERSIONS: usize = 256;
 ///
 /// # Safety
 /// They are those of slices that outlive the call.
-unsafe fn program_of<'a>(
+pub unsafe fn program_of<'a>(
     image: *const u8,
     image_length: usize,
     table: *const u8,
@@ -85,8 +85,22 @@ fn refused(question: u8) -> FirAnswer {
     }
 }
 
+/// What a single step says.
+pub fn said(said: Said) -> FirSaid {
+    let (code, length, value) = match said {
+        Said::GoesOn => (FIR_STEPS, 0, 0),
+        Said::Stuck => (FIR_STUCK, 0, 0),
+        Said::Ended(end) => numbers(end),
+    };
+    FirSaid {
+        value,
+        code,
+        length,
+    }
+}
+
 /// The answer to a budget.
-fn ran(ran: Ran) -> FirAnswer {
+pub fn ran(ran: Ran) -> FirAnswer {
     let numbers = match ran.answer {
         Answer::Refused(question) => return refused(question),
         Answer::Steps => (FIR_STEPS, 0, 0),
@@ -135,17 +149,9 @@ unsafe extern "C" fn fir_step(
 ) -> FirSaid {
     let program = program_of(image, image_length, table, table_length);
     let mut after = meaning(&*state);
-    let (code, length, value) = match after.step(program) {
-        Said::GoesOn => (FIR_STEPS, 0, 0),
-        Said::Stuck => (FIR_STUCK, 0, 0),
-        Said::Ended(end) => numbers(end),
-    };
+    let word = after.step(program);
     put(&mut *state, &after);
-    FirSaid {
-        value,
-        code,
-        length,
-    }
+    said(word)
 }
 
 #[no_mangle]
@@ -213,7 +219,7 @@ unsafe extern "C" fn fir_run(
 }
 
 #[no_mangle]
-unsafe extern "C" fn fir_change(
+pub unsafe extern "C" fn fir_change(
     old_image: *const u8,
     old_length: usize,
     new_image: *const u8,

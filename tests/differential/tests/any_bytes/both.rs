@@ -39,7 +39,7 @@ fn end(end: End) -> library::End {
 }
 
 /// What a step says, in the words of the library.
-fn said(said: Said) -> library::Said {
+pub fn said(said: Said) -> library::Said {
     match said {
         Said::GoesOn => library::Said::GoesOn,
         Said::Ended(how) => library::Said::Ended(end(how)),
@@ -48,7 +48,7 @@ fn said(said: Said) -> library::Said {
 }
 
 /// What a budget answers, in the words of the library.
-fn answer(answer: Answer) -> library::Answer {
+pub fn answer(answer: Answer) -> library::Answer {
     match answer {
         Answer::Steps => library::Answer::Steps,
         Answer::Ended(how) => library::Answer::Ended(end(how)),

@@ -1,11 +1,12 @@
-//! States and tables of any bytes: noise, bytes that lie near to those of runs, and real
-//! ones with single bytes changed. Every answer, every place of the buffer and the whole
-//! state after each step and budget are those of the definitions, and what changes nothing
-//! changes no byte.
+//! States, tables and trails of any bytes: noise, bytes that lie near to those of runs, and
+//! real ones with single bytes changed. Every answer, every place of the buffer and the whole
+//! state after each step, forward or back, and budget are those of the definitions, and what
+//! changes nothing changes no byte.
 
 mod both;
 mod states;
 mod tables;
+mod trails;
 
 use both::Both;
 use generator::{accepted, entry, words, Random, Tally};
@@ -174,5 +175,18 @@ fn tables_of_any_bytes_run_by_the_definitions() {
     }
     for thing in ["block end: goes on", "block end: stuck", "nowhere: stuck"] {
         assert_count(&met, thing, 2_000);
+    }
+}
+
+#[test]
+fn trails_of_any_bytes_go_back_by_the_definitions() {
+    let met = in_parallel(trails::run);
+    println!("{met}");
+    assert_count(&met, "cases", FEWEST);
+    for (sort, fewest) in [("noise", 10_000), ("near", 30_000), ("changed", 60_000)] {
+        assert_count(&met, &format!("start: {sort}"), fewest);
+    }
+    for (thing, fewest) in trails::FEWEST {
+        assert_count(&met, thing, fewest);
     }
 }

@@ -126,20 +126,24 @@ fn changed(given: &Given, random: &mut Random) -> Option<Arrays> {
     Some(all)
 }
 
-/// Runs a state of any bytes on both sides.
-pub fn run(given: &Given, random: &mut Random, met: &mut Tally<String>) {
+/// A state of any bytes, and what it is; none where a run of the image does not begin.
+pub fn any(given: &Given, random: &mut Random) -> Option<(&'static str, State)> {
     let sort = random.weighted(&[(12, "noise"), (30, "near"), (62, "changed")]);
     let arrays = match sort {
         "noise" => noise(random),
         "near" => near(given, random),
-        _ => match changed(given, random) {
-            Some(arrays) => arrays,
-            None => return,
-        },
+        _ => changed(given, random)?,
+    };
+    Some((sort, state_of(&arrays)))
+}
+
+/// Runs a state of any bytes on both sides.
+pub fn run(given: &Given, random: &mut Random, met: &mut Tally<String>) {
+    let Some((sort, state)) = any(given, random) else {
+        return;
     };
     met.meet(format!("state: {sort}"));
     let origin = given.case(sort);
-    let state = state_of(&arrays);
     let mut both = Both::new(&given.program, state, origin);
     if random.one_in(4) {
         let live = [(given.entry.0 as u8, given.entry.1 as u8)].into();

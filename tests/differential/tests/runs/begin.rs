@@ -1,7 +1,7 @@
 //! Runs that begin on both sides, or are refused by both.
 
-use crate::pair::Lent;
 use differential::engine;
+use differential::lent::Lent;
 use differential::paced::Paced;
 use differential::snapshot::untouched;
 use generator::{Random, Tally};

@@ -15,6 +15,7 @@ use begin::{
 };
 use bounds::{assert_bounds, meet_bound};
 use changes::assert_changes;
+use differential::parallel::in_parallel;
 use generator::{accepted, damaged, entry, level, words, Random, Tally};
 use pair::Pair;
 use positions::assert_positions;
@@ -23,7 +24,6 @@ use reference::questions::QUESTIONS;
 use reference::watched::{Watched, ENDINGS};
 use reference::{Integer, Level, Program, Refusal};
 use searches::assert_searches;
-use std::thread;
 
 /// How many programs are generated; the fewest that begin a run, and the
 /// fewest steps that they take together.
@@ -44,9 +44,6 @@ const FEWEST_EACH_LEVEL: usize = 500;
 
 /// How many damaged images no run may begin of.
 const DAMAGED: u64 = 6_000;
-
-/// The bytes of a worker's stack: states are passed by value.
-const STACK: usize = 16 << 20;
 
 /// Runs a program under its list of events; how many steps were tried.
 fn run(seed: u64, met: &mut Tally<String>) -> usize {
@@ -115,39 +112,6 @@ fn meet_skips(run: &Watched, met: &mut Tally<String>) {
             met.meet(name.to_string());
         }
     }
-}
-
-/// What all workers met, and the steps that they tried.
-fn in_parallel(
-    seeds: u64,
-    work: impl Fn(u64, &mut Tally<String>) -> usize + Sync,
-) -> (Tally<String>, usize) {
-    let workers = thread::available_parallelism().map_or(1, usize::from) as u64;
-    let work = &work;
-    let share = |worker: u64| {
-        move || {
-            let (mut met, mut steps) = (Tally::default(), 0);
-            for seed in (worker..seeds).step_by(workers as usize) {
-                steps += work(seed, &mut met);
-            }
-            (met, steps)
-        }
-    };
-    let (mut met, mut steps) = (Tally::default(), 0);
-    thread::scope(|scope| {
-        let start = |worker| {
-            let builder = thread::Builder::new().stack_size(STACK);
-            let started = builder.spawn_scoped(scope, share(worker));
-            started.expect("a worker starts")
-        };
-        let shares: Vec<_> = (0..workers).map(start).collect();
-        for worker in shares {
-            let (also, more) = worker.join().expect("a worker found no difference");
-            met.add(also);
-            steps += more;
-        }
-    });
-    (met, steps)
 }
 
 /// Asserts that each thing was met.

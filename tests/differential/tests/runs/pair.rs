@@ -5,43 +5,17 @@ use crate::events::{event_list, events_after_the_end, size};
 use crate::{positions, searches};
 use differential::difference::difference;
 use differential::engine;
+use differential::lent::Lent;
 use differential::paced::Paced;
 use differential::snapshot::state_of;
 use generator::{update, Event, Tally, Update};
 use library::Run;
 use reference::bounds::Steps;
 use reference::watched::Watched;
-use reference::{Answer, Integer, Said, Status};
+use reference::{Answer, Said, Status};
 
 /// The most events that a run gets after its end.
 const MOST_AFTER_END: usize = 8;
-
-/// Places beside a lent buffer, before it and after it.
-const MARGIN: usize = 8;
-
-/// A buffer to lend, between margins, every place with a number of its own.
-pub struct Lent {
-    places: usize,
-    memory: Vec<Integer>,
-}
-
-impl Lent {
-    /// A buffer of so many places.
-    pub fn new(places: usize, event: usize) -> Lent {
-        let number = |place: usize| {
-            0x5A00_0000_5A00_0000 ^ (place * 0x0001_0101_0001_0101 + event) as Integer
-        };
-        Lent {
-            places,
-            memory: (0..places + 2 * MARGIN).map(number).collect(),
-        }
-    }
-
-    /// The places that are lent.
-    pub fn places(&mut self) -> &mut [Integer] {
-        &mut self.memory[MARGIN..MARGIN + self.places]
-    }
-}
 
 /// A run on both sides.
 pub struct Pair {
@@ -204,7 +178,7 @@ impl Pair {
                 compare_standing((reference, &*before), None, origin, met);
             });
         self.assert_same(right, given, origin);
-        self.assert_same(expected.memory, found.memory, origin);
+        self.assert_same(expected, found, origin);
         right.0
     }
 

@@ -1,8 +1,9 @@
-//! Writes cases for `tests/interface/replay.c` to standard output: `recorded N` those of the seeds 0 to N − 1. Each is an image, a
-//! level, an entry, argument words, and a list of steps, budgets and changes of the image. Numbers have 8 bytes, the lowest first;
-//! bytes, words and lists stand behind how many they are.
+//! Writes cases for `tests/interface/replay.c` to standard output: `recorded N` those of the seeds 0 to
+//! N − 1. Each is an image, a level, an entry, argument words, and a list of steps, budgets, changes of
+//! the image and, in every other one, steps back. Numbers have 8 bytes, the lowest first; bytes, words
+//! and lists stand behind how many they are.
 
-use generator::{accepted, any, entry, events, level, update, words, Event, Live};
+use generator::{accepted, any, entry, events, level, turns, update, words, Event, Live, Turn};
 use reference::Program;
 use std::io::{self, BufWriter, Write};
 use std::{env, process};
@@ -10,10 +11,14 @@ use std::{env, process};
 /// One case in so many has an image that may be refused.
 const ANY: u64 = 4;
 
+/// One case in so many has steps back.
+const WITH_BACK: u64 = 2;
+
 /// How an event is written.
 const STEP: u64 = 0;
 const BUDGET: u64 = 1;
 const CHANGE: u64 = 2;
+const BACK: u64 = 3;
 
 /// The bytes of a case.
 #[derive(Default)]
@@ -29,15 +34,16 @@ impl Case {
         self.0.extend(bytes);
     }
 
-    fn event(&mut self, event: Event, image: &[u8], live: &Live) {
-        match event {
-            Event::Step => self.number(STEP),
-            Event::Budget { budget, places } => {
+    fn turn(&mut self, turn: Turn, image: &[u8], live: &Live) {
+        match turn {
+            Turn::Back => self.number(BACK),
+            Turn::Event(Event::Step) => self.number(STEP),
+            Turn::Event(Event::Budget { budget, places }) => {
                 self.number(BUDGET);
                 self.number(u64::from(budget));
                 self.number(places as u64);
             }
-            Event::Change { aim, seed } => {
+            Turn::Event(Event::Change { aim, seed }) => {
                 self.number(CHANGE);
                 self.bytes(&update(aim, seed, image, live));
             }
@@ -66,17 +72,23 @@ fn case(seed: u64) -> Vec<u8> {
     for word in words {
         case.number(word as u64);
     }
-    let (events, live) = (events(seed), Live::from([(entry.0 as u8, entry.1 as u8)]));
-    let changed = program.is_some();
-    let events: Vec<Event> = events
-        .into_iter()
-        .filter(|event| changed || !matches!(event, Event::Change { .. }))
-        .collect();
-    case.number(events.len() as u64);
-    for event in events {
-        case.event(event, &image, &live);
+    let live = Live::from([(entry.0 as u8, entry.1 as u8)]);
+    let turns = turns_of(seed, program.is_some());
+    case.number(turns.len() as u64);
+    for turn in turns {
+        case.turn(turn, &image, &live);
     }
     case.0
+}
+
+/// What is done with the run of a seed, without changes where its image is refused.
+fn turns_of(seed: u64, changes: bool) -> Vec<Turn> {
+    let turns = match seed % WITH_BACK {
+        0 => turns(seed),
+        _ => events(seed).into_iter().map(Turn::Event).collect(),
+    };
+    let kept = |turn: &Turn| changes || !matches!(turn, Turn::Event(Event::Change { .. }));
+    turns.into_iter().filter(kept).collect()
 }
 
 fn main() -> io::Result<()> {

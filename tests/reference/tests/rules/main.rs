@@ -28,6 +28,7 @@ mod questions11to13;
 mod questions1to3;
 mod report;
 mod sixty_four;
+mod steps_back;
 mod steps_budget;
 mod steps_calls;
 mod steps_change;
