@@ -69,6 +69,12 @@ void fir_budget_at(fir_answer *to, const slice *image, const slice *table, fir_s
 void fir_run_at(fir_answer *to, const slice *image, const slice *table, uint64_t level, uint64_t function, uint64_t version,
                 const slice *words, uint32_t budget, const slice *buffer, fir_state *state);
 void fir_change_at(fir_entry *to, const slice *old_image, const slice *new_image, const fir_state *state);
+void fir_trail_start_at(const fir_state *state, fir_trail *trail);
+void fir_trail_step_at(fir_said *to, const slice *image, const slice *table, fir_state *state, fir_trail *trail);
+void fir_trail_budget_at(fir_answer *to, const slice *image, const slice *table, fir_state *state, fir_trail *trail, uint32_t budget,
+                         const slice *buffer);
+void fir_trail_change_at(fir_entry *to, const slice *old_image, const slice *new_image, const fir_state *state, fir_trail *trail);
+void fir_trail_back_at(fir_entry *to, const slice *image, const slice *table, fir_state *state, fir_trail *trail);
 void fir_look_at(fir_value *to, const fir_state *state, uint64_t call, uint64_t place);
 void fir_search_at(fir_searched *to, const slice *image, const slice *table, const fir_state *state);
 void fir_where_at(wide_position *to, const slice *image, const slice *table, const fir_state *state);
@@ -275,6 +281,52 @@ fir_entry fir_change(const uint8_t *old_image, size_t old_length, const uint8_t 
     const slice after = lent(new_image, new_length);
     fir_entry to;
     fir_change_at(&to, &before, &after, state);
+    return to;
+}
+
+void fir_trail_start(const fir_state *state, fir_trail *trail)
+{
+    fir_trail_start_at(state, trail);
+}
+
+fir_said fir_trail_step(const uint8_t *image, size_t image_length, const uint8_t *table, size_t table_length, fir_state *state,
+                        fir_trail *trail)
+{
+    const slice bytes = lent(image, image_length);
+    const slice places = lent(table, table_length);
+    fir_said to;
+    fir_trail_step_at(&to, &bytes, &places, state, trail);
+    return to;
+}
+
+fir_answer fir_trail_budget(const uint8_t *image, size_t image_length, const uint8_t *table, size_t table_length, fir_state *state,
+                            fir_trail *trail, uint32_t budget, int64_t *buffer, size_t buffer_length)
+{
+    const slice bytes = lent(image, image_length);
+    const slice places = lent(table, table_length);
+    const slice there = lent(buffer, buffer_length);
+    fir_answer to;
+    fir_trail_budget_at(&to, &bytes, &places, state, trail, budget, &there);
+    return to;
+}
+
+fir_entry fir_trail_change(const uint8_t *old_image, size_t old_length, const uint8_t *new_image, size_t new_length,
+                           const fir_state *state, fir_trail *trail)
+{
+    const slice before = lent(old_image, old_length);
+    const slice after = lent(new_image, new_length);
+    fir_entry to;
+    fir_trail_change_at(&to, &before, &after, state, trail);
+    return to;
+}
+
+fir_entry fir_trail_back(const uint8_t *image, size_t image_length, const uint8_t *table, size_t table_length, fir_state *state,
+                         fir_trail *trail)
+{
+    const slice bytes = lent(image, image_length);
+    const slice places = lent(table, table_length);
+    fir_entry to;
+    fir_trail_back_at(&to, &bytes, &places, state, trail);
     return to;
 }
 

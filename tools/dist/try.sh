@@ -23,12 +23,14 @@ prints() {
     [ "$printed" = "$wanted" ] || fail "$* prints $printed"
 }
 
-# Runs a host that was built in this way, and compares what it prints with the text of its example.
+# Runs a host that was built in this way, with the keys of its example if it has some, and compares what it prints with the
+# example's text.
 compare() {
-    local host=$1 example=$2 way=$3 wanted
+    local host=$1 example=$2 way=$3 wanted keys=/dev/null
     wanted=$(sed '/^status/q' "fir/examples/$example.txt")
+    [ ! -f "fir/examples/$example.keys" ] || keys=fir/examples/$example.keys
     # shellcheck disable=SC2016
-    prints "$wanted" sh -c '"$0"; echo "status $?"' "$host"
+    prints "$wanted" sh -c '"$0"; echo "status $?"' "$host" <"$keys"
     echo "dist: $example, built by $way"
 }
 

@@ -67,7 +67,14 @@ impl Failure {
 
     /// Says on standard error what is wrong; nothing where nobody reads.
     pub fn tell(&self, streams: &mut Streams) {
-        let line = match self {
+        if let Some(line) = self.line() {
+            streams.complain(&line);
+        }
+    }
+
+    /// What is wrong, in a line; none where nobody reads.
+    pub fn line(&self) -> Option<String> {
+        Some(match self {
             Failure::Usage(None, reason) => format!("fir: {reason}; see `fir --help`"),
             Failure::Usage(Some(command), reason) => {
                 format!("fir {command}: {reason}; see `fir {command} --help`")
@@ -81,9 +88,8 @@ impl Failure {
                 } = wrong;
                 format!("{name}:{position}: {reason}")
             }
-            Failure::Closed => return,
-        };
-        streams.complain(&line);
+            Failure::Closed => return None,
+        })
     }
 
     /// What is wrong, to stand in an object.

@@ -161,8 +161,10 @@ text where its name ends in .fir; `-` is standard input.
 /// `fir debug`
 pub const DEBUG: &str = "\
 Goes through a run of version V of function F by commands, which are read from
-standard input, one on each line; an empty line repeats the last. Each step is one
-of the proved library. `back` begins the run anew and takes one step less.
+standard input, one on each line; an empty line repeats the last. Each step, forward
+and back, is one of the proved library, which keeps the start of the run: a step back
+takes one step less from there. 20 refuses it at the start, and right behind a change
+of the image, past which no run goes back.
 
   step [N]       s  takes N steps, 1 if none is given
   next           n  takes steps until the calls and forces that this one opens end
@@ -173,8 +175,10 @@ of the proved library. `back` begins the run anew and takes one step less.
   watch rN|xN    w  takes steps until a register or a name of the call that is worked
                     on holds something else, or that call has ended
   run            r  takes steps until the run ends
-  back [N]       b  goes back by N steps
+  back [N]       b  goes back by N steps, 1 if none is given, at most to the start; also
+                    from an end
   at N              goes to the state after N steps, from the start
+  change FILE    c  goes on under the image of another file, unless it is refused
   stack          k  the calls and forces, with their registers and names; also by
                     `where` and `registers`
   vectors        v  the vectors, and who holds them

@@ -196,12 +196,87 @@ fn run_ends_the_run_and_back_goes_back_by_steps() {
             "doubles.fir:4:3: after 12 steps, in 0.0, block 0: end -> r0",
             "doubles.fir:22:5: after 5 steps, in 2.0, block 0: r1 = force r0",
             "doubles.fir:5:5: after 0 steps, in 0.0, block 0: r1 = lit 0",
-            "no step lies behind",
+            "refused by 20 at 0: the run stands at its start, and no step lies behind it",
             "doubles.fir:7:5: after 11 steps, in 0.0, block 0: set r0[r1] = r2",
             "DONE [10, 6] after 13 steps",
             "DONE [10, 6] after 13 steps",
         ]
     );
+}
+
+#[test]
+fn back_goes_back_from_an_end_and_no_further_than_the_start() {
+    let none = "refused by 20 at 0: the run stands at its start, and no step lies behind it";
+    assert_eq!(printed(&["back", "b 3"]), [none, none]);
+    let lines = printed(&["step", "back", "back", "step"]);
+    assert_eq!(
+        lines[2],
+        "doubles.fir:5:5: after 0 steps, in 0.0, block 0: r1 = lit 0"
+    );
+    assert_eq!(lines[3], none);
+    assert_eq!(lines[4], lines[0], "the same step again");
+    let deep = "version 0.0(r0: int) -> int\nlevel portal\nblock 0 quiet -> r0\nr0 = call 0.0(r0)";
+    let file = file("debug", "deep.fir", deep.as_bytes());
+    let text = fir(
+        &["debug", &file, "0.0", "1"],
+        b"run\nback\nstep 2\nback 31\nback\n",
+    )
+    .text();
+    let stops: Vec<&str> = text
+        .lines()
+        .filter(|line| line.starts_with("DEEP"))
+        .collect();
+    assert_eq!(stops, ["DEEP after 31 steps", "DEEP after 31 steps"]);
+    for after in ["after 30 steps", "after 0 steps"] {
+        assert!(
+            text.contains(&format!(": {after}, in 0.0, block 0: ")),
+            "{text}"
+        );
+    }
+    assert!(text.ends_with(&format!("{none}\n")), "{text}");
+}
+
+/// `DOUBLES` with another 2.0, which adds 1 to what the promise gives.
+fn doubles_and_one() -> String {
+    let two = "version 2.0(r0: quiet promise) -> int\n  registers r1: int, r2: int\n";
+    let (before, _) = DOUBLES.split_once("version 2.0").expect("a version 2.0");
+    format!(
+        "{before}{two}  level portal\n  block 0 quiet -> r1\n    r1 = force r0\n    \
+         r2 = lit 1\n    r1 = add r1, r2\n"
+    )
+}
+
+#[test]
+fn a_change_is_taken_or_refused_and_a_run_goes_back_no_further() {
+    let later = file("debug", "later.fir", doubles_and_one().as_bytes());
+    let change = format!("change {later}");
+    let none = |steps| {
+        let words = "the run goes back no further than the change of its image";
+        format!("refused by 20 at 0: {words} after {steps}")
+    };
+    let lines = printed(&[
+        "s 3", &change, "back", "s", "b", "back 2", "at 2", "at 4", "c -",
+    ]);
+    let changed = "after 3 steps: goes on under later.fir";
+    let stands = "later.fir:13:5: after 3 steps, in 1.0, block 0: r2 = prom 1";
+    assert_eq!(lines[4..7], [changed, stands, &none("3 steps")]);
+    assert_eq!(lines[9..12], [stands, &none("3 steps"), &none("3 steps")]);
+    assert!(
+        lines[12].contains("later.fir:14:5: after 4 steps, in 1.0,"),
+        "{lines:?}"
+    );
+    assert_eq!(lines[13], "standard input holds the commands");
+    let lines = printed(&["s 3", &change, "run"]);
+    assert_eq!(lines[6], "DONE [12, 6] after 15 steps");
+    let lines = printed(&["to 2.0", &change, "back", "change"]);
+    let refused = "refused by 15 at 124 after 5 steps: 2.0 has a live call and differs:";
+    assert!(lines[1].contains(refused), "{lines:?}");
+    assert!(lines[2].contains(": after 5 steps, in 2.0, "), "{lines:?}");
+    assert!(lines[3].contains(": after 4 steps, in 1.0, "), "{lines:?}");
+    assert_eq!(lines[4], "`change` needs a file with an image");
+    let lines = printed(&["change no-such-file.fir", "s"]);
+    assert!(lines[0].starts_with("fir: no-such-file.fir: "), "{lines:?}");
+    assert!(lines[3].contains(": after 1 step, "), "{lines:?}");
 }
 
 #[test]
@@ -280,7 +355,8 @@ fn the_stack_has_the_names_that_people_type() {
 fn what_is_no_command_is_named_and_changes_nothing() {
     assert_eq!(
         printed(&[
-            "jump", "to", "to x", "at", "step x", "next 3", "jump 3", "s 1 2", "quit", "step"
+            "jump", "to", "to x", "at", "step x", "next 3", "jump 3", "s 1 2", "b 0", "quit",
+            "step"
         ]),
         [
             "`jump` is no command; `help` lists them",
@@ -291,6 +367,7 @@ fn what_is_no_command_is_named_and_changes_nothing() {
             "`3` is one too many",
             "`jump` is no command; `help` lists them",
             "`2` is one too many",
+            "`back` goes back by at least 1 step",
         ]
     );
 }
@@ -299,8 +376,8 @@ fn what_is_no_command_is_named_and_changes_nothing() {
 fn help_lists_every_command() {
     let lines = printed(&["help"]);
     for command in [
-        "step", "next", "out", "to LINE", "to F.V", "run", "back", "at N", "stack", "vectors",
-        "promises", "list", "help", "quit", "watch",
+        "step", "next", "out", "to LINE", "to F.V", "run", "back", "at N", "change", "stack",
+        "vectors", "promises", "list", "help", "quit", "watch",
     ] {
         let listed = lines
             .iter()
@@ -391,6 +468,8 @@ fn going_back_gives_the_state_of_a_run_from_the_start() {
         let back = shown("run\nback 9\nback 4");
         let steps = shown("run\nback 13");
         assert_eq!(back, steps, "seed {seed}");
+        let one_by_one = shown(&format!("run{}", "\nback".repeat(13)));
+        assert_eq!(one_by_one, steps, "seed {seed}");
         let ahead = shown("at 7");
         let there = shown("run\nat 7");
         assert_eq!(ahead, there, "seed {seed}");

@@ -215,8 +215,8 @@ const SESSIONS: u64 = 100;
 /// A command of the debugger; most make sense.
 fn command(random: &mut Random) -> String {
     let names = [
-        "step", "s", "next", "n", "out", "o", "to", "run", "r", "back", "b", "at", "stack", "k",
-        "vectors", "v", "promises", "p", "list", "l", "help", "", "é",
+        "step", "s", "next", "n", "out", "o", "to", "run", "r", "back", "b", "at", "change",
+        "stack", "k", "vectors", "v", "promises", "p", "list", "l", "help", "", "é",
     ];
     let given = match random.below(5) {
         0 => random.below(200).to_string(),

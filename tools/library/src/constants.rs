@@ -24,6 +24,11 @@ pub const FIR_PLACES: usize = 64;
 /// The places of a call in a state: registers, names, and some that are for neither.
 pub const FIR_STRIDE: usize = 32;
 
+/// The integers of a state, as a trail keeps them.
+pub const FIR_TRAIL_NUMBERS: usize = 2_129;
+/// The bytes of a state behind its integers, as a trail keeps them.
+pub const FIR_TRAIL_BYTES: usize = 2_632;
+
 /// No question says no.
 pub const FIR_ACCEPTED: u8 = 0;
 /// The image has 1 to 32,768 bytes.
@@ -64,6 +69,8 @@ pub const FIR_REFUSED_CHANGE: u8 = 15;
 pub const FIR_REFUSED_LITERAL: u8 = 16;
 /// The moved image has at most 32,768 bytes and fits the buffer.
 pub const FIR_REFUSED_ROOM: u8 = 17;
+/// A step lies behind the state.
+pub const FIR_REFUSED_BACK: u8 = 20;
 /// The joined image has at most 32,768 bytes, 32 functions and 64 versions and fits the
 /// buffer.
 pub const FIR_REFUSED_JOIN: u8 = 23;

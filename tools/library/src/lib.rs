@@ -4,9 +4,10 @@
 //! What `fir.h` asks of its caller holds by construction: slices and `&mut` rule
 //! out null, misaligned and overlapping memory, that a state has the layout that
 //! the library was built with is asserted once, a [`Program`] holds an image with its
-//! table, and a [`Run`] the program in force, so that no step goes by another.
-//! [`Run::resume_with_its_own_program`] and [`Program::of_any_bytes`] alone leave
-//! something to their caller.
+//! table, a [`Run`] the program in force, so that no step goes by another, and a [`Trail`]
+//! a run with its start, so that no step is left out of its count.
+//! [`Run::resume_with_its_own_program`], [`Trail::resume_with_its_own_run`] and
+//! [`Program::of_any_bytes`] alone leave something to their caller.
 
 mod answers;
 mod bounding;
@@ -20,6 +21,7 @@ mod program;
 mod raw;
 mod run;
 mod state;
+mod trail;
 mod words;
 
 pub use answers::{
@@ -40,4 +42,5 @@ pub use raw::{
 };
 pub use run::{Entry, Run, FACTORY, PORTAL, STAFF};
 pub use state::{version, State, Versions, ACTIVATION, CELLS, OWNER, PROMISE, SPARE};
+pub use trail::{Kept, Trail};
 pub use words::{answer_text, question_text};

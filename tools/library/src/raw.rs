@@ -1,6 +1,7 @@
 //! The functions of `fir.h` and the structs that they give, as C has them.
 
 use crate::state::State;
+use crate::trail::Kept;
 
 /// A verdict: `FIR_ACCEPTED` and the number of versions, of a move the length of the
 /// moved image, of bounds the number of rows, or a question and its offset.
@@ -52,8 +53,8 @@ pub struct FirLoaded {
     pub question: u8,
 }
 
-/// Whether a run has begun, or goes on under a new image: `FIR_ACCEPTED`, or a
-/// question and its offset.
+/// Whether a run has begun, goes on under a new image or has gone back: `FIR_ACCEPTED`,
+/// or a question and its offset.
 #[repr(C)]
 pub struct FirEntry {
     /// The offset of a refusal.
@@ -245,6 +246,42 @@ extern "C" {
         new_image: *const u8,
         new_length: usize,
         state: *const State,
+    ) -> FirEntry;
+    pub fn fir_trail_start(state: *const State, trail: *mut Kept);
+    pub fn fir_trail_step(
+        image: *const u8,
+        image_length: usize,
+        table: *const u8,
+        table_length: usize,
+        state: *mut State,
+        trail: *mut Kept,
+    ) -> FirSaid;
+    pub fn fir_trail_budget(
+        image: *const u8,
+        image_length: usize,
+        table: *const u8,
+        table_length: usize,
+        state: *mut State,
+        trail: *mut Kept,
+        budget: u32,
+        buffer: *mut i64,
+        buffer_length: usize,
+    ) -> FirAnswer;
+    pub fn fir_trail_change(
+        old_image: *const u8,
+        old_length: usize,
+        new_image: *const u8,
+        new_length: usize,
+        state: *const State,
+        trail: *mut Kept,
+    ) -> FirEntry;
+    pub fn fir_trail_back(
+        image: *const u8,
+        image_length: usize,
+        table: *const u8,
+        table_length: usize,
+        state: *mut State,
+        trail: *mut Kept,
     ) -> FirEntry;
     pub fn fir_look(state: *const State, call: usize, place: usize) -> FirValue;
     pub fn fir_search(

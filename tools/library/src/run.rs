@@ -207,6 +207,22 @@ impl<'p> Run<'p> {
         self.state.look(call, place)
     }
 
+    /// The program in force, and the state to be written.
+    pub(crate) fn lent(&mut self) -> (&Program, &mut State) {
+        (&self.program, &mut self.state)
+    }
+
+    /// Puts a program in force, which a change to it was accepted for.
+    pub(crate) fn put_in_force(&mut self, program: Cow<'p, Program>) {
+        self.program = program;
+    }
+
+    /// A run of the program in force in another state.
+    pub(crate) fn in_state(&self, state: State) -> Run<'p> {
+        let program = self.program.clone();
+        Run { program, state }
+    }
+
     /// The state, to look at it or to store it. Whoever stores it stores the
     /// image with it.
     pub fn state(&self) -> &State {

@@ -1,7 +1,7 @@
 //! The header and this crate agree: a C program says what the compiler makes of
 //! `fir.h`, number by number.
 
-use library::State;
+use library::{Kept, State};
 use std::collections::BTreeMap;
 use std::fmt::Write;
 use std::fs;
@@ -42,6 +42,8 @@ fn bounds_and_questions() -> Vec<(&'static str, usize)> {
         FIR_ITEMS,
         FIR_PLACES,
         FIR_STRIDE,
+        FIR_TRAIL_NUMBERS,
+        FIR_TRAIL_BYTES,
         FIR_PORTAL,
         FIR_STAFF,
         FIR_FACTORY,
@@ -70,6 +72,7 @@ fn bounds_and_questions() -> Vec<(&'static str, usize)> {
         FIR_REFUSED_CHANGE,
         FIR_REFUSED_LITERAL,
         FIR_REFUSED_ROOM,
+        FIR_REFUSED_BACK,
         FIR_REFUSED_JOIN,
     ];
     [&bounds[..], &questions].concat()
@@ -187,6 +190,29 @@ fn a_state_has_the_size_and_alignment_that_c_gives_it() {
     );
     assert_eq!(found["size"], size_of::<State>());
     assert_eq!(found["alignment"], align_of::<State>());
+}
+
+#[test]
+fn a_trail_is_laid_out_as_c_does_it_and_begins_as_a_state() {
+    let found = printed(
+        "SAY(\"numbers\", offsetof(fir_trail, numbers));\n\
+         SAY(\"bytes\", offsetof(fir_trail, bytes));\n\
+         SAY(\"steps\", offsetof(fir_trail, steps));\n\
+         SAY(\"past\", offsetof(fir_trail, past));\n\
+         SAY(\"size\", sizeof(fir_trail));\n",
+    );
+    let own = [
+        ("numbers", offset_of!(Kept, numbers)),
+        ("bytes", offset_of!(Kept, bytes)),
+        ("steps", offset_of!(Kept, steps)),
+        ("past", offset_of!(Kept, past)),
+        ("size", size_of::<Kept>()),
+    ];
+    for (name, number) in own {
+        assert_eq!(found[name], number, "{name}");
+    }
+    assert_eq!(offset_of!(Kept, bytes), offset_of!(State, tags));
+    assert_eq!(offset_of!(Kept, steps), size_of::<State>());
 }
 
 #[test]

@@ -4,9 +4,10 @@
 use cases::exact;
 use reference::bounds::{Steps, BUFFER, MAX_IMAGE};
 use reference::questions::QUESTIONS;
+use reference::watched::Watched;
 use reference::{
     bounds_of, change, join, mend, move_from, report, verdict, Answer, Bound, End, Form, Integer,
-    Mended, Program, Refusal, State, Type, Unjoined, Verdict,
+    Mended, Program, Refusal, State, Trail, Type, Unjoined, Verdict,
 };
 use std::fs;
 use std::path::{Path, PathBuf};
@@ -15,7 +16,7 @@ use std::path::{Path, PathBuf};
 const DOCUMENT: &str = include_str!("../../../docs/LANGUAGE.md");
 
 /// The questions that are not put to an image, in the order in which they are put.
-const FURTHER: [u8; 8] = [11, 19, 12, 13, 15, 16, 17, 23];
+const FURTHER: [u8; 9] = [11, 19, 12, 13, 15, 16, 17, 20, 23];
 
 /// The most steps of a run.
 const BUDGET: Steps = 1000;
@@ -70,6 +71,8 @@ enum Trial<'t> {
     Run(&'t str, usize),
     /// A change of the run before, after so many steps.
     Changed(Steps),
+    /// A step back after so many steps of a run by these words, and then on to its end.
+    Back(Steps, &'t str),
     /// A move to 32 bits, into a buffer of so many places.
     Moved(usize),
     /// So many joins with itself, into a buffer of so many places.
@@ -96,6 +99,12 @@ fn trial(caption: &str) -> Option<(Trial<'_>, &str)> {
         let (steps, said) = rest.split_once(", ")?;
         let steps = steps.split(' ').next()?.parse().ok()?;
         return Some((Trial::Changed(steps), said));
+    }
+    if let Some(rest) = caption.strip_prefix("Back after ") {
+        let (steps, rest) = rest.split_once(" of `")?;
+        let (words, said) = rest.split_once("`, ")?;
+        let steps = steps.split(' ').next()?.parse().ok()?;
+        return Some((Trial::Back(steps, words), said));
     }
     if let Some(rest) = caption.strip_prefix("Moved to 32 bits") {
         let (places, said) = places(rest, " into a buffer of ", MAX_IMAGE)?;
@@ -209,6 +218,17 @@ impl Run {
         change(&self.image, new, &state)?;
         ended(state, &Program::accept(new)?, steps)
     }
+
+    /// What comes of it where a step back is taken once so many steps are.
+    fn outcome_behind(&self, steps: Steps) -> Result<String, Refusal> {
+        let (program, state) = self.begin()?;
+        let run = Watched::new(&program, state, self.asked.level, "a step back");
+        let mut trail = Trail::start(run);
+        let (_, taken) = trail.budget(steps, &mut [0; BUFFER]);
+        assert_eq!(taken, steps, "the run takes as many");
+        trail.back()?;
+        ended(trail.run().state().clone(), &program, steps - 1)
+    }
 }
 
 /// How a state ends, in words, where so many steps were taken before.
@@ -283,6 +303,10 @@ fn outcome(trial: &Trial, image: Vec<u8>, run: &mut Option<Run>) -> Result<Strin
         Trial::Changed(steps) => {
             let run = run.as_ref().expect("a run before the change");
             run.outcome_under(&image, steps)
+        }
+        Trial::Back(steps, words) => {
+            let asked = asked(words, BUFFER);
+            Run { image, asked }.outcome_behind(steps)
         }
         Trial::Moved(places) => {
             let moved = move_from(Form::Wide, &image, places)?;

@@ -9,7 +9,7 @@ use crate::failure::{Failure, Status};
 use crate::running::{answered, begin};
 use crate::source::Source;
 use crate::streams::Streams;
-use crate::telling::Format;
+use crate::telling::{Format, Tried};
 use crate::DONE;
 use order::Order;
 use session::Session;
@@ -30,7 +30,7 @@ pub fn debug(call: &Call, streams: &mut Streams) -> Result<Status, Failure> {
             return answered(Status::No, told);
         }
     };
-    let mut session = Session::new(&source, run, call.budget);
+    let mut session = Session::new(source, run, call.budget);
     session.stand(streams)?;
     let mut last = None;
     while let Some(line) = next_line(streams)? {
@@ -45,7 +45,7 @@ pub fn debug(call: &Call, streams: &mut Streams) -> Result<Status, Failure> {
             },
         };
         last = order;
-        match order {
+        match &last {
             None => {}
             Some(Order::Quit) => break,
             Some(order) => obey(&mut session, order, streams)?,
@@ -64,8 +64,8 @@ fn next_line(streams: &mut Streams) -> Result<Option<String>, Failure> {
 }
 
 /// Does what a command says.
-fn obey(session: &mut Session, order: Order, streams: &mut Streams) -> Result<(), Failure> {
-    match order {
+fn obey(session: &mut Session, order: &Order, streams: &mut Streams) -> Result<(), Failure> {
+    match *order {
         Order::Step(count) => session.step(count, streams)?,
         Order::Next => session.until_depth(session.depth()),
         Order::Out => session.until_depth(session.depth().saturating_sub(1)),
@@ -77,11 +77,16 @@ fn obey(session: &mut Session, order: Order, streams: &mut Streams) -> Result<()
         Order::Watch(place) => session.until_changed(place),
         Order::Run => session.finish(),
         Order::Back(count) => {
-            if !session.back(count) {
-                return streams.line("no step lies behind");
+            if let Err(refused) = session.back(count) {
+                return streams.line(&refused.plain());
             }
         }
-        Order::At(step) => session.go_to(step),
+        Order::At(step) => {
+            if let Err(refused) = session.go_to(step) {
+                return streams.line(&refused.plain());
+            }
+        }
+        Order::Change(ref file) => change(session, file, streams)?,
         Order::Stack => return show::stack(session, streams),
         Order::Vectors => return show::vectors(session.state(), session.program(), streams),
         Order::Promises => return show::promises(session.state(), streams),
@@ -90,4 +95,16 @@ fn obey(session: &mut Session, order: Order, streams: &mut Streams) -> Result<()
         Order::Quit => return Ok(()),
     }
     session.stand(streams)
+}
+
+/// Goes on under the image of a file, or says why not.
+fn change(session: &mut Session, file: &str, streams: &mut Streams) -> Result<(), Failure> {
+    let new = match Source::read(file.as_ref(), streams) {
+        Ok(new) => new.readable(),
+        Err(failure) => return failure.line().map_or(Ok(()), |line| streams.line(&line)),
+    };
+    let steps = session.steps();
+    let changed = session.change(new.clone());
+    let tried = Tried { steps, new: &new };
+    Format::Lines.changed(&tried, changed.as_ref().err(), streams)
 }

@@ -15,7 +15,7 @@ pub enum Target {
 }
 
 /// A command.
-#[derive(Clone, Copy, PartialEq, Eq, Debug)]
+#[derive(Clone, PartialEq, Eq, Debug)]
 pub enum Order {
     /// `step [N]`
     Step(u32),
@@ -33,6 +33,8 @@ pub enum Order {
     Back(u32),
     /// `at N`
     At(u32),
+    /// `change FILE`
+    Change(String),
     /// `stack`
     Stack,
     /// `vectors`
@@ -58,9 +60,12 @@ impl Order {
         }
         match (name, given) {
             ("step" | "s", given) => count(given).map(Order::Step),
-            ("back" | "b", given) => count(given).map(Order::Back),
+            ("back" | "b", given) => count(given).and_then(back),
             ("at", Some(word)) => number(word).map(Order::At),
             ("at", None) => Err("`at` needs a number of steps".to_string()),
+            ("change" | "c", Some("-")) => Err("standard input holds the commands".to_string()),
+            ("change" | "c", Some(file)) => Ok(Order::Change(file.to_string())),
+            ("change" | "c", None) => Err("`change` needs a file with an image".to_string()),
             ("to", Some(word)) => target(word).map(Order::To),
             ("to", None) => {
                 Err("`to` needs a line such as 12, or a version such as 1.0".to_string())
@@ -97,6 +102,14 @@ fn plain(name: &str) -> Option<Order> {
 /// A number of steps, 1 where none is given.
 fn count(given: Option<&str>) -> Result<u32, String> {
     given.map_or(Ok(1), number)
+}
+
+/// A way back of so many steps.
+fn back(count: u32) -> Result<Order, String> {
+    match count {
+        0 => Err("`back` goes back by at least 1 step".to_string()),
+        count => Ok(Order::Back(count)),
+    }
 }
 
 /// A number of steps.

@@ -1,47 +1,59 @@
-//! A run that is gone through: where it began, where it is, and how it is moved.
+//! A run that is gone through: where it is, and how it is moved, forward and back.
 
 use super::order::Target;
 use crate::failure::Failure;
 use crate::number::many;
 use crate::place::{beginning, place};
+use crate::refusal::{self, Refused};
 use crate::single::Single;
 use crate::source::Source;
 use crate::streams::Streams;
 use crate::telling;
 use crate::trace::{self, Spot};
-use library::{Opener, Ran, Run, State, FIR_ITEMS, FIR_STEPS};
+use library::{Opener, Ran, Refusal, Run, State, Trail, FIR_ITEMS, FIR_REFUSED_BACK, FIR_STEPS};
 use reference::program::Program;
+use std::rc::Rc;
 
 /// A run that is gone through.
-pub struct Session<'s> {
-    source: &'s Source,
+pub struct Session {
+    /// The image in force, with its text.
+    source: Rc<Source>,
     program: Program,
-    /// The run before its first step.
-    start: Run<'static>,
-    run: Run<'static>,
-    /// The steps taken.
-    steps: u32,
+    /// The run, with its start, or what it was at the last change of its image, kept.
+    trail: Trail<'static>,
+    /// The steps taken before the last change of the image.
+    before: u32,
     /// The most steps.
     budget: u32,
 }
 
-impl<'s> Session<'s> {
+impl Session {
     /// That of a run before its first step.
-    pub fn new(source: &'s Source, run: Run<'static>, budget: u32) -> Session<'s> {
+    pub fn new(source: Source, run: Run<'static>, budget: u32) -> Session {
+        Session::going(Rc::new(source), Trail::start(run), 0, budget)
+    }
+
+    /// That of a run whose start was kept after so many steps.
+    fn going(source: Rc<Source>, trail: Trail<'static>, before: u32, budget: u32) -> Session {
         let program = Program::ordered(&source.image);
         Session {
             source,
             program: program.unwrap_or(Program { versions: vec![] }),
-            start: run.clone(),
-            run,
-            steps: 0,
+            trail,
+            before,
             budget,
         }
     }
 
     /// The state.
     pub fn state(&self) -> &State {
-        self.run.state()
+        self.trail.state()
+    }
+
+    /// The steps taken, which are never more than the budget.
+    pub fn steps(&self) -> u32 {
+        let behind = self.trail.behind().unwrap_or(self.budget);
+        self.before.saturating_add(behind)
     }
 
     /// The program.
@@ -51,7 +63,7 @@ impl<'s> Session<'s> {
 
     /// The image with its text.
     pub fn source(&self) -> &Source {
-        self.source
+        &self.source
     }
 
     /// How many calls and forces are live.
@@ -61,19 +73,15 @@ impl<'s> Session<'s> {
 
     /// Takes a step; whether the run goes on and the budget is not used up.
     fn single(&mut self) -> bool {
-        if self.steps >= self.budget {
-            return false;
-        }
-        let single = Single::take(&mut self.run);
-        self.steps += u32::from(single.counts);
-        single.goes_on
+        self.steps() < self.budget && Single::take(&mut self.trail).goes_on
     }
 
     /// Takes so many steps, and prints each.
     pub fn step(&mut self, count: u32, streams: &mut Streams) -> Result<(), Failure> {
-        let wished = self.steps.saturating_add(count).min(self.budget);
+        let taken = self.steps();
+        let wished = taken.saturating_add(count).min(self.budget);
         let mut print = |step: &trace::Step, after: &State| streams.line(&step.line(after));
-        self.steps = trace::steps(&mut self.run, self.steps, wished, &mut print)?;
+        trace::steps(&mut self.trail, taken, wished, &mut print)?;
         Ok(())
     }
 
@@ -100,12 +108,12 @@ impl<'s> Session<'s> {
     /// where it was; why it does not.
     pub fn go_on_to(&mut self, target: Target) -> Result<(), String> {
         self.ask_there_is(target)?;
-        let (run, steps) = (self.run.clone(), self.steps);
+        let before = self.trail.clone();
         if self.seek(target) {
             return Ok(());
         }
         let cut_short = self.state().status == FIR_STEPS;
-        (self.run, self.steps) = (run, steps);
+        self.trail = before;
         Err(self.missed(target, cut_short))
     }
 
@@ -153,10 +161,13 @@ impl<'s> Session<'s> {
 
     /// The last step up to now that came to a target; 0 is the start.
     fn last_at(&self, target: Target) -> Option<u32> {
-        let mut again = Session::new(self.source, self.start.clone(), self.steps);
-        let mut last = again.came_to(target, 0).then_some(0);
+        let (source, start) = (self.source.clone(), self.trail.at_start());
+        let mut again = Session::going(source, start, self.before, self.steps());
+        let entered = matches!(target, Target::Version(..)) && self.before > 0;
+        let there = !entered && again.came_to(target, 0);
+        let mut last = there.then_some(self.before);
         while again.seek(target) {
-            last = Some(again.steps);
+            last = Some(again.steps());
         }
         last
     }
@@ -175,7 +186,7 @@ impl<'s> Session<'s> {
         };
         match self.last_at(target) {
             None => format!("{name}{within}"),
-            Some(step) if step == self.steps => {
+            Some(step) if step == self.steps() => {
                 format!("{name} again{within}; the run stands there")
             }
             Some(step) => {
@@ -199,26 +210,53 @@ impl<'s> Session<'s> {
 
     /// Takes steps until the run ends or the budget is used up.
     pub fn finish(&mut self) {
-        self.go_to(self.budget);
+        self.go_on(self.budget);
     }
 
-    /// Goes to the state after so many steps, from the start where it lies behind.
-    pub fn go_to(&mut self, step: u32) {
-        if step < self.steps {
-            self.run = self.start.clone();
-            self.steps = 0;
-        }
-        let left = step.min(self.budget) - self.steps;
-        self.steps += self.run.budget(left, &mut [0; FIR_ITEMS]).steps;
+    /// Takes steps until so many are taken.
+    fn go_on(&mut self, step: u32) {
+        let left = step.min(self.budget) - self.steps();
+        self.trail.budget(left, &mut [0; FIR_ITEMS]);
     }
 
-    /// Goes back by so many steps, or to the start; false where no step lies behind.
-    pub fn back(&mut self, count: u32) -> bool {
-        let behind = self.steps > 0;
-        if behind && count > 0 {
-            self.go_to(self.steps.saturating_sub(count));
+    /// Goes to the state after so many steps, from the start where it lies behind; refused
+    /// where the run was under another image then.
+    pub fn go_to(&mut self, step: u32) -> Result<(), Refused> {
+        if step < self.before {
+            let (question, offset) = (FIR_REFUSED_BACK, 0);
+            return Err(self.none_behind(Refusal { question, offset }));
         }
-        behind
+        if step < self.steps() {
+            self.trail = self.trail.at_start();
+        }
+        self.go_on(step);
+        Ok(())
+    }
+
+    /// Why the run does not go back.
+    fn none_behind(&self, no: Refusal) -> Refused {
+        refusal::of_back(no, self.before)
+    }
+
+    /// Goes on under another image, with no step behind; refused, under the one in force.
+    pub fn change(&mut self, new: Source) -> Result<(), Refused> {
+        let (program, before) = (library::Program::load(&new.image[..]), self.steps());
+        if let Err(no) = program.and_then(|program| self.trail.change(program)) {
+            return Err(refusal::of_change(&self.source, &new, no, self.state()));
+        }
+        let trail = self.trail.clone();
+        *self = Session::going(Rc::new(new), trail, before, self.budget);
+        Ok(())
+    }
+
+    /// Goes back by so many steps, at least one, or to the start: by one step back, and for
+    /// more of them once from the start. Refused where no step lies behind.
+    pub fn back(&mut self, count: u32) -> Result<(), Refused> {
+        self.trail.back().map_err(|no| self.none_behind(no))?;
+        match count {
+            1 => Ok(()),
+            _ => self.go_to(self.steps().saturating_sub(count - 1).max(self.before)),
+        }
     }
 
     /// Where the run stands.
@@ -228,23 +266,23 @@ impl<'s> Session<'s> {
 
     /// The line of the text that the run stands at.
     pub fn line(&self) -> Option<usize> {
-        self.source.line(self.run.position()?.offset)
+        self.source.line(self.trail.position()?.offset)
     }
 
     /// Prints where the run stands, or how it ended.
     pub fn stand(&mut self, streams: &mut Streams) -> Result<(), Failure> {
-        let steps = many(self.steps as usize, "step");
-        if self.state().status != FIR_STEPS || self.steps == self.budget {
+        let steps = many(self.steps() as usize, "step");
+        if self.state().status != FIR_STEPS || self.steps() == self.budget {
             let mut buffer = [0; FIR_ITEMS];
-            let Ran { answer, .. } = self.run.budget(0, &mut buffer);
+            let Ran { answer, .. } = self.trail.budget(0, &mut buffer);
             let words = telling::words_of(answer, &buffer);
             streams.line(&format!("{words} after {steps}"))?;
         }
         if self.state().status == FIR_STEPS {
             return streams.line(&self.standing(&steps));
         }
-        match trace::standing(self.source, &self.run) {
-            Some(standing) => streams.line(&standing.line(self.source)),
+        match trace::standing(&self.source, &self.trail) {
+            Some(standing) => streams.line(&standing.line(&self.source)),
             None => Ok(()),
         }
     }
@@ -282,7 +320,7 @@ impl<'s> Session<'s> {
                 true => "at",
                 false => "goes on at",
             };
-            let at = place(self.source, spot.offset());
+            let at = place(&self.source, spot.offset());
             Some((number, format!("{what}, {stands} {at}: {}", spot.text())))
         });
         activations.collect()

@@ -1,4 +1,5 @@
-//! Why an image, a run, a change of image, a move or a joining is refused, in words.
+//! Why an image, a run, a change of image, a step back, a move or a joining is refused, in
+//! words.
 //!
 //! The question and the offset are the proved library's. The words come from
 //! looking at the record there for what the question asks; where that finds
@@ -23,6 +24,7 @@ pub use vocabulary::noun;
 
 use crate::command::Call;
 use crate::json::Json;
+use crate::number::many;
 use crate::place::{beginning, version_name, Position};
 use crate::source::Source;
 use library::{Entry, Refusal, State, FIR_REFUSED_ENTRY};
@@ -162,6 +164,23 @@ pub fn of_change(old: &Source, new: &Source, no: Refusal, state: &State) -> Refu
     Refused::new(new, no, words)
 }
 
+/// Why a run goes back no further: it stands at its start, or its image was changed after
+/// so many steps.
+pub fn of_back(no: Refusal, changed: u32) -> Refused {
+    let words = match changed {
+        0 => "the run stands at its start, and no step lies behind it".to_string(),
+        steps => {
+            let steps = many(steps as usize, "step");
+            format!("the run goes back no further than the change of its image after {steps}")
+        }
+    };
+    Refused {
+        no,
+        position: None,
+        words,
+    }
+}
+
 /// What the record at the refusal's offset does wrong, if it is found.
 fn diagnosis(form: Form, source: &Source, no: Refusal) -> Option<Diagnosis> {
     let (image, offset) = (&source.image[..], no.offset);
@@ -259,6 +278,7 @@ pub fn rule(question: u8) -> &'static str {
         15 => "every version with a live call has the same bytes and number in both images",
         16 => "every literal of an image that is moved fits 32 bits",
         17 => "a moved image has at most 32,768 bytes and fits the buffer",
+        20 => "a step lies behind the state",
         23 => "a joined image has at most 32,768 bytes, 32 functions and 64 versions and fits the buffer",
         _ => "no question has this number",
     }
@@ -279,7 +299,7 @@ mod tests {
     fn a_refusal_that_no_diagnosis_explains_gets_the_rule() {
         let text = "version 0.0(r0: int) -> int\nlevel portal\nblock 0 quiet -> r0";
         let image = text::assemble(text).expect("a text that is well formed");
-        for question in (1..=19).chain([23]) {
+        for question in (1..=20).chain([23]) {
             for offset in [0, 11, 16, 23, 400_000] {
                 let expected = format!("refused by {question} at {offset}: {}", rule(question));
                 assert_eq!(said(&image, question, offset), expected);

@@ -11,7 +11,7 @@ pub use spot::Spot;
 use crate::failure::Failure;
 use crate::json::Json;
 use crate::place::{beginning, Position};
-use crate::single::Single;
+use crate::single::{Single, Stepped};
 use crate::source::Source;
 use library::{Run, Search, State, FIR_UNDEF};
 use reference::program::Program;
@@ -21,20 +21,25 @@ pub type Watch<'w> = dyn FnMut(&Step, &State) -> Result<(), Failure> + 'w;
 
 /// Takes single steps until so many are taken in all, and shows each that counts; how
 /// many are taken then.
-pub fn steps(run: &mut Run, taken: u32, wished: u32, watch: &mut Watch) -> Result<u32, Failure> {
-    let program = Program::ordered(run.image()).ok();
+pub fn steps(
+    run: &mut impl Stepped,
+    taken: u32,
+    wished: u32,
+    watch: &mut Watch,
+) -> Result<u32, Failure> {
+    let program = Program::ordered(run.seen().image()).ok();
     let mut steps = taken;
     while steps < wished {
         let step = Step {
             number: steps + 1,
-            before: run.state().clone(),
-            search: run.search(),
+            before: run.seen().state().clone(),
+            search: run.seen().search(),
             program: program.as_ref(),
         };
         let single = Single::take(run);
         if single.counts {
             steps = step.number;
-            watch(&step, run.state())?;
+            watch(&step, run.seen().state())?;
         }
         if !single.goes_on {
             break;
