@@ -19,6 +19,7 @@ use Rattle.machine.specs.States.{over}
 use Rattle.machine.specs.Runs.{written}
 use Rattle.machine.specs.declared.End.{End}
 use Rattle.machine.specs.declared.Status.{Status}
+use Rattle.machine.proofs.Overlays.{over-next}
 use Rattle.store.specs.Store.{ENDING, STATUS, RESULT, _#_, stateIn, statusOf}
 use Rattle.store.proofs.Lists.{getD-from, length-from}
 use Rattle.abi.specs.Exits.{endedBy, itemsIn, resultIn}
@@ -29,15 +30,6 @@ use Rattle.abi.specs.Exits.{endedBy, itemsIn, resultIn}
 pub over-none : {A : Type 0} (ys : List A) → ys ≡ over [] ys
 unfolding over
 over-none ys = refl
-
--- the next item is one store
-over-next : {A : Type 0} (xs ys : List A) (j : ℕ) (d : A) → j < length xs → set (over (take j xs) ys) j (getD xs j d) ≡ over (take (suc j) xs) ys
-unfolding over
-over-next [] ys j d h = absurd (omega (arith, h))
-over-next (x ∷ xs) [] zero d h = refl
-over-next (x ∷ xs) (y ∷ ys) zero d h = refl
-over-next (x ∷ xs) [] (suc j) d h = refl
-over-next (x ∷ xs) (y ∷ ys) (suc j) d h = ap (λ l. x ∷ l) (over-next xs ys j d (omega (arith, h)))
 
 -- behind the last place nothing is stored
 over-nowhere : {A : Type 0} (xs : List A) → over xs [] ≡ []

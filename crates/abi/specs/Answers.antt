@@ -17,6 +17,7 @@ use Rattle.machine.specs.declared.End.{End}
 use Rattle.machine.specs.declared.Entry.{Entry}
 use Rattle.machine.specs.declared.Said.{Said}
 use Rattle.machine.specs.declared.Search.{Search}
+use Rattle.machine.specs.declared.Watch.{Watch}
 use Rattle.mends.specs.declared.Mended.{Mended}
 use Rattle.moves.specs.declared.Moving.{Moving}
 use Rattle.store.specs.Store.{stateIn}
@@ -30,6 +31,7 @@ use Rattle.abi.specs.declared.answers.FirSaid.{FirSaid}
 use Rattle.abi.specs.declared.answers.FirSearched.{FirSearched}
 use Rattle.abi.specs.declared.answers.FirVerdict.{FirVerdict}
 use Rattle.abi.specs.declared.answers.FirVersion.{FirVersion}
+use Rattle.abi.specs.declared.answers.FirWatched.{FirWatched}
 use Rattle.abi.specs.declared.answers.FirWhere.{FirWhere}
 
 -- the number of versions, or the offset and the number of a refusal
@@ -96,6 +98,11 @@ unfoldable pub whereNumbers : Where → FirWhere
 whereNumbers Where.Nowhere = record { offset = 0; kind = 0; function = 0; version = 0; block = 0; instruction = 0 }
 whereNumbers (Where.Instruction f v b n p) = record { offset = p; kind = 1; function = f; version = v; block = b; instruction = n }
 whereNumbers (Where.BlockEnd f v b n p) = record { offset = p; kind = 2; function = f; version = v; block = b; instruction = n }
+
+-- watching: how many records were filled, or the number of a refusal, whose offset is always 0
+unfoldable pub watchedNumbers : Watch → FirWatched
+watchedNumbers (Watch.Filled n) = record { filled = n; question = 0 }
+watchedNumbers (Watch.Refused q p) = record { filled = 0; question = q }
 
 -- the number of the interface, and that of the layout of a stored state; each goes up where a program that was made for it could not go on
 unfoldable pub versionNumbers : FirVersion

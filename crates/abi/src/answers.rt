@@ -3,7 +3,7 @@ ghost use mathlib.Core.Path.{_≡_};
 ghost use Rattle.machine.specs.declared.Answer.{Answer};
 ghost use Rattle.abi.specs.Answers.{answerNumbers, answerWith, backNumbers, boundingNumbers, changedNumbers, endIn, entryNumbers, formOf};
 ghost use Rattle.abi.specs.Answers.{joinedNumbers, loadedNumbers, mendedNumbers, movedNumbers, plainNumbers};
-ghost use Rattle.abi.specs.Answers.{searchNumbers, verdictNumbers, versionNumbers, whereNumbers};
+ghost use Rattle.abi.specs.Answers.{searchNumbers, verdictNumbers, versionNumbers, watchedNumbers, whereNumbers};
 ghost use Rattle.abi.specs.Looks.{noPlace, valueNumbers};
 use bounds::Bounding;
 use checker::Verdict;
@@ -15,6 +15,7 @@ use machine::Changed;
 use machine::Entry;
 use machine::Search;
 use machine::Value;
+use machine::Watch;
 use mends::Mended;
 use moves::Moving;
 use whereabouts::Where;
@@ -118,6 +119,13 @@ pub struct FirWhere {
     pub version: u8,
     pub block: u8,
     pub instruction: u8,
+}
+
+/// How many records of the topmost call were filled, or the question that refuses the list.
+#[repr(C)]
+pub struct FirWatched {
+    pub filled: u8,
+    pub question: u8,
 }
 
 /// The number of the interface, and that of the layout of a stored state.
@@ -470,6 +478,22 @@ pub fn place(place: Where) -> FirWhere
             version: v,
             block: b,
             instruction: n,
+        },
+    }
+}
+
+/// The numbers of watching.
+pub fn watched(watch: Watch) -> FirWatched
+    ensures { λ r. ⌜ r ≡ watchedNumbers watch ⌝ }
+{
+    match watch {
+        Watch::Filled(n) => FirWatched {
+            filled: n,
+            question: 0,
+        },
+        Watch::Refused(q, _) => FirWatched {
+            filled: 0,
+            question: q,
         },
     }
 }

@@ -13,6 +13,7 @@ ghost use Rattle.machine.specs.Frames.{readOf};
 ghost use Rattle.machine.specs.Runs.{budgetOf, stepOf};
 ghost use Rattle.machine.specs.Searches.{searchOf};
 ghost use Rattle.machine.specs.Values.{RANGE};
+ghost use Rattle.machine.specs.Watches.{rowsAfter, watchedOf};
 ghost use Rattle.loaded.specs.Loaded.{programIn};
 ghost use Rattle.loaded.specs.Loading.{Stands, bytesFor, loadOf};
 ghost use Rattle.loaded.specs.Running.{runInTo};
@@ -26,7 +27,7 @@ ghost use Rattle.whereabouts.specs.Looks.{lookOf};
 ghost use Rattle.whereabouts.specs.Where.{whereOf};
 ghost use Rattle.words.specs.Words.{answerText, questionText, writtenOf};
 ghost use Rattle.abi.specs.Answers.{boundingNumbers, changedNumbers, entryNumbers, formOf, joinedNumbers, loadedNumbers, mendedNumbers};
-ghost use Rattle.abi.specs.Answers.{movedNumbers, searchNumbers, stateAlignment, stateSize, verdictNumbers, versionNumbers, whereNumbers};
+ghost use Rattle.abi.specs.Answers.{movedNumbers, searchNumbers, stateAlignment, stateSize, verdictNumbers, versionNumbers, watchedNumbers, whereNumbers};
 ghost use Rattle.abi.specs.Exits.{Answers, Began, Rests, Steps, entrance};
 ghost use Rattle.abi.specs.Held.{held};
 ghost use Rattle.abi.specs.Looks.{readNumbers};
@@ -41,12 +42,14 @@ use answers::FirSearched;
 use answers::FirValue;
 use answers::FirVerdict;
 use answers::FirVersion;
+use answers::FirWatched;
 use answers::FirWhere;
 use begin::Entrance;
 use checker::Reported;
 use checker::questions;
 use checker::report;
 use entry::Start;
+use machine::Row;
 use state::FirState;
 use state::FirTrail;
 
@@ -448,4 +451,21 @@ pub extern "C" fn fir_where(image: &[u8], table: &[u8], state: &FirState) -> Fir
     ensures { λ r. ⌜ r ≡ whereNumbers (whereOf (programIn (now (image .entry)) (now (table .entry))) (held (now (state .entry)))) ⌝ }
 {
     parts::stand(image, table, &state.bytes)
+}
+
+/// Fills the list with a record for each register of the topmost call, which is the newest frame, in order: how many were filled, 0
+/// with no live call; or 22, where the list is too short. All other records stay.
+#[no_mangle]
+pub extern "C" fn fir_watch(
+    image: &[u8],
+    table: &[u8],
+    state: &FirState,
+    rows: &mut [Row],
+) -> FirWatched
+    ensures { λ r. ⌜ (r ≡ watchedNumbers (watchedOf (programIn (now (image .entry)) (now (table .entry))) (held (now (state .entry))) (length (now (rows .entry)))))
+        × (now (rows .exit) ≡ rowsAfter (programIn (now (image .entry)) (now (table .entry))) (held (now (state .entry))) (now (rows .entry))) ⌝ }
+{
+    let watched = parts::watched(image, table, &state.bytes, rows.len());
+    watches::fill(image, table, &state.bytes, &state.numbers, rows);
+    watched
 }

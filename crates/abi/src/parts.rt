@@ -9,11 +9,12 @@ ghost use Rattle.machine.specs.Frames.{readOf};
 ghost use Rattle.machine.specs.Runs.{budgetOf, stepOf, written};
 ghost use Rattle.machine.specs.Searches.{searchOf};
 ghost use Rattle.machine.specs.States.{over};
+ghost use Rattle.machine.specs.Watches.{watchedOf};
 ghost use Rattle.store.specs.Store.{stateIn};
 ghost use Rattle.running.specs.Budgets.{answerOf, saidOf};
 ghost use Rattle.whereabouts.specs.Looks.{lookOf};
 ghost use Rattle.whereabouts.specs.Where.{whereOf};
-ghost use Rattle.abi.specs.Answers.{answerNumbers, changedNumbers, saidNumbers, searchNumbers, whereNumbers};
+ghost use Rattle.abi.specs.Answers.{answerNumbers, changedNumbers, saidNumbers, searchNumbers, watchedNumbers, whereNumbers};
 ghost use Rattle.abi.specs.Exits.{Answers, Rests, Steps, itemsIn, resultIn};
 ghost use Rattle.abi.specs.Held.{stored};
 ghost use Rattle.abi.specs.Looks.{readNumbers};
@@ -23,6 +24,7 @@ use crate::answers::FirEntry;
 use crate::answers::FirSaid;
 use crate::answers::FirSearched;
 use crate::answers::FirValue;
+use crate::answers::FirWatched;
 use crate::answers::FirWhere;
 use machine::Read;
 use machine::Vector;
@@ -81,6 +83,13 @@ pub fn search(image: &[u8], table: &[u8], bytes: &[u8; 2632]) -> FirSearched
     ensures { λ r. ⌜ ((n : List ℤ) → r ≡ searchNumbers (searchOf (programIn (now (image .entry)) (now (table .entry))) (stateIn (now (bytes .entry)) n))) ⌝ }
 {
     answers::searched(searches::search(image, table, bytes))
+}
+
+/// How many records of a list of `n` are filled, or that it is too short, whatever the state's numbers are.
+pub fn watched(image: &[u8], table: &[u8], bytes: &[u8; 2632], n: usize) -> FirWatched
+    ensures { λ r. ⌜ ((m : List ℤ) → r ≡ watchedNumbers (watchedOf (programIn (now (image .entry)) (now (table .entry))) (stateIn (now (bytes .entry)) m) n)) ⌝ }
+{
+    answers::watched(watches::watched(image, table, bytes, n))
 }
 
 /// Writes the first `n` items of the result, as many as there are and have a place, from the place 0 on; all else stays.

@@ -23,12 +23,6 @@ over-next [] (y ∷ ys) x = refl
 over-next (z ∷ xs) [] x = refl
 over-next (z ∷ xs) (y ∷ ys) x = ap (λ l. z ∷ l) (over-next xs ys x)
 
-pub length-over : {A : Type 0} (xs ys : List A) → length (over xs ys) ≡ length ys
-unfolding over
-length-over [] ys = refl
-length-over (x ∷ xs) [] = refl
-length-over (x ∷ xs) (y ∷ ys) = ap suc (length-over xs ys)
-
 -- values behind the last place go nowhere
 pub over-most : {A : Type 0} (xs ys : List A) (m : ℕ) → length ys ≤ m → over (take m xs) ys ≡ over xs ys
 unfolding over

@@ -20,6 +20,7 @@ use Rattle.machine.specs.States.{assign, liveFrames, over, place, register, wit
 use Rattle.machine.specs.declared.Frame.{Frame}
 use Rattle.machine.specs.declared.State.{State}
 use Rattle.machine.specs.declared.Value.{Value}
+use Rattle.machine.proofs.Overlays.{length-over}
 use Rattle.store.proofs.Lists.{getElem?-upTo, length-upTo, set-upTo-by}
 use Rattle.store.specs.declared.Did.{Did}
 use Rattle.store.specs.Store.{CALLS, cellIn, frameIn, stateIn, Live}
@@ -30,7 +31,7 @@ use Rattle.acts.proofs.Answers.{assigned-is}
 use Rattle.listing.specs.Listing.{Small}
 use Rattle.listing.specs.Entering.{Marks, heldBy, isBit, masked, passedOn, withArguments}
 use Rattle.listing.proofs.Gathering.{drop-all, take-all}
-use Rattle.listing.proofs.Arguments.{length-map, length-over, length-take, map-append, over-most, over-next, set-twice, take-map}
+use Rattle.listing.proofs.Arguments.{length-map, length-take, map-append, over-most, over-next, set-twice, take-map}
 
 -- ---- frames that stay
 

@@ -2,3 +2,4 @@ pub mod Places
 pub mod Tries
 pub mod Matching
 pub mod Changes
+pub mod Overlays

@@ -10,3 +10,4 @@ pub mod Changes
 pub mod Events
 pub mod Frames
 pub mod Trails
+pub mod Watches

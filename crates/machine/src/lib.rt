@@ -164,6 +164,24 @@ pub struct Returned {
     pub back: Back,
 }
 
+/// A register of the topmost call, for a service screen: its declared type, and what it holds: 0 nothing, 1 the integer, 2 the vector's
+/// length and items, 3 the promise's mark. All other numbers are 0.
+#[repr(C)]
+pub struct Row {
+    pub integer: i64,
+    pub items: [i64; 16],
+    pub declared: u8,
+    pub holds: u8,
+    pub length: u8,
+    pub mark: u8,
+}
+
+/// How many records of the topmost call were filled, or a refusal's number and offset.
+pub enum Watch {
+    Filled(u8),
+    Refused(u8, u16),
+}
+
 /// What reading a register or a name finds: its value, or that the frame has no such place.
 pub enum Read {
     Outside,

@@ -20,3 +20,4 @@ pub mod Driven
 pub mod Counted
 pub mod Backs
 pub mod Visits
+pub mod Watches

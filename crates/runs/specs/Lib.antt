@@ -7,3 +7,4 @@ pub mod Levels
 pub mod Singles
 pub mod Driven
 pub mod Backs
+pub mod Watches

@@ -38,3 +38,4 @@ pub mod Levels
 pub mod Staying
 pub mod Inside
 pub mod Backs
+pub mod Watches

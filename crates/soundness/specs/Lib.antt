@@ -5,3 +5,4 @@ pub mod Stay
 pub mod Levels
 pub mod Inside
 pub mod Backs
+pub mod Watches

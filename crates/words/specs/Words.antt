@@ -35,6 +35,7 @@ questionText n = choose n [] (
     (18, text "a CALL goes to a version of a higher level") ∷
     (19, text "the entry is above the level of the run") ∷
     (20, text "no step lies behind") ∷
+    (22, text "the list of records is too short") ∷
     (23, text "the joined image would break a bound of the layout, or does not fit the buffer") ∷ [])
 
 -- what the code of an answer to a step or a budget says

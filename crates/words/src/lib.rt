@@ -72,6 +72,7 @@ pub fn question_text(question: u8, out: &mut [u8]) -> usize
         18 => say(out, b"a CALL goes to a version of a higher level"),
         19 => say(out, b"the entry is above the level of the run"),
         20 => say(out, b"no step lies behind"),
+        22 => say(out, b"the list of records is too short"),
         23 => say(
             out,
             b"the joined image would break a bound of the layout, or does not fit the buffer",

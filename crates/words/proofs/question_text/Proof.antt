@@ -141,6 +141,12 @@ slice-aggregate-say-22 c = search needs
 say-requires-22 : tie.Need-say-requires-22
 say-requires-22 c κs = search needs
 
+slice-aggregate-say-23 : tie.Need-slice-aggregate-say-23
+slice-aggregate-say-23 c = search needs
+
+say-requires-23 : tie.Need-say-requires-23
+say-requires-23 c κs = search needs
+
 same-length : tie.Need-same-length
 same-length c = search needs
 
@@ -317,11 +323,20 @@ unfolding questionText choose text
 returns-22 c =
     rw ((c .before .before .before .before .before .match) .keys22) ((c .before .before .say22) .ensures)
 
+same-length-23 : tie.Need-same-length-23
+same-length-23 c = search needs
+
 returns-23 : tie.Need-returns-23
-unfolding questionText
+unfolding questionText choose text
 returns-23 c =
+    rw ((c .before .before .before .before .before .match) .keys23) ((c .before .before .say23) .ensures)
+
+returns-24 : tie.Need-returns-24
+unfolding questionText
+returns-24 c =
     let q = (c .before .before) .args .question in
-    nothing (questionText q) _ (next-row q [] _ _ ((c .match) .rest .0 .0 .0 .0 .0 .0 .0 .0 .0 .0 .0 .0 .0 .0 .0 .0 .0 .0 .0 .0 .0 .1)
+    nothing (questionText q) _ (next-row q [] _ _ ((c .match) .rest .0 .0 .0 .0 .0 .0 .0 .0 .0 .0 .0 .0 .0 .0 .0 .0 .0 .0 .0 .0 .0 .0 .1)
+    ∙ next-row q [] _ _ ((c .match) .rest .0 .0 .0 .0 .0 .0 .0 .0 .0 .0 .0 .0 .0 .0 .0 .0 .0 .0 .0 .0 .0 .1)
     ∙ next-row q [] _ _ ((c .match) .rest .0 .0 .0 .0 .0 .0 .0 .0 .0 .0 .0 .0 .0 .0 .0 .0 .0 .0 .0 .0 .1)
     ∙ next-row q [] _ _ ((c .match) .rest .0 .0 .0 .0 .0 .0 .0 .0 .0 .0 .0 .0 .0 .0 .0 .0 .0 .0 .0 .1)
     ∙ next-row q [] _ _ ((c .match) .rest .0 .0 .0 .0 .0 .0 .0 .0 .0 .0 .0 .0 .0 .0 .0 .0 .0 .0 .1)
@@ -393,6 +408,8 @@ question-text-spec =
     say-requires-21
     slice-aggregate-say-22
     say-requires-22
+    slice-aggregate-say-23
+    say-requires-23
     same-length
     returns
     same-length-2
@@ -437,4 +454,6 @@ question-text-spec =
     returns-21
     same-length-22
     returns-22
-    returns-23)
+    same-length-23
+    returns-23
+    returns-24)
