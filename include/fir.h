@@ -14,14 +14,14 @@
  *     that the call is lent.
  *   - Until the call returns, nobody else writes what is lent, and nobody else reads what the call writes.
  *   - An image that is lent with a table was loaded into it: fir_load answered FIR_LOADED, and neither was written since.
- *   - A step, forward or back, a budget, fir_search and fir_where are lent the image in force, and its table; fir_change and
+ *   - A step, forward or back, a budget, fir_watch, fir_search and fir_where are lent the image in force, and its table; fir_change and
  *     fir_trail_change, as their old image, the image in force. That is the one that the run was begun with, or the last one that
  *     such a change accepted for it. The caller keeps it, byte for byte, until another is accepted or the run is given up.
  *   - A trail is lent with its own state: the one that it was started at, as the calls with this trail have left it.
  * Nothing of this can be tested by the library. All else is: every image, table, entry, argument list, budget, buffer, state and
  * trail gets an answer that is listed here, and nothing outside the lent memory is read or written.
  *
- * Threads: every function may be called from several threads at once, each with its own states, trails, texts and buffers. What
+ * Threads: every function may be called from several threads at once, each with its own states, trails, texts, buffers and rows. What
  * calls only read they may share: an image, its table once it is loaded, and a state behind a pointer to const.
  *
  * Linking: the archive that `rt staticlib` makes is for x86-64 and its calling convention of System V; tools/dist makes it for
@@ -151,6 +151,7 @@ fir_versions fir_version(void);
 #define FIR_REFUSED_LITERAL 16   /* every literal of an image that is moved fits 32 bits */
 #define FIR_REFUSED_ROOM 17      /* the moved image has at most 32,768 bytes and fits the buffer */
 #define FIR_REFUSED_BACK 20      /* a step lies behind the state */
+#define FIR_REFUSED_ROWS 22      /* the list has a record for each register of the topmost call */
 #define FIR_REFUSED_JOIN 23      /* the joined image has at most 32,768 bytes, 32 functions and 64 versions and fits the buffer */
 
 #define FIR_QUESTION_TEXT_BYTES 128 /* room for the words of every question */
@@ -751,6 +752,56 @@ typedef struct fir_value {
 /* What the place of a live call holds: registers are the places 0 to 15, names the places 16 to 23; calls are numbered from
  * the oldest, 0. */
 fir_value fir_look(const fir_state *state, size_t call, size_t place);
+
+/* ---- Watching a call ---- */
+
+/* A register of the topmost call, for a service screen: the type that the image declares for it, and what it holds. */
+typedef struct fir_row {
+    int64_t integer;          /* FIR_IS_INTEGER: the integer */
+    int64_t items[FIR_ITEMS]; /* FIR_IS_VECTOR: its items, from 0 on */
+    uint8_t declared;         /* the type: its kind in the low four bits, above them 0 shared, 1 owned, 2 borrowed */
+    uint8_t holds;            /* FIR_NOTHING to FIR_IS_PROMISE */
+    uint8_t length;           /* FIR_IS_VECTOR: how many items it has */
+    uint8_t mark;             /* FIR_IS_PROMISE: the mark of its block, 0 quiet, 1 reflective */
+} fir_row;                    /* what a record does not tell is 0, items past the length too; the last four bytes are padding */
+
+/* How many records were filled; or 0, and the question that refuses. */
+typedef struct fir_watched {
+    uint8_t filled;
+    uint8_t question; /* FIR_ACCEPTED, or FIR_REFUSED_ROWS */
+} fir_watched;
+
+/* Fills a list with the registers of the topmost call, a record for each that its version declares, in order, from 0 on: 16 at
+ * most. The topmost call is the newest, also while a block of an older one is forced. Records past the last register stay as they
+ * were, and the state is not written. With no live call none is filled, and the whole list stays, an empty one too. After UNDEF,
+ * DEEP, VECTORS and PROMISES the newest call is shown as the run left it. Where the list is too short, 22: then all of it stays.
+ *
+ * In a run that was begun and is lent its image, each record shows a value of the declared type, or nothing. It may be called
+ * between any two budgets, from another thread too while nobody writes the state.
+ *
+ * Example:
+ *
+ *     static void show_call(FILE *to, const uint8_t *image, size_t image_length, const fir_state *state)
+ *     {
+ *         fir_row rows[FIR_REGISTERS];
+ *         fir_watched watched = fir_watch(image, image_length, table, sizeof table, state, rows, FIR_REGISTERS);
+ *         unsigned r, i;
+ *         for (r = 0; r < watched.filled; r++) {
+ *             fprintf(to, "r%u", r);
+ *             if (rows[r].holds == FIR_IS_INTEGER)
+ *                 fprintf(to, " %ld", (long)rows[r].integer);
+ *             if (rows[r].holds == FIR_IS_PROMISE)
+ *                 fprintf(to, " promise, %s", rows[r].mark ? "reflective" : "quiet");
+ *             for (i = 0; i < rows[r].length; i++)
+ *                 fprintf(to, " %ld", (long)rows[r].items[i]);
+ *             fputc('\n', to);
+ *         }
+ *     }
+ */
+fir_watched fir_watch(const uint8_t *image, size_t image_length, const uint8_t *table, size_t table_length, const fir_state *state,
+                      fir_row *rows, size_t rows_length);
+
+/* ---- Where a run stands ---- */
 
 /* What the search of a DISPATCH comes to: how many versions it looks at, and how many the function has. */
 typedef struct fir_searched {

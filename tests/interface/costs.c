@@ -50,6 +50,8 @@ static void table_size(void) { seen += fir_table_size(tried->length); }
 static void report(void) { seen += fir_report(tried->bytes, tried->length, text, sizeof text); }
 static void change(void) { seen += fir_change(tried->bytes, tried->length, tried->bytes, tried->length, midway).question; }
 static void look(void) { seen += (uint64_t)fir_look(midway, 0, 1).number; }
+static fir_row rows[FIR_REGISTERS];
+static void watch(void) { seen += fir_watch(LENT(*tried), midway, rows, FIR_REGISTERS).filled; }
 static void search(void) { seen += fir_search(LENT(*tried), midway).versions; }
 static void search_all(void) { seen += fir_search(LENT(dispatching), &waiting).versions; }
 static void where(void) { seen += fir_where(LENT(*tried), midway).offset; }
@@ -275,7 +277,7 @@ static const struct {
              {"fir_trail_change", trail_change, nothing}, {"fir_trail_back, 20", back_from_0, bring_both_back},
              {"fir_trail_back, 1", back_from_1, bring_both_back},
              {"fir_trail_back, 101", back_from_101, bring_both_back},
-             {"fir_where", where, nothing}, {"fir_search", search, nothing},
+             {"fir_where", where, nothing}, {"fir_watch", watch, nothing}, {"fir_search", search, nothing},
              {"fir_search, 4 in vain", search_all, nothing}, {"fir_look", look, nothing},
              {"fir_table_size", table_size, nothing}, {"fir_question_text", question_text, nothing},
              {"fir_answer_text", answer_text, nothing}};

@@ -195,6 +195,20 @@ static void checkpoints(void)
     same("the steps to the end", steps + 1, FIR_FUNCTIONS * 49u);
 }
 
+/* The topmost call, step by step: the second call's register, then the first one's again, and none at the end. */
+static void watching(void)
+{
+    FILE *file = opened();
+    calling(&tried, FIR_PORTAL, FIR_PORTAL);
+    begins(words, 2);
+    do {
+        show_call(file, tried.bytes, tried.length, &state);
+        fputc('-', file);
+    } while (fir_step(TABLED(tried), &state).code == FIR_STEPS);
+    show_call(file, tried.bytes, tried.length, &state);
+    printed(file, "r0 7\n-r0 7\n-r0 7\n-");
+}
+
 static void positions(void)
 {
     FILE *file = opened();
@@ -268,6 +282,7 @@ int main(void)
     changing();
     without_words();
     checkpoints();
+    watching();
     positions();
     joining();
     mending();

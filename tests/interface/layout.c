@@ -107,6 +107,16 @@ int main(void)
     same("sizeof fir_value", sizeof(fir_value), 16);
     AT(fir_value, kind, 8);
     AT(fir_value, place, 9);
+    same("sizeof fir_row", sizeof(fir_row), 144);
+    AT(fir_row, integer, 0);
+    AT(fir_row, items, 8);
+    AT(fir_row, declared, 136);
+    AT(fir_row, holds, 137);
+    AT(fir_row, length, 138);
+    AT(fir_row, mark, 139);
+    same("sizeof fir_watched", sizeof(fir_watched), 2);
+    AT(fir_watched, filled, 0);
+    AT(fir_watched, question, 1);
     same("sizeof fir_searched", sizeof(fir_searched), 3);
     AT(fir_searched, dispatch, 0);
     AT(fir_searched, looked, 1);

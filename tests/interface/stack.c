@@ -30,7 +30,10 @@ static image broken; /* refused by 10 in a version that calls one with an owned 
 static uint8_t row_numbers[2 * FIR_ROWS];
 static uint64_t row_steps[FIR_ROWS];
 
+static fir_row rows[FIR_REGISTERS];
+
 static void nothing(void) { }
+static void watch(void) { fir_watch(LENT(tried), &midway, rows, FIR_REGISTERS); }
 static void check(void) { fir_check(tried.bytes, tried.length); }
 static void loads(void) { fir_load(tried.bytes, tried.length, tried.table, sizeof tried.table); }
 static void report(void) { fir_report(tried.bytes, tried.length, text, sizeof text); }
@@ -169,7 +172,7 @@ int main(void)
         void (*function)(void);
     } calls[] = {{"fir_check", check}, {"fir_load", loads}, {"fir_report", report}, {"fir_begin", begin}, {"fir_step", step},
                  {"fir_budget", budget}, {"fir_run", run}, {"fir_change", change}, {"fir_look", look},
-                 {"fir_search", search}, {"fir_check_in", check_in}, {"fir_report_in", report_in}, {"fir_widen", widen},
+                 {"fir_watch", watch}, {"fir_search", search}, {"fir_check_in", check_in}, {"fir_report_in", report_in}, {"fir_widen", widen},
                  {"fir_narrow", narrow}, {"fir_join", join}, {"fir_mend", mend}, {"fir_bounds", bounds}, {"fir_where", where},
                  {"fir_trail_start", trail_start}, {"fir_trail_step", trail_step}, {"fir_trail_budget", trail_budget},
                  {"fir_trail_back", trail_back}, {"fir_trail_change", trail_change},

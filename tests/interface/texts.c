@@ -6,7 +6,7 @@
 #include "images.h"
 
 enum {
-    QUESTIONS = 21, /* 0, accepted, to 20; and 23 */
+    QUESTIONS = 21, /* 0, accepted, to 20; and 22 and 23 */
     CODES = FIR_REFUSED + 1,
     NUMBERS = 256,
     MARGIN = 8,
@@ -75,7 +75,7 @@ static void questions(void)
     size_t length;
     for (number = 0; number < NUMBERS; number++) {
         length = question_text(number, FIR_QUESTION_TEXT_BYTES);
-        same("whether a number has words", length != 0, number < QUESTIONS || number == FIR_REFUSED_JOIN);
+        same("whether a number has words", length != 0, number < QUESTIONS || number == FIR_REFUSED_ROWS || number == FIR_REFUSED_JOIN);
         if (length == 0)
             continue;
         same("the length with no place left", question_text(number, length), length);

@@ -1,10 +1,10 @@
-//! What can be seen of a state: what a place holds, where it stands, what the search of its
-//! DISPATCH comes to, and the versions of its live calls.
+//! What can be seen of a state: what a place holds, the registers of its topmost call, where it
+//! stands, what the search of its DISPATCH comes to, and the versions of its live calls.
 
 use crate::calls::{values_of, Asked};
 use crate::instruction::Instruction;
 use crate::program::{Position, Program, VERSIONS};
-use crate::state::{State, Value};
+use crate::state::{State, Value, ITEMS, REGISTERS};
 use std::collections::BTreeSet;
 
 /// Where a state stands in its image.
@@ -33,7 +33,77 @@ pub struct Search {
     pub versions: u8,
 }
 
+/// A register of the topmost call: its type, and what it holds; what it does not hold is 0.
+#[derive(Clone, Copy, PartialEq, Eq, Debug)]
+pub struct Row {
+    /// The integer.
+    pub integer: i64,
+    /// The items of the vector, 0 behind them.
+    pub items: [i64; ITEMS],
+    /// The declared type.
+    pub declared: u8,
+    /// 0 nothing, 1 an integer, 2 a vector, 3 a promise.
+    pub holds: u8,
+    /// How many items the vector has.
+    pub length: u8,
+    /// The mark of the promise's block.
+    pub mark: u8,
+}
+
 impl State {
+    /// The registers of the topmost call.
+    pub fn watch(&self, program: Program) -> Vec<Row> {
+        let newest = usize::from(self.calls).saturating_sub(1);
+        let Some(frame) = self.live_frames().get(newest) else {
+            return vec![];
+        };
+        let version = program.version(frame.function.into(), frame.version.into());
+        let Some(version) = version else {
+            return vec![];
+        };
+        let registers = (0..version.registers().min(REGISTERS)).zip(&frame.registers);
+        let rows = registers.map(|(register, value)| {
+            let declared = version.type_of(register as u8);
+            self.row(program, declared.unwrap_or(0), *value)
+        });
+        rows.collect()
+    }
+
+    /// The record of a register of a type, by what it holds.
+    fn row(&self, program: Program, declared: u8, value: Value) -> Row {
+        let mut row = Row {
+            integer: 0,
+            items: [0; ITEMS],
+            declared,
+            holds: 0,
+            length: 0,
+            mark: 0,
+        };
+        match value {
+            Value::Empty => {}
+            Value::Integer(integer) => (row.holds, row.integer) = (1, integer),
+            Value::Vector(place) => {
+                let items = self.vectors.get(usize::from(place));
+                let items = items.map_or(&[][..], |vector| vector.items());
+                (row.holds, row.length) = (2, items.len() as u8);
+                row.items[..items.len()].copy_from_slice(items);
+            }
+            Value::Promise(place) => {
+                row.holds = 3;
+                row.mark = self.mark(program, place).unwrap_or(0);
+            }
+        }
+        row
+    }
+
+    /// The mark of a promise: that of its block, in the version of its frame.
+    fn mark(&self, program: Program, place: u8) -> Option<u8> {
+        let promise = self.promises.get(usize::from(place))?;
+        let frame = self.live_frames().get(usize::from(promise.frame))?;
+        let version = program.version(frame.function.into(), frame.version.into())?;
+        Some(version.block(promise.block)?.mark())
+    }
+
     /// What a place of a live call holds, registers before names; none where there is none.
     pub fn look(&self, call: usize, place: usize) -> Option<Value> {
         let frame = self.live_frames().get(call)?;

@@ -26,13 +26,17 @@ const QUESTIONS: [&str; 21] = [
     "no step lies behind",
 ];
 
-/// What a refusal by 23 says, which follows on no number before it.
+/// What a refusal by 22 says, which follows on no number before it; nor does 23.
+const WORDS_OF_22: &str = "the list of records is too short";
+
+/// What a refusal by 23 says.
 const WORDS_OF_23: &str =
     "the joined image would break a bound of the layout, or does not fit the buffer";
 
 /// What a refusal by a question says; nothing for a number that is no question's.
 pub fn question_words(question: u8) -> &'static str {
     match question {
+        22 => WORDS_OF_22,
         23 => WORDS_OF_23,
         _ => QUESTIONS.get(usize::from(question)).copied().unwrap_or(""),
     }

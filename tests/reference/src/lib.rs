@@ -20,6 +20,7 @@
 //! | Levels of staff | [`types`], [`questions`], [`begin`], [`search`], [`monitor`] |
 //! | How long at most | [`longest`] |
 //! | Step back | [`trail`] |
+//! | Watching a call | [`watch`] |
 
 pub mod begin;
 pub mod bounds;
@@ -45,6 +46,7 @@ pub mod state;
 pub mod steps;
 pub mod trail;
 pub mod types;
+pub mod watch;
 pub mod watched;
 
 pub use begin::begin;

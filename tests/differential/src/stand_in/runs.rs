@@ -6,10 +6,10 @@ use crate::snapshot::meaning;
 use definitions::{Answer, Program, Ran, Said, State, Value};
 use library::State as Snapshot;
 use library::{
-    FirAnswer, FirEntry, FirLoaded, FirPosition, FirSaid, FirSearched, FirValue, FIR_ACCEPTED,
-    FIR_AT_BLOCK_END, FIR_AT_INSTRUCTION, FIR_IS_INTEGER, FIR_IS_PROMISE, FIR_IS_VECTOR,
-    FIR_LOADED, FIR_NOTHING, FIR_NOWHERE, FIR_OUTSIDE, FIR_REFUSED, FIR_SHORT, FIR_STEPS,
-    FIR_STUCK,
+    FirAnswer, FirEntry, FirLoaded, FirPosition, FirSaid, FirSearched, FirValue, FirWatched,
+    Register, FIR_ACCEPTED, FIR_AT_BLOCK_END, FIR_AT_INSTRUCTION, FIR_IS_INTEGER, FIR_IS_PROMISE,
+    FIR_IS_VECTOR, FIR_LOADED, FIR_NOTHING, FIR_NOWHERE, FIR_OUTSIDE, FIR_REFUSED,
+    FIR_REFUSED_ROWS, FIR_SHORT, FIR_STEPS, FIR_STUCK,
 };
 use reference::change::change_from;
 use std::slice;
@@ -253,6 +253,40 @@ unsafe extern "C" fn fir_look(state: *const Snapshot, call: usize, place: usize)
         number,
         kind,
         place,
+    }
+}
+
+#[no_mangle]
+unsafe extern "C" fn fir_watch(
+    image: *const u8,
+    image_length: usize,
+    table: *const u8,
+    table_length: usize,
+    state: *const Snapshot,
+    rows: *mut Register,
+    rows_length: usize,
+) -> FirWatched {
+    let program = program_of(image, image_length, table, table_length);
+    let shown = meaning(&*state).watch(program);
+    if rows_length < shown.len() {
+        return FirWatched {
+            filled: 0,
+            question: FIR_REFUSED_ROWS,
+        };
+    }
+    for (place, row) in shown.iter().enumerate() {
+        *rows.add(place) = Register {
+            integer: row.integer,
+            items: row.items,
+            declared: row.declared,
+            holds: row.holds,
+            length: row.length,
+            mark: row.mark,
+        };
+    }
+    FirWatched {
+        filled: shown.len() as u8,
+        question: FIR_ACCEPTED,
     }
 }
 

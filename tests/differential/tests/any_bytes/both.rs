@@ -3,7 +3,7 @@
 use definitions::{Answer, End, Program, Said, State, Value};
 use differential::snapshot::meaning;
 use generator::{Random, Tally};
-use library::{At, Held, Run, CELLS};
+use library::{At, Held, Register, Run, CELLS};
 use reference::change::change_from;
 
 /// The most events of a run.
@@ -121,6 +121,28 @@ impl<'p> Both<'p> {
         let search = search.map(|s| (usize::from(s.looked), usize::from(s.versions)));
         let found = self.found.search().map(|s| (s.looked, s.versions));
         assert_eq!(search, found, "{}: the search", self.origin);
+        self.assert_shown();
+    }
+
+    /// Asserts that the registers of the topmost call show the same.
+    #[track_caller]
+    fn assert_shown(&self) {
+        let expected = self.expected.watch(read(self.program));
+        let expected = expected.into_iter().map(|row| Register {
+            integer: row.integer,
+            items: row.items,
+            declared: row.declared,
+            holds: row.holds,
+            length: row.length,
+            mark: row.mark,
+        });
+        let expected: Vec<Register> = expected.collect();
+        assert_eq!(
+            expected,
+            self.found.topmost(),
+            "{}: the topmost call",
+            self.origin
+        );
     }
 
     /// Asserts that each place of a call shows the same.

@@ -43,3 +43,4 @@ mod steps_stuck;
 mod steps_values;
 mod steps_vectors;
 mod types;
+mod watching;
