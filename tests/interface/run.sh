@@ -116,8 +116,10 @@ stepper() {
     with_status "$@" "$out/stepper" "$out/short.fir" </dev/null
 }
 
+# The service screen with its own image, and with one that is cut short.
 service() {
     with_status "$@" "$out/service"
+    with_status "$@" "$out/service" "$out/short.fir"
 }
 
 example controller

@@ -76,6 +76,7 @@ void fir_trail_budget_at(fir_answer *to, const slice *image, const slice *table,
 void fir_trail_change_at(fir_entry *to, const slice *old_image, const slice *new_image, const fir_state *state, fir_trail *trail);
 void fir_trail_back_at(fir_entry *to, const slice *image, const slice *table, fir_state *state, fir_trail *trail);
 void fir_look_at(fir_value *to, const fir_state *state, uint64_t call, uint64_t place);
+void fir_watch_at(fir_watched *to, const slice *image, const slice *table, const fir_state *state, const slice *rows);
 void fir_search_at(fir_searched *to, const slice *image, const slice *table, const fir_state *state);
 void fir_where_at(wide_position *to, const slice *image, const slice *table, const fir_state *state);
 
@@ -334,6 +335,17 @@ fir_value fir_look(const fir_state *state, size_t call, size_t place)
 {
     fir_value to;
     fir_look_at(&to, state, call, place);
+    return to;
+}
+
+fir_watched fir_watch(const uint8_t *image, size_t image_length, const uint8_t *table, size_t table_length, const fir_state *state,
+                      fir_row *rows, size_t rows_length)
+{
+    const slice bytes = lent(image, image_length);
+    const slice places = lent(table, table_length);
+    const slice records = lent(rows, rows_length);
+    fir_watched to;
+    fir_watch_at(&to, &bytes, &places, state, &records);
     return to;
 }
 

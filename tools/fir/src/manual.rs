@@ -179,6 +179,8 @@ of the image, past which no run goes back.
                     from an end
   at N              goes to the state after N steps, from the start
   change FILE    c  goes on under the image of another file, unless it is refused
+  call           t  the topmost call, which is the newest one: its registers with their
+                    types and what they hold
   stack          k  the calls and forces, with their registers and names; also by
                     `where` and `registers`
   vectors        v  the vectors, and who holds them

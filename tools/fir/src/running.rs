@@ -151,7 +151,7 @@ impl<'s> Going<'s> {
             .stats
             .then(|| bounds::of_entry(&source.image, call.entry));
         Going {
-            recorder: page.then(|| Recorder::new(source, call, run.state())),
+            recorder: page.then(|| Recorder::new(source, call, &run)),
             run,
             source,
             steps: 0,

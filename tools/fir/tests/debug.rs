@@ -85,6 +85,31 @@ fn step_prints_what_it_did_and_where_the_run_stands() {
 }
 
 #[test]
+fn call_shows_the_topmost_call_with_types() {
+    let lines = printed(&["call"]);
+    assert_eq!(
+        lines,
+        [
+            "the topmost call is of 0.0",
+            "  r0  own vector         [5, 6]",
+            "  r1  int                empty",
+            "  r2  int                empty",
+        ]
+    );
+    let forced = printed(&["at 6", "t"]);
+    assert_eq!(
+        forced[1..],
+        [
+            "the topmost call is of 2.0",
+            "  r0  quiet promise      a promise, quiet",
+            "  r1  int                empty",
+        ],
+        "while a block of 1.0 is forced"
+    );
+    assert_eq!(printed(&["run", "call"])[1..], ["no call is live"]);
+}
+
+#[test]
 fn an_empty_line_repeats_the_last_command() {
     let lines = printed(&["", "step", "", "", "at 1", ""]);
     let moved = lines

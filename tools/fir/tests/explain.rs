@@ -6,7 +6,7 @@ use support::fir;
 
 /// The refusals there are.
 fn refusals() -> impl Iterator<Item = u8> {
-    (1..=20).chain([23])
+    (1..=20).chain([22, 23])
 }
 
 /// What `fir explain` prints of a refusal.
@@ -24,7 +24,7 @@ fn each_refusal_has_its_own_section_with_a_wrong_script_and_a_mended_one() {
         assert!(text.starts_with(&format!("{number}: ")), "{text}");
         let wrong = format!("refused by {number} at ");
         let (_, behind) = text.split_once(&wrong).expect("a wrong script");
-        let mended = ["Checked, accepted:", ", DONE ", " bytes:"];
+        let mended = ["Checked, accepted:", ", DONE ", " bytes:", " registers:"];
         assert!(mended.iter().any(|words| behind.contains(words)), "{text}");
     }
 }
@@ -61,7 +61,7 @@ fn without_a_number_all_are_listed_in_the_order_of_the_questions() {
     };
     let numbers: Vec<u8> = text.lines().filter_map(number).collect();
     let order = [
-        1, 2, 3, 4, 5, 6, 7, 14, 8, 18, 9, 10, 11, 19, 12, 13, 15, 16, 17, 20, 23,
+        1, 2, 3, 4, 5, 6, 7, 14, 8, 18, 9, 10, 11, 19, 12, 13, 15, 16, 17, 20, 22, 23,
     ];
     assert_eq!(numbers, order);
     assert!(

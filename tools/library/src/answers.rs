@@ -14,7 +14,7 @@ use crate::raw::{
 /// A no: the question, and the offset of the first record that fails.
 #[derive(Clone, Copy, PartialEq, Eq, Debug)]
 pub struct Refusal {
-    /// The question, 1 to 20, or 23.
+    /// The question, 1 to 20, 22 or 23.
     pub question: u8,
     /// The offset of the record; the image's length where records or, by 15, a
     /// version are missing.

@@ -71,6 +71,8 @@ pub const FIR_REFUSED_LITERAL: u8 = 16;
 pub const FIR_REFUSED_ROOM: u8 = 17;
 /// A step lies behind the state.
 pub const FIR_REFUSED_BACK: u8 = 20;
+/// The list has a record for each register of the topmost call.
+pub const FIR_REFUSED_ROWS: u8 = 22;
 /// The joined image has at most 32,768 bytes, 32 functions and 64 versions and fits the
 /// buffer.
 pub const FIR_REFUSED_JOIN: u8 = 23;

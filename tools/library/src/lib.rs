@@ -22,6 +22,7 @@ mod raw;
 mod run;
 mod state;
 mod trail;
+mod watching;
 mod words;
 
 pub use answers::{
@@ -38,9 +39,10 @@ pub use program::{load, table_size, Program};
 #[cfg(feature = "stand_in")]
 pub use raw::{
     FirAnswer, FirEntry, FirJoined, FirLoaded, FirMended, FirPosition, FirSaid, FirSearched,
-    FirValue, FirVerdict, FirVersions,
+    FirValue, FirVerdict, FirVersions, FirWatched,
 };
 pub use run::{Entry, Run, FACTORY, PORTAL, STAFF};
 pub use state::{version, State, Versions, ACTIVATION, CELLS, OWNER, PROMISE, SPARE};
 pub use trail::{Kept, Trail};
+pub use watching::Register;
 pub use words::{answer_text, question_text};

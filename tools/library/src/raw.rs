@@ -2,6 +2,7 @@
 
 use crate::state::State;
 use crate::trail::Kept;
+use crate::watching::Register;
 
 /// A verdict: `FIR_ACCEPTED` and the number of versions, of a move the length of the
 /// moved image, of bounds the number of rows, or a question and its offset.
@@ -111,6 +112,15 @@ pub struct FirSearched {
     pub looked: u8,
     /// How many versions the function has.
     pub versions: u8,
+}
+
+/// How many records were filled, or 0 and the question that refuses.
+#[repr(C)]
+pub struct FirWatched {
+    /// How many records were filled.
+    pub filled: u8,
+    /// `FIR_ACCEPTED` or `FIR_REFUSED_ROWS`.
+    pub question: u8,
 }
 
 /// Where a state stands in its image.
@@ -284,6 +294,15 @@ extern "C" {
         trail: *mut Kept,
     ) -> FirEntry;
     pub fn fir_look(state: *const State, call: usize, place: usize) -> FirValue;
+    pub fn fir_watch(
+        image: *const u8,
+        image_length: usize,
+        table: *const u8,
+        table_length: usize,
+        state: *const State,
+        rows: *mut Register,
+        rows_length: usize,
+    ) -> FirWatched;
     pub fn fir_search(
         image: *const u8,
         image_length: usize,

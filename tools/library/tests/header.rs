@@ -73,6 +73,7 @@ fn bounds_and_questions() -> Vec<(&'static str, usize)> {
         FIR_REFUSED_LITERAL,
         FIR_REFUSED_ROOM,
         FIR_REFUSED_BACK,
+        FIR_REFUSED_ROWS,
         FIR_REFUSED_JOIN,
     ];
     [&bounds[..], &questions].concat()

@@ -2,8 +2,9 @@
 //! has its section, and what the document names stands in the definitions.
 
 use cases::exact;
-use reference::bounds::{Steps, BUFFER, MAX_IMAGE};
+use reference::bounds::{Steps, BUFFER, MAX_IMAGE, REGISTERS};
 use reference::questions::QUESTIONS;
+use reference::watch::TOO_SHORT;
 use reference::watched::Watched;
 use reference::{
     bounds_of, change, join, mend, move_from, report, verdict, Answer, Bound, End, Form, Integer,
@@ -16,7 +17,7 @@ use std::path::{Path, PathBuf};
 const DOCUMENT: &str = include_str!("../../../docs/LANGUAGE.md");
 
 /// The questions that are not put to an image, in the order in which they are put.
-const FURTHER: [u8; 9] = [11, 19, 12, 13, 15, 16, 17, 20, 23];
+const FURTHER: [u8; 10] = [11, 19, 12, 13, 15, 16, 17, 20, 22, 23];
 
 /// The most steps of a run.
 const BUDGET: Steps = 1000;
@@ -73,6 +74,9 @@ enum Trial<'t> {
     Changed(Steps),
     /// A step back after so many steps of a run by these words, and then on to its end.
     Back(Steps, &'t str),
+    /// A watch of the topmost call after so many steps of a run by these words, into a list of
+    /// so many records.
+    Watched(Steps, &'t str, usize),
     /// A move to 32 bits, into a buffer of so many places.
     Moved(usize),
     /// So many joins with itself, into a buffer of so many places.
@@ -105,6 +109,13 @@ fn trial(caption: &str) -> Option<(Trial<'_>, &str)> {
         let (words, said) = rest.split_once("`, ")?;
         let steps = steps.split(' ').next()?.parse().ok()?;
         return Some((Trial::Back(steps, words), said));
+    }
+    if let Some(rest) = caption.strip_prefix("Watched after ") {
+        let (steps, rest) = rest.split_once(" of `")?;
+        let (words, rest) = rest.split_once('`')?;
+        let (records, said) = places(rest, " in a list of ", REGISTERS)?;
+        let steps = steps.split(' ').next()?.parse().ok()?;
+        return Some((Trial::Watched(steps, words, records), said));
     }
     if let Some(rest) = caption.strip_prefix("Moved to 32 bits") {
         let (places, said) = places(rest, " into a buffer of ", MAX_IMAGE)?;
@@ -219,6 +230,20 @@ impl Run {
         ended(state, &Program::accept(new)?, steps)
     }
 
+    /// How many registers a list of so many records shows once so many steps are taken.
+    fn outcome_watched(&self, steps: Steps, records: usize) -> Result<String, Refusal> {
+        let (program, state) = self.begin()?;
+        let (state, ..) = state.budget(&program, steps, &mut [0; BUFFER]);
+        let shown = state.watch(&program).len();
+        if records < shown {
+            return Err(Refusal {
+                number: TOO_SHORT,
+                offset: 0,
+            });
+        }
+        Ok(format!("{shown} registers"))
+    }
+
     /// What comes of it where a step back is taken once so many steps are.
     fn outcome_behind(&self, steps: Steps) -> Result<String, Refusal> {
         let (program, state) = self.begin()?;
@@ -303,6 +328,10 @@ fn outcome(trial: &Trial, image: Vec<u8>, run: &mut Option<Run>) -> Result<Strin
         Trial::Changed(steps) => {
             let run = run.as_ref().expect("a run before the change");
             run.outcome_under(&image, steps)
+        }
+        Trial::Watched(steps, words, records) => {
+            let asked = asked(words, BUFFER);
+            Run { image, asked }.outcome_watched(steps, records)
         }
         Trial::Back(steps, words) => {
             let asked = asked(words, BUFFER);

@@ -87,6 +87,7 @@ fn obey(session: &mut Session, order: &Order, streams: &mut Streams) -> Result<(
             }
         }
         Order::Change(ref file) => change(session, file, streams)?,
+        Order::Call => return show::call(session, streams),
         Order::Stack => return show::stack(session, streams),
         Order::Vectors => return show::vectors(session.state(), session.program(), streams),
         Order::Promises => return show::promises(session.state(), streams),

@@ -35,6 +35,8 @@ pub enum Order {
     At(u32),
     /// `change FILE`
     Change(String),
+    /// `call`
+    Call,
     /// `stack`
     Stack,
     /// `vectors`
@@ -89,6 +91,7 @@ fn plain(name: &str) -> Option<Order> {
         "next" | "n" => Order::Next,
         "out" | "o" => Order::Out,
         "run" | "r" => Order::Run,
+        "call" | "t" => Order::Call,
         "stack" | "k" | "where" | "registers" => Order::Stack,
         "vectors" | "v" => Order::Vectors,
         "promises" | "p" => Order::Promises,

@@ -10,7 +10,9 @@ use crate::source::Source;
 use crate::streams::Streams;
 use crate::telling;
 use crate::trace::{self, Spot};
-use library::{Opener, Ran, Refusal, Run, State, Trail, FIR_ITEMS, FIR_REFUSED_BACK, FIR_STEPS};
+use library::{
+    Opener, Ran, Refusal, Register, Run, State, Trail, FIR_ITEMS, FIR_REFUSED_BACK, FIR_STEPS,
+};
 use reference::program::Program;
 use std::rc::Rc;
 
@@ -48,6 +50,11 @@ impl Session {
     /// The state.
     pub fn state(&self) -> &State {
         self.trail.state()
+    }
+
+    /// The registers of the topmost call.
+    pub fn topmost(&self) -> Vec<Register> {
+        self.trail.topmost()
     }
 
     /// The steps taken, which are never more than the budget.

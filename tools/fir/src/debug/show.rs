@@ -4,12 +4,41 @@ use super::session::Session;
 use crate::failure::Failure;
 use crate::streams::Streams;
 use crate::trace::{cell_name, value, Holdings};
-use library::{Held, Opener, State, CELLS, FIR_PLACES, FIR_REGISTERS};
+use library::{
+    Held, Opener, Register, State, CELLS, FIR_IS_INTEGER, FIR_IS_PROMISE, FIR_IS_VECTOR,
+    FIR_PLACES, FIR_REGISTERS,
+};
 use reference::program::Program;
 use reference::Type;
+use text::type_text;
 
 /// How many lines `list` shows before and behind the one where the run stands.
 const AROUND: usize = 5;
+
+/// The topmost call: each register with its type and what it holds, as the library shows it.
+pub fn call(session: &Session, streams: &mut Streams) -> Result<(), Failure> {
+    let newest = usize::from(session.state().calls).checked_sub(1);
+    let Some((function, version)) = newest.and_then(|call| session.state().owner(call)) else {
+        return streams.line("no call is live");
+    };
+    streams.line(&format!("the topmost call is of {function}.{version}"))?;
+    for (register, row) in session.topmost().iter().enumerate() {
+        let (name, ty) = (cell_name(register), type_text(Type(row.declared)));
+        streams.line(&format!("  {name:<3} {ty:<18} {}", shown(row)))?;
+    }
+    Ok(())
+}
+
+/// What a register holds.
+fn shown(row: &Register) -> String {
+    match row.holds {
+        FIR_IS_INTEGER => row.integer.to_string(),
+        FIR_IS_VECTOR => format!("{:?}", row.vector()),
+        FIR_IS_PROMISE if row.mark == 0 => "a promise, quiet".to_string(),
+        FIR_IS_PROMISE => "a promise, reflective".to_string(),
+        _ => "empty".to_string(),
+    }
+}
 
 /// The calls and forces, the newest first; each call with its registers and names.
 pub fn stack(session: &Session, streams: &mut Streams) -> Result<(), Failure> {

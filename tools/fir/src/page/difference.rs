@@ -5,14 +5,22 @@
 //! held, `p0` a promise. A register that is declared and empty shows an empty text.
 
 use crate::trace::{cell_name, value, Holdings, Spot};
-use library::{Held, Opener, State, CELLS, FIR_PLACES};
+use library::{Held, Opener, Register, State, CELLS, FIR_IS_INTEGER, FIR_NOTHING, FIR_PLACES};
 use reference::program::Program;
 
 /// Places with what they show now; none where nothing is shown there any more.
 pub type Difference = Vec<(String, Option<String>)>;
 
+/// A state, and the registers of its topmost call as the library shows them.
+#[derive(Clone, Copy)]
+pub struct Seen<'s> {
+    pub state: &'s State,
+    pub topmost: &'s [Register],
+}
+
 /// What differs from one state to another.
-pub fn difference(program: &Program, before: &State, after: &State) -> Difference {
+pub fn difference(program: &Program, was: Seen, is: Seen) -> Difference {
+    let (before, after) = (was.state, is.state);
     let mut differs = Difference::new();
     for call in 0..usize::from(before.calls.max(after.calls)) {
         let name = |state: &State| state.owner(call).map(|(f, v)| format!("{f}.{v}"));
@@ -21,9 +29,9 @@ pub fn difference(program: &Program, before: &State, after: &State) -> Differenc
             if before.look(call, place) == after.look(call, place) && same(before, after, call) {
                 continue;
             }
-            let shows = |state| cell(program, state, call, place);
+            let shows = |seen| cell(program, seen, call, place);
             let name = format!("c{call}.{}", cell_name(place));
-            add(&mut differs, name, shows(before), shows(after));
+            add(&mut differs, name, shows(was), shows(is));
         }
     }
     for number in 0..usize::from(before.depth.max(after.depth)) {
@@ -40,11 +48,11 @@ pub fn difference(program: &Program, before: &State, after: &State) -> Differenc
     let (old, new) = (Holdings::of(before), Holdings::of(after));
     for place in 0..FIR_PLACES {
         let shows = |state, held: &Holdings| vector(state, held, place);
-        let (was, is) = (shows(before, &old), shows(after, &new));
-        add(&mut differs, format!("v{place}"), was, is);
+        let (old_text, new_text) = (shows(before, &old), shows(after, &new));
+        add(&mut differs, format!("v{place}"), old_text, new_text);
         let shows = |state, held: &Holdings| promise(state, held, place);
-        let (was, is) = (shows(before, &old), shows(after, &new));
-        add(&mut differs, format!("p{place}"), was, is);
+        let (old_text, new_text) = (shows(before, &old), shows(after, &new));
+        add(&mut differs, format!("p{place}"), old_text, new_text);
     }
     differs
 }
@@ -62,9 +70,17 @@ fn same(before: &State, after: &State, call: usize) -> bool {
 }
 
 /// What a register or a name of a call shows.
-fn cell(program: &Program, state: &State, call: usize, place: usize) -> Option<String> {
+fn cell(program: &Program, seen: Seen, call: usize, place: usize) -> Option<String> {
+    let state = seen.state;
     let (function, version) = state.owner(call)?;
-    match state.look(call, place)? {
+    let held = state.look(call, place)?;
+    let newest = call + 1 == usize::from(state.calls);
+    match seen.topmost.get(place).filter(|_| newest) {
+        Some(row) if row.holds == FIR_NOTHING => return Some(String::new()),
+        Some(row) if row.holds == FIR_IS_INTEGER => return Some(row.integer.to_string()),
+        _ => {}
+    }
+    match held {
         Held::Nothing => {
             let version = program.version(function.into(), version.into())?;
             let declared = place < version.head.types.len();

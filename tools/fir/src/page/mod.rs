@@ -9,8 +9,8 @@ use crate::command::Call;
 use crate::json::Json;
 use crate::source::Source;
 use crate::trace::{Spot, Step};
-use difference::{difference, Difference};
-use library::{Entry, State};
+use difference::{difference, Difference, Seen};
+use library::{Entry, Run, State};
 use reference::program::Program;
 use reference::Level;
 use std::collections::BTreeMap;
@@ -67,11 +67,21 @@ pub struct Recorder {
 
 impl Recorder {
     /// That of a run before its first step.
-    pub fn new(source: &Source, call: &Call, state: &State) -> Recorder {
+    pub fn new(source: &Source, call: &Call, run: &Run) -> Recorder {
         let shown = Shown::new(source);
+        let (state, topmost) = (run.state(), run.topmost());
+        let blank = State::blank();
+        let none = Seen {
+            state: &blank,
+            topmost: &[],
+        };
+        let first = Seen {
+            state,
+            topmost: &topmost,
+        };
         let mut recorder = Recorder {
             title: title(source, call),
-            start: difference(&shown.program, &State::blank(), state),
+            start: difference(&shown.program, none, first),
             shown: vec![shown],
             places: BTreeMap::new(),
             steps: Vec::new(),
@@ -105,7 +115,15 @@ impl Recorder {
     pub fn record(&mut self, step: &Step, after: &State) {
         let program = &self.shown[self.shown.len() - 1].program;
         let did = step.spot().map(|spot| step.did(after, &spot));
-        let differs = difference(program, &step.before, after);
+        let was = Seen {
+            state: &step.before,
+            topmost: &step.topmost,
+        };
+        let is = Seen {
+            state: after,
+            topmost: &step.left,
+        };
+        let differs = difference(program, was, is);
         self.steps.push(Json::List(vec![
             self.standing.into(),
             step.before.depth.into(),

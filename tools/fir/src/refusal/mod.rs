@@ -279,6 +279,7 @@ pub fn rule(question: u8) -> &'static str {
         16 => "every literal of an image that is moved fits 32 bits",
         17 => "a moved image has at most 32,768 bytes and fits the buffer",
         20 => "a step lies behind the state",
+        22 => "a list has a record for each register of the topmost call",
         23 => "a joined image has at most 32,768 bytes, 32 functions and 64 versions and fits the buffer",
         _ => "no question has this number",
     }
@@ -299,7 +300,7 @@ mod tests {
     fn a_refusal_that_no_diagnosis_explains_gets_the_rule() {
         let text = "version 0.0(r0: int) -> int\nlevel portal\nblock 0 quiet -> r0";
         let image = text::assemble(text).expect("a text that is well formed");
-        for question in (1..=20).chain([23]) {
+        for question in (1..=20).chain([22, 23]) {
             for offset in [0, 11, 16, 23, 400_000] {
                 let expected = format!("refused by {question} at {offset}: {}", rule(question));
                 assert_eq!(said(&image, question, offset), expected);

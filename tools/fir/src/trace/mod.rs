@@ -13,7 +13,7 @@ use crate::json::Json;
 use crate::place::{beginning, Position};
 use crate::single::{Single, Stepped};
 use crate::source::Source;
-use library::{Run, Search, State, FIR_UNDEF};
+use library::{Register, Run, Search, State, FIR_UNDEF};
 use reference::program::Program;
 
 /// What is done with each step that counts, and the state that it leaves.
@@ -30,15 +30,18 @@ pub fn steps(
     let program = Program::ordered(run.seen().image()).ok();
     let mut steps = taken;
     while steps < wished {
-        let step = Step {
+        let mut step = Step {
             number: steps + 1,
             before: run.seen().state().clone(),
+            topmost: run.seen().topmost(),
+            left: Vec::new(),
             search: run.seen().search(),
             program: program.as_ref(),
         };
         let single = Single::take(run);
         if single.counts {
             steps = step.number;
+            step.left = run.seen().topmost();
             watch(&step, run.seen().state())?;
         }
         if !single.goes_on {
@@ -54,6 +57,9 @@ pub struct Step<'p> {
     pub number: u32,
     /// The state before it.
     pub before: State,
+    /// The registers of the topmost call before it, and those behind it.
+    pub topmost: Vec<Register>,
+    pub left: Vec<Register>,
     /// What its search came to, if it was a DISPATCH.
     pub search: Option<Search>,
     program: Option<&'p Program>,
