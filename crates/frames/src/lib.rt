@@ -35,6 +35,7 @@ fn drop_frame(bytes: &[u8; 2632], numbers: &[i64; 2129], counts: &mut [u16; 800]
 }
 
 /// The newest call ends, whose activation is on top.
+/// Requires `Ready` counts and that activation: the loop keeps both, and to count again would cost each end of a call.
 pub fn close_call(bytes: &mut [u8; 2632], numbers: &[i64; 2129], counts: &mut [u16; 800])
     requires { ⌜ Ready (now bytes) (now numbers) (now counts) × Ending (now bytes) ⌝ }
     ensures { λ _. ⌜ Leaves (now (bytes .exit)) (now (numbers .entry)) (now (counts .exit)) (withLess (stateIn (now (bytes .entry)) (now (numbers .entry))) (now (bytes .entry) ! CALLS - 1)) ⌝ }
@@ -47,6 +48,7 @@ pub fn close_call(bytes: &mut [u8; 2632], numbers: &[i64; 2129], counts: &mut [u
 }
 
 /// The force of the promise `p` ends, which is on top.
+/// Requires `Ready` counts and that force: the loop keeps both, and to count again would cost each end of a force.
 pub fn close_force(bytes: &mut [u8; 2632], numbers: &[i64; 2129], counts: &mut [u16; 800], p: u8)
     requires { ⌜ Ready (now bytes) (now numbers) (now counts) × Forcing (now bytes) p ⌝ }
     ensures { λ _. ⌜ Leaves (now (bytes .exit)) (now (numbers .entry)) (now (counts .exit)) (withLess (stateIn (now (bytes .entry)) (now (numbers .entry))) (now (bytes .entry) ! CALLS)) ⌝ }
@@ -69,6 +71,7 @@ fn clear(bytes: &mut [u8; 2632], k: usize)
 }
 
 /// Opens a frame of the version, as `Frame::new` makes it, behind those of the live calls.
+/// Requires `Ready` counts and fewer than 32 calls: `enter` has asked for DEEP, and to count again would cost each call.
 pub fn open(
     bytes: &mut [u8; 2632],
     numbers: &[i64; 2129],
@@ -121,6 +124,7 @@ fn add_frames(bytes: &[u8; 2632], numbers: &[i64; 2129], counts: &mut [u16; 800]
 }
 
 /// Makes counts of nothing those of the state.
+/// Requires counts of nothing: the loop makes them so once in a budget, and to clear them here would do it twice.
 pub fn tally(bytes: &[u8; 2632], numbers: &[i64; 2129], counts: &mut [u16; 800])
     requires { ⌜ Nothing (now counts) × Sized (now bytes) (now numbers) ⌝ }
     ensures { λ _. ⌜ Ready (now (bytes .entry)) (now (numbers .entry)) (now (counts .exit)) ⌝ }

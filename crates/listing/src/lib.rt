@@ -68,6 +68,7 @@ fn fill(
 }
 
 /// VEC d rs.
+/// Requires `Ready` counts and a live frame: the loop keeps both, and to count again would cost each step.
 pub fn vec(
     bytes: &mut [u8; 2632],
     numbers: &mut [i64; 2129],
@@ -156,6 +157,7 @@ fn empty(
 
 /// Opens the frame of a call, whose arguments are the registers `rs` of the frame `k`; bit i of `owned` is set where argument i goes to an
 /// owned parameter. DEEP: there are 32 activations.
+/// Requires `Ready` counts, a live frame and arguments that are there: the loop and `choose` keep them, and a test would cost each call.
 pub fn enter(
     bytes: &mut [u8; 2632],
     numbers: &mut [i64; 2129],

@@ -113,6 +113,7 @@ fn register_kind(image: &[u8], table: &[u8], bytes: &[u8; 2632], k: usize, r: u8
 // ---- types
 
 /// Is what the register `a` of the frame `k` holds of a kind within that of the register `d` of the version `own`? For MOVE and CAST.
+/// Requires a frame below 32: the loop has asked it of the frame that is worked on, and a test would cost each step.
 pub fn typed(
     image: &[u8],
     table: &[u8],
@@ -143,6 +144,7 @@ pub fn typed(
 }
 
 /// Is what the register `r` of the frame `k` holds of the kind that the version `own` returns? For the ends of calls.
+/// Requires a frame below 32: the loop has asked it of the frame that is worked on, and a test would cost each end of a call.
 pub fn returned(image: &[u8], table: &[u8], bytes: &[u8; 2632], k: usize, own: u8, r: u8) -> Typed
     requires { ⌜ k < 32 ⌝ }
     ensures { λ x. ⌜ Returned x (now (image .entry)) (now (table .entry)) (now (bytes .entry)) k own r ⌝ }
@@ -164,6 +166,7 @@ pub fn returned(image: &[u8], table: &[u8], bytes: &[u8; 2632], k: usize, own: u
 // ---- arguments
 
 /// The `n` registers that a CALL or a DISPATCH lists, into `rs`: the byte of the image at `at` and each that stands `step` behind.
+/// Requires a place of the table and at most 8 registers: the caller has read both by then, and a test would cost each call.
 pub fn listed(image: &[u8], at: usize, step: usize, n: usize, rs: &mut [u8; 8])
     requires { ⌜ (at < 131072) × (step < 3) × (n ≤ 8) × (length (now rs) ≡ 8) ⌝ }
     ensures { λ _. ⌜ (take n (now (rs .exit)) ≡ every (now (image .entry)) at step n) × (length (now (rs .exit)) ≡ 8) ⌝ }
@@ -178,6 +181,7 @@ pub fn listed(image: &[u8], at: usize, step: usize, n: usize, rs: &mut [u8; 8])
 }
 
 /// The code of the kinds of what the first `n` of the registers `rs` of the frame `k` hold: two bits for each; 65536 where one has none.
+/// Requires a frame below 32 and at most 8 registers: the caller has asked both, and a test would cost each call.
 pub fn code_of(
     image: &[u8],
     table: &[u8],
@@ -203,6 +207,7 @@ pub fn code_of(
 }
 
 /// The kinds of `n` arguments by their code.
+/// Requires at most 8 arguments: the caller has asked it, and a test would cost each call.
 pub fn kinds_in(code: u16, n: usize) -> [u8; 8]
     requires { ⌜ n ≤ 8 ⌝ }
     ensures { λ r. ⌜ take n r ≡ kindsIn code n ⌝ }
@@ -355,6 +360,7 @@ fn keep(cache: &mut [u16; 256], i: usize, place: u16, key: u16, code: u16, to: u
 
 /// What the CALL or DISPATCH calls whose registers are the first ones of `rs`. The cache says of codes of kinds what they led to before;
 /// it is empty, 0 everywhere, at the start of a budget.
+/// Requires a cache that says what is so: the loop keeps it from its start, and to ask what it says would be to search again.
 pub fn choose(
     image: &[u8],
     table: &[u8],
@@ -397,6 +403,7 @@ pub fn choose(
 // ---- 02, request 4
 
 /// How many versions the DISPATCH at the place `p`, in the version `own`, looks at with arguments of these kinds.
+/// Requires at most 8 arguments: `searches` has asked it, and `kinds` has room for no more.
 pub fn searched(image: &[u8], table: &[u8], own: u8, p: u16, kinds: &[u8; 8], n: usize) -> u8
     requires { ⌜ (n ≤ 8) × (n ≤ length (now kinds)) ⌝ }
     ensures { λ r. ⌜ r ≡ searchedAt (now (image .entry)) (now (table .entry)) own p (take n (now (kinds .entry))) ⌝ }
