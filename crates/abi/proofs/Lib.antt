@@ -10,3 +10,5 @@ pub mod Structs
 pub mod Texts
 pub mod TrailLent
 pub mod Trailing
+pub mod Pooling
+pub mod PoolLent

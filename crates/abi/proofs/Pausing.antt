@@ -9,9 +9,10 @@ use lib.ListN.{length}
 use lib.Dec.{leb}
 use borrow.Author.Tests.{le-leb, lt-leb}
 use Rattle.program.specs.Program.{Program, Version, findVersion, parameterTypes}
+use Rattle.machine.specs.Allowed.{budgetInWith, budgetWith, runWith, stepWith}
 use Rattle.machine.specs.Begin.{Given, arguments, enteredOf, question11, question12, question13, question19, refused, runAfterTo, runLevel}
-use Rattle.machine.specs.Runs.{budgetIn, budgetInTo, budgetOf, budgetOfTo, bufferOf, continued, longEnough, runFrom, runFromTo, saying, stepOf, written}
-use Rattle.machine.specs.States.{over}
+use Rattle.machine.specs.Runs.{budgetIn, budgetOf, budgetOfTo, bufferOf, continued, longEnough, saying, stepOf, written}
+use Rattle.machine.specs.States.{VECTORS, over}
 use Rattle.machine.specs.Values.{RANGE}
 use Rattle.machine.specs.declared.Answer.{Answer}
 use Rattle.machine.specs.declared.Begun.{Begun}
@@ -21,13 +22,14 @@ use Rattle.machine.specs.declared.Said.{Said}
 use Rattle.machine.specs.declared.State.{State}
 use Rattle.machine.specs.declared.Status.{Status}
 use Rattle.machine.specs.declared.Stepped.{Stepped}
+use Rattle.runs.proofs.Caps.{budget-64}
 use Rattle.runs.proofs.Lives.{refused-begun}
 use Rattle.store.specs.Store.{stateIn}
 use Rattle.loaded.specs.Loaded.{programIn}
 use Rattle.loaded.specs.Running.{runInTo}
 use Rattle.begin.specs.Asking.{Begins, enteredAt}
 use Rattle.begin.specs.declared.Entrance.{Entrance}
-use Rattle.running.specs.Budgets.{Resumes, Steps as Stepping, answerOf, saidOf}
+use Rattle.running.specs.Budgets.{Resumes, ResumesTo, Steps as Stepping, answerOf, outcomeIn, saidOf}
 use Rattle.running.specs.declared.Counted.{Counted}
 use Rattle.running.specs.declared.Pause.{Pause}
 use Rattle.abi.specs.Answers.{answerNumbers, answerWith, saidNumbers}
@@ -81,7 +83,7 @@ Stuck Answer.Steps = ⊥
 Stuck (Answer.Ended e) = ⊥
 Stuck Answer.Stuck = Unit {0}
 
-unfoldable StuckSaid : Said → Type 0
+unfoldable pub StuckSaid : Said → Type 0
 StuckSaid Said.GoesOn = ⊥
 StuckSaid (Said.Ended e) = ⊥
 StuckSaid Said.Stuck = Unit {0}
@@ -93,7 +95,7 @@ answer-stuck Pause.Stuck st h = refl
 answer-stuck Pause.Ended Status.Running h = absurd h
 answer-stuck Pause.Ended (Status.Ended e) h = absurd h
 
-said-stuck : (p : Pause) (st : Status) → StuckSaid (saidOf p st) → p ≡ Pause.Stuck
+pub said-stuck : (p : Pause) (st : Status) → StuckSaid (saidOf p st) → p ≡ Pause.Stuck
 unfolding saidOf StuckSaid
 said-stuck Pause.Steps st h = absurd h
 said-stuck Pause.Stuck st h = refl
@@ -104,13 +106,34 @@ stuck-is : (a : Answer) → a ≡ Answer.Stuck → Stuck a
 unfolding Stuck
 stuck-is a e = subst Stuck (sym e) tt
 
-stuck-said-is : (w : Said) → w ≡ Said.Stuck → StuckSaid w
+pub stuck-said-is : (w : Said) → w ≡ Said.Stuck → StuckSaid w
 unfolding StuckSaid
 stuck-said-is w e = subst StuckSaid (sym e) tt
 
 -- the same arrays are the same memory
 pub same-memory : {b b′ : List ℕ} {n n′ : List ℤ} → (b′ ≡ b) × (n′ ≡ n) → stored b′ n′ ≡ stored b n
 same-memory h = λ i. stored (h .0 i) (h .1 i)
+
+-- ---- a budget that was taken, whatever it comes to
+
+module _ (b : List ℕ) (n : List ℤ) (b′ : List ℕ) (n′ : List ℤ) (m : ℕ) (buffer : List ℤ) (r : Counted) (last : List ℤ) {x u : Ran} {a : FirAnswer} where
+  pub resumed : x ≡ outcomeIn r b′ n′ → ResumesTo u r b n b′ n′ m
+      → (a ≡ answerNumbers (answerOf (r .pause) (stateIn b′ n′ .status)) (r .steps)) × (last ≡ over (written (stateIn b′ n′ .result) (answerOf (r .pause) (stateIn b′ n′ .status))) buffer)
+      → Answers a x (stored b n) (stored b′ n′) buffer last × Rests m x (stored b n) (stored b′ n′)
+  unfolding bufferOf
+  resumed e h f =
+      subst (λ (y : Ran). Answers a y (stored b n) (stored b′ n′) buffer last × Rests m y (stored b n) (stored b′ n′)) (sym e) (
+        record {
+          numbers = f .0;
+          state = left-paused (r .pause) (stateIn b′ n′ .status) (stateIn b′ n′) (stored b n) (stored b′ n′) refl;
+          written = f .1;
+        },
+        record {
+          none = λ z. same-memory (h .none z);
+          stuck = λ g z. same-memory (h .stuck (answer-stuck (r .pause) (stateIn b′ n′ .status) (stuck-is _ g)) z);
+          ended = λ w g. same-memory (h .ended w g);
+        },
+      )
 
 -- ---- the single step
 
@@ -143,20 +166,7 @@ module _ (P : Program) (b : List ℕ) (n : List ℤ) (b′ : List ℕ) (n′ : L
     pub budget-taken : (r : Counted) (last : List ℤ) {a : FirAnswer} → 16 ≤ length buffer → Resumes r P b n b′ n′ m
         → (a ≡ answerNumbers (answerOf (r .pause) (stateIn b′ n′ .status)) (r .steps)) × (last ≡ over (written (stateIn b′ n′ .result) (answerOf (r .pause) (stateIn b′ n′ .status))) buffer)
         → Answers a (budgetOf P (stateIn b n) m buffer) before after buffer last × Rests m (budgetOf P (stateIn b n) m buffer) before after
-    unfolding bufferOf
-    budget-taken r last {a} l h f =
-        subst (λ (x : Ran). Answers a x before after buffer last × Rests m x before after) (sym (h .ran) ∙ takes l) (
-          record {
-            numbers = f .0;
-            state = left-paused (r .pause) (stateIn b′ n′ .status) (stateIn b′ n′) before after refl;
-            written = f .1;
-          },
-          record {
-            none = λ z. same-memory (h .none z);
-            stuck = λ g z. same-memory (h .stuck (answer-stuck (r .pause) (stateIn b′ n′ .status) (stuck-is _ g)) z);
-            ended = λ x g. same-memory (h .ended x g);
-          },
-        )
+    budget-taken r last {a} l h f = subst (λ (x : Ran). Answers a x before after buffer last × Rests m x before after) (sym (h .ran) ∙ takes l) (resumed b n b′ n′ m buffer r last refl h f)
 
 module _ (P : Program) (b : List ℕ) (n : List ℤ) (m : ℕ) (buffer : List ℤ) where
   -- the buffer is too short
@@ -178,7 +188,7 @@ begun-13 s buffer g = go (longEnough buffer) refl g
     go true e g = e
     go false e g = absurd (refused-begun 13 0 (rw (e, question13) at g))
 
-begun-entered : (P : Program) (level f v : ℕ) (words buffer : List ℤ) → enteredOf P level f v words buffer .entry ≡ Entry.Begun → longEnough buffer ≡ true
+pub begun-entered : (P : Program) (level f v : ℕ) (words buffer : List ℤ) → enteredOf P level f v words buffer .entry ≡ Entry.Begun → longEnough buffer ≡ true
 unfolding enteredOf question11 question19 question12 refused
 begun-entered P level f v words buffer = go (findVersion P f v)
   where
@@ -195,33 +205,36 @@ begun-entered P level f v words buffer = go (findVersion P f v)
     go (some W) g = low W (leb (W .level) (runLevel level)) refl g
 
 -- a budget gives no refusal once it is taken
-unfoldable Taken : Answer → Type 0
+unfoldable pub Taken : Answer → Type 0
 Taken (Answer.Refused q p) = ⊥
 Taken Answer.Steps = Unit {0}
 Taken (Answer.Ended e) = Unit {0}
 Taken Answer.Stuck = Unit {0}
 
-run-taken : (P : Program) (n : ℕ) (s : State) (m : ℕ) → Taken (runFrom P n s m .answer)
-unfolding runFromTo continued Taken
-run-taken P zero s m = tt
-run-taken P (suc n) s m = go (stepOf P s .state) (stepOf P s .said) (λ t. run-taken P n t (m + 1))
+run-taken : (most : ℕ) (P : Program) (n : ℕ) (s : State) (m : ℕ) → Taken (runWith most P n s m .answer)
+unfolding runWith continued Taken
+run-taken most P zero s m = tt
+run-taken most P (suc n) s m = go (stepWith most P s .state) (stepWith most P s .said) (λ t. run-taken most P n t (m + 1))
   where
-    go : (t : State) (w : Said) → ((u : State) → Taken (runFrom P n u (m + 1) .answer)) → Taken (continued t w m (λ u. runFrom P n u (m + 1)) .answer)
+    go : (t : State) (w : Said) → ((u : State) → Taken (runWith most P n u (m + 1) .answer)) → Taken (continued t w m (λ u. runWith most P n u (m + 1)) .answer)
     go t Said.GoesOn more = more t
     go t (Said.Ended e) more = tt
     go t Said.Stuck more = tt
 
-in-taken : (P : Program) (s : State) (n : ℕ) (x : Status) → Taken (budgetIn P s n x .answer)
-unfolding budgetInTo Taken
-in-taken P s n Status.Running = run-taken P n s 0
-in-taken P s n (Status.Ended e) = tt
+in-taken : (most : ℕ) (P : Program) (s : State) (n : ℕ) (x : Status) → Taken (budgetInWith most P s n x .answer)
+unfolding budgetInWith Taken
+in-taken most P s n Status.Running = run-taken most P n s 0
+in-taken most P s n (Status.Ended e) = tt
+
+pub of-taken-with : (most : ℕ) (P : Program) (s : State) (n : ℕ) (buffer : List ℤ) → longEnough buffer ≡ true → Taken (budgetWith most P s n buffer .answer)
+unfolding budgetWith
+of-taken-with most P s n buffer e = rw (e, budgetWith) (in-taken most P s n (s .status))
 
 of-taken : (P : Program) (s : State) (n : ℕ) (buffer : List ℤ) → longEnough buffer ≡ true → Taken (budgetOf P s n buffer .answer)
-unfolding budgetOfTo
-of-taken P s n buffer e = rw (e, budgetOfTo) (in-taken P s n (s .status))
+of-taken P s n buffer e = subst (λ (r : Ran). Taken (r .answer)) (budget-64 P s n buffer) (of-taken-with VECTORS P s n buffer e)
 
 -- whatever the state was before, a budget that is taken leaves the same
-left-again : (w : Answer) (s : State) (E E′ X : FirState) → Taken w → Left w s E X → Left w s E′ X
+pub left-again : (w : Answer) (s : State) (E E′ X : FirState) → Taken w → Left w s E X → Left w s E′ X
 unfolding Taken Left
 left-again (Answer.Refused q p) s E E′ X t h = absurd t
 left-again Answer.Steps s E E′ X t h = h

@@ -1,6 +1,6 @@
--- A field of a caller's state behind a `&`, at the state's own lifetime: the state's `&` stays, and there is no loan.
---     Sees F d x   a `&κ` to the state h, with a token  ⊢ ⇛ ∃ γ′. what a `&κ` to the field x, d bytes on, owns ∗ the token
---     sees-numbers, sees-bytes
+-- A field of a caller's struct behind a `&`, at the struct's own lifetime: the struct's `&` stays, and there is no loan.
+--     Sees F d x   a `&κ` to the struct h, with a token  ⊢ ⇛ ∃ γ′. what a `&κ` to the field x, d bytes on, owns ∗ the token
+--     sees-numbers, sees-bytes   those of a state
 -- Assumes `Given`.
 use mathlib.Core.Path.{refl, subst}
 use Prim.Native.Nat.{ℕ, _+_}
@@ -25,26 +25,27 @@ use Rattle.abi.proofs.state.FirState as T
 use Rattle.abi.proofs.state.FirState.Laws as T′
 use Rattle.abi.proofs.Lent.{numbers-place, bytes-place}
 
-module _ {M : Type 1} (𝓤 : URA M) (H : Heap 𝓤) (A : Atoms 𝓤) (W : Given 𝓤 H A) (ℓ : Lifetime) (κ : Lft) (q : Share) (b o : ℕ) (γ : GName) (h : FirState) where
+module _ (R : RattleType) {M : Type 1} (𝓤 : URA M) (H : Heap 𝓤) (A : Atoms 𝓤) (W : Given 𝓤 H A) (ℓ : Lifetime) (κ : Lft) (q : Share) (b o : ℕ) (γ : GName) (h : R .Denot) where
   abbrev ⟦_⟧ : Fml → SProp 𝓤
   ⟦ P ⟧ = sem 𝓤 H A P
 
   abbrev pub Sees : (F : RattleType) → ℕ → F .Denot → Type 1
-  Sees F d x = ent 𝓤 (sep 𝓤 ⟦ ShrRef ℓ κ T.the-row .own (record { ptr = (b, o); name = γ; now = h }) (vptr b o ∷ []) ⟧ (A .lft κ q))
+  Sees F d x = ent 𝓤 (sep 𝓤 ⟦ ShrRef ℓ κ R .own (record { ptr = (b, o); name = γ; now = h }) (vptr b o ∷ []) ⟧ (A .lft κ q))
       (H .⇛ (ex 𝓤 (λ (γ′ : GName). sep 𝓤 ⟦ ShrRef ℓ κ F .own (record { ptr = (b, o + d); name = γ′; now = x }) (vptr b (o + d) ∷ []) ⟧ (A .lft κ q))))
 
-  sees : (F : RattleType) (d : ℕ) (x : F .Denot) → ent 𝓤 (sep 𝓤 (A .shr-bor κ (λ s. partAt T.the-row s h b o)) (A .lft κ q)) (H .⇛ (sep 𝓤 (A .shr-bor κ (λ s. partAt F s x b (o + d))) (A .lft κ q))) → Sees F d x
+  pub sees : (F : RattleType) (d : ℕ) (x : F .Denot) → ent 𝓤 (sep 𝓤 (A .shr-bor κ (λ s. partAt R s h b o)) (A .lft κ q)) (H .⇛ (sep 𝓤 (A .shr-bor κ (λ s. partAt F s x b (o + d))) (A .lft κ q))) → Sees F d x
   sees F d x part =
-      qed W (‵ (ShrRef ℓ κ T.the-row .own (record { ptr = (b, o); name = γ; now = h }) (vptr b o ∷ [])) ∷ ‵ (flft κ q) ∷ []) ∵ updating ! $ fsplit3 ! $ drop ! $ drop ! $
+      qed W (‵ (ShrRef ℓ κ R .own (record { ptr = (b, o); name = γ; now = h }) (vptr b o ∷ [])) ∷ ‵ (flft κ q) ∷ []) ∵ updating ! $ fsplit3 ! $ drop ! $ drop ! $
       use2 W (later (‵ (fshr-bor κ (λ s. partAt F s x b (o + d))) ⊛ ‵ (flft κ q))) part $ await ! tt $ split ! $
       name-new ! tt (F .coded .code x) (λ γ′. use1 W (‵ (fres γ′ (F .coded .code x))) (W .names .obs-res γ′ (F .coded .code x)) $ move ! (1 ∷ []) $ drop ! $
       now ! $ show ! (λ (δ : GName). sep 𝓤 ⟦ ShrRef ℓ κ F .own (record { ptr = (b, o + d); name = δ; now = x }) (vptr b (o + d) ∷ []) ⟧ (A .lft κ q)) γ′ $
       feqI ! (List Val) (vptr b (o + d) ∷ []) (vptr b (o + d) ∷ []) refl $ fjoin3 ! $ frame ! $ done !)
 
-  pub sees-numbers : Sees (Array i64 2129) numbers-place (h .numbers)
-  sees-numbers = sees (Array i64 2129) numbers-place (h .numbers) (subst (λ (xs : List (i64 .Denot)). ent 𝓤 (sep 𝓤 (A .shr-bor κ (λ s. partAt T.the-row s h b o)) (A .lft κ q)) (H .⇛ (sep 𝓤 (A .shr-bor κ (λ s. partAt (Array i64 2129) s xs b (o + numbers-place))) (A .lft κ q)))) (map-id (h .numbers))
+module _ {M : Type 1} (𝓤 : URA M) (H : Heap 𝓤) (A : Atoms 𝓤) (W : Given 𝓤 H A) (ℓ : Lifetime) (κ : Lft) (q : Share) (b o : ℕ) (γ : GName) (h : FirState) where
+  pub sees-numbers : Sees T.the-row 𝓤 H A W ℓ κ q b o γ h (Array i64 2129) numbers-place (h .numbers)
+  sees-numbers = sees T.the-row 𝓤 H A W ℓ κ q b o γ h (Array i64 2129) numbers-place (h .numbers) (subst (λ (xs : List (i64 .Denot)). ent 𝓤 (sep 𝓤 (A .shr-bor κ (λ s. partAt T.the-row s h b o)) (A .lft κ q)) (H .⇛ (sep 𝓤 (A .shr-bor κ (λ s. partAt (Array i64 2129) s xs b (o + numbers-place))) (A .lft κ q)))) (map-id (h .numbers))
       (part-field 𝓤 H A W T.the-type T′.the-laws T′.the-copy 0 numbers-place refl refl (T.struct .as-values) (λ x. refl) κ q h b o))
 
-  pub sees-bytes : Sees (Array u8 2632) bytes-place (h .bytes)
-  sees-bytes = sees (Array u8 2632) bytes-place (h .bytes) (subst (λ (xs : List ℕ). ent 𝓤 (sep 𝓤 (A .shr-bor κ (λ s. partAt T.the-row s h b o)) (A .lft κ q)) (H .⇛ (sep 𝓤 (A .shr-bor κ (λ s. partAt (Array u8 2632) s xs b (o + bytes-place))) (A .lft κ q)))) (map-id (h .bytes))
+  pub sees-bytes : Sees T.the-row 𝓤 H A W ℓ κ q b o γ h (Array u8 2632) bytes-place (h .bytes)
+  sees-bytes = sees T.the-row 𝓤 H A W ℓ κ q b o γ h (Array u8 2632) bytes-place (h .bytes) (subst (λ (xs : List ℕ). ent 𝓤 (sep 𝓤 (A .shr-bor κ (λ s. partAt T.the-row s h b o)) (A .lft κ q)) (H .⇛ (sep 𝓤 (A .shr-bor κ (λ s. partAt (Array u8 2632) s xs b (o + bytes-place))) (A .lft κ q)))) (map-id (h .bytes))
       (part-field 𝓤 H A W T.the-type T′.the-laws T′.the-copy 1 bytes-place refl refl (T.struct .as-values) (λ x. refl) κ q h b o))

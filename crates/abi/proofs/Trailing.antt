@@ -79,7 +79,7 @@ module _ (P : Program) (b : List ℕ) (n : List ℤ) (s p : ℕ) where
       record {
         budget = g .0;
         rests = g .1;
-        trail = on (stateIn b₀ n₀) (counts-zero s p .behind ∙ ap (λ (x : Ran). further (behindIn s p) (x .steps)) e) (ap (λ (x : Ran). x .state) e);
+        trail = on (stateIn b₀ n₀) (counts-zero s p ∙ ap (λ (x : Ran). further (behindIn s p) (x .steps)) e) (ap (λ (x : Ran). x .state) e);
         start = (refl, refl);
         none = λ _. refl;
       }

@@ -16,6 +16,8 @@ use Rattle.machine.specs.declared.Changed.{Changed}
 use Rattle.machine.specs.declared.End.{End}
 use Rattle.machine.specs.declared.Entry.{Entry}
 use Rattle.machine.specs.declared.Said.{Said}
+use Rattle.machine.specs.declared.Made.{Made}
+use Rattle.machine.specs.declared.PoolSaid.{PoolSaid}
 use Rattle.machine.specs.declared.Search.{Search}
 use Rattle.machine.specs.declared.Watch.{Watch}
 use Rattle.mends.specs.declared.Mended.{Mended}
@@ -29,6 +31,7 @@ use Rattle.abi.specs.declared.answers.FirLoaded.{FirLoaded}
 use Rattle.abi.specs.declared.answers.FirMended.{FirMended}
 use Rattle.abi.specs.declared.answers.FirSaid.{FirSaid}
 use Rattle.abi.specs.declared.answers.FirSearched.{FirSearched}
+use Rattle.abi.specs.declared.answers.FirTurn.{FirTurn}
 use Rattle.abi.specs.declared.answers.FirVerdict.{FirVerdict}
 use Rattle.abi.specs.declared.answers.FirVersion.{FirVersion}
 use Rattle.abi.specs.declared.answers.FirWatched.{FirWatched}
@@ -143,6 +146,24 @@ answerNumbers (Answer.Refused q p) n = record { steps = n; value = pos 0; offset
 answerNumbers Answer.Steps n = answerWith (saidNumbers Said.GoesOn) n
 answerNumbers (Answer.Ended e) n = answerWith (saidNumbers (Said.Ended e)) n
 answerNumbers Answer.Stuck n = answerWith (saidNumbers Said.Stuck) n
+
+-- ---- in a pool
+
+-- a pool that is made: a refusal's offset and number
+unfoldable pub madeNumbers : Made → FirEntry
+madeNumbers Made.Ready = record { offset = 0; question = 0 }
+madeNumbers (Made.Refused q p) = record { offset = p; question = q }
+
+-- the turn that says so much
+unfoldable pub turnWith : FirSaid → FirTurn
+turnWith w = record { value = w .value; offset = 0; code = w .code; length = w .length; question = 0 }
+
+-- a single step in a pool: 0 goes on, 1 to 6 an end, 7 stuck, 8 refused
+unfoldable pub turnNumbers : PoolSaid → FirTurn
+turnNumbers (PoolSaid.Refused q p) = record { value = pos 0; offset = p; code = 8; length = 0; question = q }
+turnNumbers PoolSaid.GoesOn = turnWith (saidNumbers Said.GoesOn)
+turnNumbers (PoolSaid.Ended e) = turnWith (saidNumbers (Said.Ended e))
+turnNumbers PoolSaid.Stuck = turnWith (saidNumbers Said.Stuck)
 
 -- ---- the memory of a state
 

@@ -3,3 +3,4 @@ pub mod Exits
 pub mod Held
 pub mod Looks
 pub mod Trails
+pub mod Pools

@@ -1,9 +1,10 @@
 //! Answers as numbers, in the layout of C.
 ghost use mathlib.Core.Path.{_≡_};
 ghost use Rattle.machine.specs.declared.Answer.{Answer};
+ghost use Rattle.machine.specs.declared.PoolSaid.{PoolSaid};
 ghost use Rattle.abi.specs.Answers.{answerNumbers, answerWith, backNumbers, boundingNumbers, changedNumbers, endIn, entryNumbers, formOf};
-ghost use Rattle.abi.specs.Answers.{joinedNumbers, loadedNumbers, mendedNumbers, movedNumbers, plainNumbers};
-ghost use Rattle.abi.specs.Answers.{searchNumbers, verdictNumbers, versionNumbers, watchedNumbers, whereNumbers};
+ghost use Rattle.abi.specs.Answers.{joinedNumbers, loadedNumbers, madeNumbers, mendedNumbers, movedNumbers, plainNumbers};
+ghost use Rattle.abi.specs.Answers.{searchNumbers, turnNumbers, turnWith, verdictNumbers, versionNumbers, watchedNumbers, whereNumbers};
 ghost use Rattle.abi.specs.Looks.{noPlace, valueNumbers};
 use bounds::Bounding;
 use checker::Verdict;
@@ -13,6 +14,7 @@ use loaded::Loaded;
 use machine::Back;
 use machine::Changed;
 use machine::Entry;
+use machine::Made;
 use machine::Search;
 use machine::Value;
 use machine::Watch;
@@ -81,6 +83,16 @@ pub struct FirSaid {
     pub value: i64,
     pub code: u8,
     pub length: u8,
+}
+
+/// What a single step in a pool says, or the question that refuses it and the offset.
+#[repr(C)]
+pub struct FirTurn {
+    pub value: i64,
+    pub offset: u16,
+    pub code: u8,
+    pub length: u8,
+    pub question: u8,
 }
 
 /// The answer to a budget, and the steps taken under it.
@@ -387,6 +399,48 @@ pub fn refused(question: u8, offset: u16) -> FirAnswer
         steps: 0,
         value: 0,
         offset: offset,
+        code: 8,
+        length: 0,
+        question: question,
+    }
+}
+
+/// The numbers of a pool that is made.
+pub fn made(made: Made) -> FirEntry
+    ensures { λ r. ⌜ r ≡ madeNumbers made ⌝ }
+{
+    match made {
+        Made::Ready => FirEntry {
+            offset: 0,
+            question: 0,
+        },
+        Made::Refused(q, p) => FirEntry {
+            offset: p,
+            question: q,
+        },
+    }
+}
+
+/// The turn that says so much.
+pub fn turn(said: FirSaid) -> FirTurn
+    ensures { λ r. ⌜ r ≡ turnWith said ⌝ }
+{
+    FirTurn {
+        value: said.value,
+        offset: 0,
+        code: said.code,
+        length: said.length,
+        question: 0,
+    }
+}
+
+/// A single step that is refused.
+pub fn turned_down(question: u8) -> FirTurn
+    ensures { λ r. ⌜ r ≡ turnNumbers (PoolSaid.Refused question 0) ⌝ }
+{
+    FirTurn {
+        value: 0,
+        offset: 0,
         code: 8,
         length: 0,
         question: question,

@@ -10,6 +10,7 @@ ghost use Rattle.writer.specs.Text.{placed};
 ghost use Rattle.machine.specs.Begin.{programOf};
 ghost use Rattle.machine.specs.Changes.{changeOf};
 ghost use Rattle.machine.specs.Frames.{readOf};
+ghost use Rattle.machine.specs.Pools.{poolBack, poolChange};
 ghost use Rattle.machine.specs.Runs.{budgetOf, stepOf};
 ghost use Rattle.machine.specs.Searches.{searchOf};
 ghost use Rattle.machine.specs.Values.{RANGE};
@@ -26,11 +27,12 @@ ghost use Rattle.bounds.specs.Rows.{boundsOf, numbersAfter, stepsAfter, unless}
 ghost use Rattle.whereabouts.specs.Looks.{lookOf};
 ghost use Rattle.whereabouts.specs.Where.{whereOf};
 ghost use Rattle.words.specs.Words.{answerText, questionText, writtenOf};
-ghost use Rattle.abi.specs.Answers.{boundingNumbers, changedNumbers, entryNumbers, formOf, joinedNumbers, loadedNumbers, mendedNumbers};
+ghost use Rattle.abi.specs.Answers.{backNumbers, boundingNumbers, changedNumbers, entryNumbers, formOf, joinedNumbers, loadedNumbers, mendedNumbers};
 ghost use Rattle.abi.specs.Answers.{movedNumbers, searchNumbers, stateAlignment, stateSize, verdictNumbers, versionNumbers, watchedNumbers, whereNumbers};
 ghost use Rattle.abi.specs.Exits.{Answers, Began, Rests, Steps, entrance};
 ghost use Rattle.abi.specs.Held.{held};
 ghost use Rattle.abi.specs.Looks.{readNumbers};
+ghost use Rattle.abi.specs.Pools.{AnswersIn, BeginsIn, MakesIn, RunsIn, StepsIn};
 ghost use Rattle.abi.specs.Trails.{AnswersOn, BacksOn, ChangesOn, Started, StepsOn};
 use answers::FirAnswer;
 use answers::FirEntry;
@@ -39,6 +41,7 @@ use answers::FirLoaded;
 use answers::FirMended;
 use answers::FirSaid;
 use answers::FirSearched;
+use answers::FirTurn;
 use answers::FirValue;
 use answers::FirVerdict;
 use answers::FirVersion;
@@ -49,13 +52,17 @@ use checker::Reported;
 use checker::questions;
 use checker::report;
 use entry::Start;
+use machine::Pool;
 use machine::Row;
+use pool::Ask;
+use pool::Room;
 use state::FirState;
 use state::FirTrail;
 
 pub mod answers;
 pub mod entry;
 pub mod parts;
+pub mod pool;
 pub mod state;
 pub mod trail;
 
@@ -426,6 +433,163 @@ pub extern "C" fn fir_trail_back(
         &mut trail.steps,
         &trail.past,
     )
+}
+
+/// 02, request 10: makes a pool of these reserves, in which no number has a run; or 21, where they sum above 64, and the pool is left as it was.
+#[no_mangle]
+pub extern "C" fn fir_pool_make(reserves: &[u8; 8], pool: &mut Pool) -> FirEntry
+    ensures { λ r. ⌜ MakesIn r (now (reserves .entry)) (now (pool .entry)) (now (pool .exit)) ⌝ }
+{
+    pool::make(reserves, &mut pool.reserves, &mut pool.has)
+}
+
+/// Begins a run under a number of the pool, as `fir_begin`. One that needs more vectors than it may have has begun and ended with VECTORS.
+/// A refusal writes nothing: the run that had the number stays.
+#[no_mangle]
+pub extern "C" fn fir_pool_begin(
+    image: &[u8],
+    table: &[u8],
+    level: usize,
+    function: usize,
+    version: usize,
+    words: &[i64],
+    buffer: &[i64],
+    state: &mut FirState,
+    pool: &mut Pool,
+    number: usize,
+) -> FirEntry
+    ensures { λ r. ⌜ BeginsIn r (programIn (now (image .entry)) (now (table .entry))) (entrance level function version) (now (words .entry)) (now (buffer .entry))
+        (now (pool .entry)) number (now (state .entry)) (now (state .exit)) (now (pool .exit)) ⌝ }
+{
+    let at = Room {
+        level: level,
+        function: function,
+        version: version,
+        number: number,
+    };
+    pool::begun(
+        image,
+        table,
+        at,
+        words,
+        buffer,
+        &mut state.bytes,
+        &mut state.numbers,
+        &pool.reserves,
+        &mut pool.has,
+    )
+}
+
+/// Takes a single step of the run that has the number, as `fir_step`, with at most as many vectors as it may have.
+#[no_mangle]
+pub extern "C" fn fir_pool_step(
+    image: &[u8],
+    table: &[u8],
+    state: &mut FirState,
+    pool: &mut Pool,
+    number: usize,
+) -> FirTurn
+    ensures { λ r. ⌜ StepsIn r (programIn (now (image .entry)) (now (table .entry))) (now (pool .entry)) number (now (state .entry)) (now (state .exit)) (now (pool .exit)) ⌝ }
+{
+    pool::step(
+        image,
+        table,
+        &mut state.bytes,
+        &mut state.numbers,
+        &pool.reserves,
+        &mut pool.has,
+        number,
+    )
+}
+
+/// Takes at most `budget` steps of the run that has the number, as `fir_budget`, with at most as many vectors as it may have.
+#[no_mangle]
+pub extern "C" fn fir_pool_budget(
+    image: &[u8],
+    table: &[u8],
+    state: &mut FirState,
+    pool: &mut Pool,
+    number: usize,
+    budget: u32,
+    buffer: &mut [i64],
+) -> FirAnswer
+    ensures { λ r. ⌜ AnswersIn r (programIn (now (image .entry)) (now (table .entry))) budget (now (pool .entry)) number (now (state .entry)) (now (state .exit)) (now (pool .exit))
+        (now (buffer .entry)) (now (buffer .exit)) ⌝ }
+{
+    let ask = Ask {
+        number: number,
+        budget: budget,
+    };
+    pool::budget(
+        image,
+        table,
+        ask,
+        buffer,
+        &mut state.bytes,
+        &mut state.numbers,
+        &pool.reserves,
+        &mut pool.has,
+    )
+}
+
+/// Begins a run under a number of the pool, and takes at most `budget` steps: `fir_pool_begin`, then `fir_pool_budget`.
+#[no_mangle]
+pub extern "C" fn fir_pool_run(
+    image: &[u8],
+    table: &[u8],
+    level: usize,
+    function: usize,
+    version: usize,
+    words: &[i64],
+    budget: u32,
+    buffer: &mut [i64],
+    state: &mut FirState,
+    pool: &mut Pool,
+    number: usize,
+) -> FirAnswer
+    ensures { λ r. ⌜ RunsIn r (programIn (now (image .entry)) (now (table .entry))) (entrance level function version) (now (words .entry)) budget
+        (now (pool .entry)) number (now (state .entry)) (now (state .exit)) (now (pool .exit)) (now (buffer .entry)) (now (buffer .exit)) ⌝ }
+{
+    let at = Room {
+        level: level,
+        function: function,
+        version: version,
+        number: number,
+    };
+    pool::run(
+        image,
+        table,
+        at,
+        budget,
+        words,
+        buffer,
+        &mut state.bytes,
+        &mut state.numbers,
+        &pool.reserves,
+        &mut pool.has,
+    )
+}
+
+/// Whether the run that has the number goes on under the new image, as `fir_change`; nothing is written, the pool neither.
+#[no_mangle]
+pub extern "C" fn fir_pool_change(
+    old: &[u8],
+    new: &[u8],
+    state: &FirState,
+    pool: &Pool,
+    number: usize,
+) -> FirEntry
+    ensures { λ r. ⌜ r ≡ changedNumbers (poolChange (now (pool .entry)) number (now (old .entry)) (now (new .entry)) (held (now (state .entry)))) ⌝ }
+{
+    pool::change(old, new, &state.bytes, &pool.reserves, number)
+}
+
+/// A step back of the run that has the number: 21, or 20, since a state of a pool has no step behind it.
+#[no_mangle]
+pub extern "C" fn fir_pool_back(pool: &Pool, number: usize) -> FirEntry
+    ensures { λ r. ⌜ r ≡ backNumbers (poolBack (now (pool .entry)) number) ⌝ }
+{
+    pool::back(&pool.reserves, number)
 }
 
 /// What the place of a live call holds: registers are the places 0 to 15, names the places 16 to 23.

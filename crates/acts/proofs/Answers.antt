@@ -10,7 +10,8 @@ use borrow.Author.Tests.{ltb-true}
 use Rattle.layout.specs.Records.{_!_}
 use Rattle.layout.specs.declared.Found.{Found}
 use Rattle.layout.specs.declared.Found.the-variants.{Nothing, At}
-use Rattle.machine.specs.States.{assign, freePromise, freeVector, withFrame, withRegister, withStack}
+use Rattle.machine.specs.States.{assign, freePromise, withFrame, withRegister, withStack}
+use Rattle.machine.specs.Allowed.{freeWithin}
 use Rattle.machine.specs.Values.{index}
 use Rattle.machine.specs.Try.{Try, got, stuck, stop, _>>=_, _>>_, endUnless}
 use Rattle.machine.specs.declared.End.{End}
@@ -22,10 +23,11 @@ use Rattle.store.specs.declared.Did.{Did}
 use Rattle.store.specs.declared.Halt.{Halt}
 use Rattle.store.specs.declared.Whole.{Whole}
 use Rattle.store.specs.Store.{CALLS, frameIn, stateIn, Live}
-use Rattle.store.specs.Counts.{Counted, Frees}
+use Rattle.store.specs.Counts.{Counted, Frees, FreesVector}
 use Rattle.store.specs.Acts.{Does, Narrow}
-use Rattle.store.proofs.Counting.{free-promise, free-vector}
+use Rattle.store.proofs.Counting.{free-promise}
 use Rattle.store.proofs.Frames.{assign-in, frame-live}
+use Rattle.store.proofs.InUse.{free-within}
 
 -- ---- operands
 
@@ -63,13 +65,13 @@ index-below (negsuc i) n j e = let z : _≡_ {A = ℕ} 0 1 = cc in absurd (omega
 -- ---- free places
 
 module _ (c : List ℕ) (s : State) (C : Counted c s) {r : Found} where
-  pub vector-free : {v : ℕ} → Frees r c 0 0 → r ≡ At v → (freeVector s ≡ got v) × (v < 64)
-  unfolding Frees
-  vector-free F e = let G = rw e at F in (free-vector c s C ∙ G .0 End.Vectors, G .1)
+  pub vector-free : (most : ℕ) {v : ℕ} → FreesVector r c most → r ≡ At v → (freeWithin most s ≡ got v) × (v < 64)
+  unfolding FreesVector
+  vector-free most F e = let G = rw e at F in (free-within c s C most ∙ G .0, G .1)
 
-  pub vector-none : Frees r c 0 0 → r ≡ Nothing → freeVector s ≡ stop End.Vectors
-  unfolding Frees
-  vector-none F e = let G = rw e at F in free-vector c s C ∙ G End.Vectors
+  pub vector-none : (most : ℕ) → FreesVector r c most → r ≡ Nothing → freeWithin most s ≡ stop End.Vectors
+  unfolding FreesVector
+  vector-none most F e = let G = rw e at F in free-within c s C most ∙ G
 
   pub promise-free : {p : ℕ} → Frees r c 256 512 → r ≡ At p → (freePromise s ≡ got p) × (p < 64)
   unfolding Frees

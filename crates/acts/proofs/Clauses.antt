@@ -11,8 +11,10 @@ use borrow.Author.Tests.{eq-eqb, ne-eqb}
 use Rattle.layout.specs.Records.{_!_}
 use Rattle.program.specs.Program.{Program, Version, DUP, FORCE, GET, LEN, USE}
 use Rattle.machine.specs.Try.{Try, got, stuck, stop, _>>=_, _>>_, at, endUnless}
+use Rattle.machine.specs.Allowed.{executeWith, freeWithin}
 use Rattle.machine.specs.Steps.{execute, executeTo}
-use Rattle.machine.specs.States.{assign, freeVector, integer, itemsOf, liveFrames, pending, promise, vector, withVector}
+use Rattle.machine.proofs.Within.{dup-within}
+use Rattle.machine.specs.States.{assign, integer, itemsOf, liveFrames, pending, promise, vector, withVector}
 use Rattle.machine.specs.Calls.{force, opened}
 use Rattle.machine.specs.Values.{index}
 use Rattle.machine.specs.declared.Activation.{Activation}
@@ -58,31 +60,40 @@ module _ (P : Program) (W : Version) (b : List ℕ) (n : List ℤ) (k d a : ℕ)
     unfolding executeTo _>>=_
     len-out h = rw (p, vector-outside b n v h) refl
 
-    pub dup-out : 64 ≤ v → execute P (stateIn b n) k (frameIn b n k) W (DUP d a) ≡ stuck
-    unfolding executeTo _>>=_
-    dup-out h = rw (p, vector-outside b n v h) refl
-
     module _ (h : v < 64) where
       pub len-done : {m : ℕ} → m ≡ length (itemsOf (vectorIn b n v)) → execute P (stateIn b n) k (frameIn b n k) W (LEN d a) ≡ assign (stateIn b n) k d (Value.Integer (pos m))
       unfolding executeTo _>>=_
       len-done e = rw (p, vector-at b n v h, e) refl
 
-      pub dup-none : freeVector (stateIn b n) ≡ stop End.Vectors → execute P (stateIn b n) k (frameIn b n k) W (DUP d a) ≡ stop End.Vectors
-      unfolding executeTo _>>=_
-      dup-none f = rw (p, vector-at b n v h, f) refl
-
-      pub dup-done : {w : ℕ} {t : State} → freeVector (stateIn b n) ≡ got w → t ≡ withVector (stateIn b n) w (vectorIn b n v) → execute P (stateIn b n) k (frameIn b n k) W (DUP d a) ≡ assign t k d (Value.Vector w)
-      unfolding executeTo _>>=_
-      dup-done f e = rw (p, vector-at b n v h, f, e) refl
-
-      pub dup-full : {w : ℕ} → freeVector (stateIn b n) ≡ got w → Live b k → 16 ≤ d → execute P (stateIn b n) k (frameIn b n k) W (DUP d a) ≡ stuck
-      unfolding executeTo _>>=_ assign withVector liveFrames
-      dup-full {w = w} f L l = rw (p, vector-at b n v h, f, frame-live b n k L, outside b n k d (Value.Vector w) l) refl
-
       pub get-done : (i : ℕ) {j : ℕ} {z y : ℤ} → integer (frameIn b n k) i ≡ got z → index z (length (itemsOf (vectorIn b n v))) ≡ got j → y ≡ getD (itemsOf (vectorIn b n v)) j (pos 0)
           → execute P (stateIn b n) k (frameIn b n k) W (GET d a i) ≡ assign (stateIn b n) k d (Value.Integer y)
       unfolding executeTo _>>=_
       get-done i r t e = rw (p, vector-at b n v h, r, t, e) refl
+
+  -- ---- a vector for a run that may have `most`
+
+  module _ (most : ℕ) where
+    pub dup-stuck : vector (frameIn b n k) a ≡ stuck → executeWith most P (stateIn b n) k (frameIn b n k) W (DUP d a) ≡ stuck
+    unfolding _>>=_
+    dup-stuck p = dup-within most P (stateIn b n) k (frameIn b n k) W d a ∙ rw p refl
+
+    module _ {v : ℕ} (p : vector (frameIn b n k) a ≡ got v) where
+      pub dup-out : 64 ≤ v → executeWith most P (stateIn b n) k (frameIn b n k) W (DUP d a) ≡ stuck
+      unfolding _>>=_
+      dup-out h = dup-within most P (stateIn b n) k (frameIn b n k) W d a ∙ rw (p, vector-outside b n v h) refl
+
+      module _ (h : v < 64) where
+        pub dup-none : freeWithin most (stateIn b n) ≡ stop End.Vectors → executeWith most P (stateIn b n) k (frameIn b n k) W (DUP d a) ≡ stop End.Vectors
+        unfolding _>>=_
+        dup-none f = dup-within most P (stateIn b n) k (frameIn b n k) W d a ∙ rw (p, vector-at b n v h, f) refl
+
+        pub dup-done : {w : ℕ} {t : State} → freeWithin most (stateIn b n) ≡ got w → t ≡ withVector (stateIn b n) w (vectorIn b n v) → executeWith most P (stateIn b n) k (frameIn b n k) W (DUP d a) ≡ assign t k d (Value.Vector w)
+        unfolding _>>=_
+        dup-done f e = dup-within most P (stateIn b n) k (frameIn b n k) W d a ∙ rw (p, vector-at b n v h, f, e) refl
+
+        pub dup-full : {w : ℕ} → freeWithin most (stateIn b n) ≡ got w → Live b k → 16 ≤ d → executeWith most P (stateIn b n) k (frameIn b n k) W (DUP d a) ≡ stuck
+        unfolding _>>=_ assign withVector liveFrames
+        dup-full {w = w} f L l = dup-within most P (stateIn b n) k (frameIn b n k) W d a ∙ rw (p, vector-at b n v h, f, frame-live b n k L, outside b n k d (Value.Vector w) l) refl
 
   -- ---- forces
 

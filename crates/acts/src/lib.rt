@@ -5,7 +5,7 @@ ghost use lib.ListN.{length};
 ghost use Rattle.program.specs.Program.{LIT, MOVE, USE, DUP, LEN, GET, SET, ARITH, SELECT, CAST, NAMED, STORE, PROM, FORCE, PEEK, POKE};
 ghost use Rattle.store.specs.Store.{Live};
 ghost use Rattle.store.specs.Counts.{Ready};
-ghost use Rattle.store.specs.Acts.{Executes};
+ghost use Rattle.store.specs.Acts.{Executes, ExecutesWith};
 ghost use Rattle.acts.specs.Typed.{ExecutesIf, ExecutesTyped};
 use integers::Computed;
 use integers::Indexed;
@@ -63,7 +63,7 @@ pub fn use_up(
     cells::assign_vector(bytes, numbers, counts, k, d, v as u8)
 }
 
-/// DUP d a.
+/// DUP d a, of a run that may have `most` vectors.
 pub fn dup(
     bytes: &mut [u8; 2632],
     numbers: &mut [i64; 2129],
@@ -71,9 +71,10 @@ pub fn dup(
     k: usize,
     d: u8,
     a: u8,
+    most: u8,
 ) -> Did
     requires { ⌜ Ready (now bytes) (now numbers) (now counts) × Live (now bytes) k ⌝ }
-    ensures { λ r. ⌜ Executes r (now (bytes .entry)) (now (numbers .entry)) (now (bytes .exit)) (now (numbers .exit)) (now (counts .exit)) k (DUP d a) ⌝ }
+    ensures { λ r. ⌜ ExecutesWith most r (now (bytes .entry)) (now (numbers .entry)) (now (bytes .exit)) (now (numbers .exit)) (now (counts .exit)) k (DUP d a) ⌝ }
 {
     let Found::At(v) = cells::vector(bytes, numbers, k, a) else {
         return Did::Stuck;
@@ -81,7 +82,7 @@ pub fn dup(
     if 64 <= v {
         return Did::Stuck;
     }
-    let Found::At(w) = heap::free_vector(counts) else {
+    let Found::At(w) = heap::free_vector(counts, most) else {
         return Did::Stop(Halt::Vectors);
     };
     if 16 <= d {

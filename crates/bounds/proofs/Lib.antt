@@ -22,3 +22,4 @@ pub mod Filling
 pub mod Totals
 pub mod Reporting
 pub mod Sorted
+pub mod Pools

@@ -4,3 +4,4 @@ pub mod Counts
 pub mod Rows
 pub mod Claim
 pub mod Reports
+pub mod Pools

@@ -12,6 +12,7 @@ use borrow.Author.Tests.{eqb-true, eqb-false}
 use Rattle.layout.specs.Records.{_!_}
 use Rattle.machine.specs.Try.{Try, got, stuck, _>>=_}
 use Rattle.machine.specs.Calls.{closed, done}
+use Rattle.machine.specs.Pools.{overfull}
 use Rattle.machine.specs.States.{itemsOf, withEnd, withStack}
 use Rattle.machine.specs.declared.End.{End}
 use Rattle.machine.specs.declared.State.{State}
@@ -74,6 +75,12 @@ integer-ends b n S {y = y} {z = z} q e =
     let g : (m : ℕ) → (m ≡ ENDING → ⊥) → set n ENDING y # m ≡ n # m = λ m q. getD-set-other n ENDING m y (pos 0) q in
     let w = getD-set-same n ENDING y (pos 0) (omega (arith, S .1)) ∙ e in
     rw q (ends-as b n S 1 0 (set n ENDING y) _ (End.Integer z) (λ m a. g m (λ x. omega arith)) (result-kept b b n (set n ENDING y) (λ m x u. g m (λ q. omega arith))) (ap (λ x. Status.Ended (End.Integer x)) w), (closed-long b n S 1 0, simp (length-set, S .1)))
+
+-- ---- a start that needs too many vectors
+
+pub start-stops : (b : List ℕ) (n : List ℤ) → Sized b n → {b′ : List ℕ} → b′ ≡ closedBytes b 5 0 → (stateIn b′ n ≡ overfull (stateIn b n)) × (b′ ≡ closedBytes b 5 0)
+unfolding statusOf stateIn
+start-stops b n S q = (rw q (ends-as b n S 5 0 n (stateIn b n .result) End.Vectors (λ m a. refl) refl refl), q)
 
 -- ---- a vector
 

@@ -6,6 +6,7 @@ ghost use lib.ListN.{length};
 ghost use Rattle.store.specs.Store.{Sized, stateIn};
 ghost use Rattle.store.specs.Counts.{Ready};
 ghost use Rattle.frames.specs.Frames.{Forcing};
+ghost use Rattle.machine.specs.Pools.{overfull};
 ghost use Rattle.machine.specs.declared.Opener.{Opener};
 ghost use Rattle.ending.specs.Ends.{BlockEnds, CallEnds, CellEnds, ForceEnds, GoesBack, Returning, Working, closedBytes, doneInteger, doneVector, stopByte, stoppedBy, topOpener};
 use acts::Typed;
@@ -142,6 +143,16 @@ pub fn stop_run(bytes: &mut [u8; 2632], numbers: &[i64; 2129], halt: Halt)
     ensures { λ _. ⌜ (stateIn (now (bytes .exit)) (now (numbers .entry)) ≡ stoppedBy (now (bytes .entry)) (now (numbers .entry)) halt) × Sized (now (bytes .exit)) (now (numbers .entry)) ⌝ }
 {
     bytes[2626] = status(halt);
+}
+
+/// A start that needs more vectors than it may have: no call is left, and the run has ended with VECTORS.
+/// Requires arrays of their lengths, which the caller has at hand.
+pub fn stop_start(bytes: &mut [u8; 2632], numbers: &[i64; 2129])
+    requires { ⌜ Sized (now bytes) (now numbers) ⌝ }
+    ensures { λ _. ⌜ (stateIn (now (bytes .exit)) (now (numbers .entry)) ≡ overfull (stateIn (now (bytes .entry)) (now (numbers .entry))))
+        × (now (bytes .exit) ≡ closedBytes (now (bytes .entry)) 5 0) ⌝ }
+{
+    close_run(bytes, 5, 0);
 }
 
 // ---- a call

@@ -6,7 +6,7 @@ use Prim.Native.Nat.{ℕ, zero, suc, _+_, _-_, _*_, _≤_, _<_}
 use native.Mathlib.Numerals.{add-one}
 use native.Mathlib.Omega.{arith}
 use lib.IntN.{ℤ}
-use lib.ListN.{getElem?, length, take}
+use lib.ListN.{getD-replicate, getElem?, length, length-replicate, replicate, take}
 use lib.Dec.{eqb, ltb}
 use borrow.Author.Tests.{eqb-true, eqb-false, le-ltb, lt-ltb, ltb-true, ltb-false}
 use Rattle.layout.specs.Records.{_!_}
@@ -210,3 +210,8 @@ at-least {m = m} {n = n} e h = rw (le-ltb n 32 (omega arith)) refl
 
 pub tally-all : (b : List ℕ) (n : List ℤ) (c : List ℕ) (x : ℕ) {k m : ℕ} → m ≡ atMost x → Tallied b n c k 0 → k ≤ m → m ≤ k → Tallied b n c (atMost x) 0
 tally-all b n c x {k = k} {m = m} e T g h = let z : k ≡ m = omega arith in rw (sym e, sym z) T
+
+-- ---- the start
+
+pub nothing-counted : {c : List ℕ} → c ≡ replicate 800 0 → Nothing c
+nothing-counted e = rw e (record { none = λ i l. getD-replicate {A = ℕ} 800 i 0 0 l; long = length-replicate {A = ℕ} 800 0 })

@@ -14,8 +14,9 @@ use borrow.Author.Tests.{eqb-true, eqb-false, ltb-true, ltb-false}
 use Rattle.layout.specs.Records.{_!_}
 use Rattle.program.specs.Program.{Program, Version, VEC}
 use Rattle.machine.specs.Try.{Try, got, stuck, stop, _>>=_, each}
-use Rattle.machine.specs.Steps.{execute, executeTo}
-use Rattle.machine.specs.States.{anInteger, assign, freeVector, integer, liveFrames, newVector, over, withVector}
+use Rattle.machine.specs.Allowed.{executeWith, freeWithin}
+use Rattle.machine.proofs.Within.{vec-within}
+use Rattle.machine.specs.States.{anInteger, assign, integer, liveFrames, newVector, over, withVector}
 use Rattle.machine.specs.declared.End.{End}
 use Rattle.machine.specs.declared.State.{State}
 use Rattle.machine.specs.declared.Value.{Value}
@@ -203,20 +204,20 @@ pub gathered : (t : Bool) (b : List ℕ) (n : List ℤ) (k : ℕ) (rs : List ℕ
 unfolding Gathers
 gathered t b n k rs G e = rw e at G
 
-module _ (P : Program) (W : Version) (b : List ℕ) (n : List ℤ) (k d : ℕ) (rs : List ℕ) where
-  pub vec-stuck : (t : Bool) → Gathers t b n k rs → t ≡ false → execute P (stateIn b n) k (frameIn b n k) W (VEC d rs) ≡ stuck
-  unfolding executeTo _>>=_ Gathers
-  vec-stuck t G e = let M = rw e at G in rw M refl
+module _ (P : Program) (W : Version) (b : List ℕ) (n : List ℤ) (k d : ℕ) (rs : List ℕ) (most : ℕ) where
+  pub vec-stuck : (t : Bool) → Gathers t b n k rs → t ≡ false → executeWith most P (stateIn b n) k (frameIn b n k) W (VEC d rs) ≡ stuck
+  unfolding _>>=_ Gathers
+  vec-stuck t G e = let M = rw e at G in vec-within most P (stateIn b n) k (frameIn b n k) W d rs ∙ rw M refl
 
   module _ (t : Bool) (G : Gathers t b n k rs) (e : t ≡ true) where
-    pub vec-none : freeVector (stateIn b n) ≡ stop End.Vectors → execute P (stateIn b n) k (frameIn b n k) W (VEC d rs) ≡ stop End.Vectors
-    unfolding executeTo _>>=_
-    vec-none f = rw (gathered t b n k rs G e .0, f) refl
+    pub vec-none : freeWithin most (stateIn b n) ≡ stop End.Vectors → executeWith most P (stateIn b n) k (frameIn b n k) W (VEC d rs) ≡ stop End.Vectors
+    unfolding _>>=_
+    vec-none f = vec-within most P (stateIn b n) k (frameIn b n k) W d rs ∙ rw (gathered t b n k rs G e .0, f) refl
 
-    pub vec-full : {w : ℕ} → freeVector (stateIn b n) ≡ got w → Live b k → 16 ≤ d → execute P (stateIn b n) k (frameIn b n k) W (VEC d rs) ≡ stuck
-    unfolding executeTo _>>=_ assign withVector liveFrames
-    vec-full {w = w} f L l = rw (gathered t b n k rs G e .0, f, frame-live b n k L, outside b n k d (Value.Vector w) l) refl
+    pub vec-full : {w : ℕ} → freeWithin most (stateIn b n) ≡ got w → Live b k → 16 ≤ d → executeWith most P (stateIn b n) k (frameIn b n k) W (VEC d rs) ≡ stuck
+    unfolding _>>=_ assign withVector liveFrames
+    vec-full {w = w} f L l = vec-within most P (stateIn b n) k (frameIn b n k) W d rs ∙ rw (gathered t b n k rs G e .0, f, frame-live b n k L, outside b n k d (Value.Vector w) l) refl
 
-    pub vec-done : {w : ℕ} {s : State} → freeVector (stateIn b n) ≡ got w → s ≡ vectorMade b n k w rs → execute P (stateIn b n) k (frameIn b n k) W (VEC d rs) ≡ assign s k d (Value.Vector w)
-    unfolding executeTo _>>=_
-    vec-done f g = rw (gathered t b n k rs G e .0, f, g) refl
+    pub vec-done : {w : ℕ} {s : State} → freeWithin most (stateIn b n) ≡ got w → s ≡ vectorMade b n k w rs → executeWith most P (stateIn b n) k (frameIn b n k) W (VEC d rs) ≡ assign s k d (Value.Vector w)
+    unfolding _>>=_
+    vec-done f g = vec-within most P (stateIn b n) k (frameIn b n k) W d rs ∙ rw (gathered t b n k rs G e .0, f, g) refl

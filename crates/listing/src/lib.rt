@@ -6,7 +6,7 @@ ghost use lib.ListN.{length};
 ghost use Rattle.program.specs.Program.{VEC};
 ghost use Rattle.store.specs.Store.{Live};
 ghost use Rattle.store.specs.Counts.{Ready};
-ghost use Rattle.store.specs.Acts.{Executes, Leaves};
+ghost use Rattle.store.specs.Acts.{ExecutesWith, Leaves};
 ghost use Rattle.listing.specs.Listing.{Gathers, Small, pickIn, vectorMade};
 ghost use Rattle.listing.specs.Entering.{AllFull, Empties, Enters, passedOn};
 use layout::Found;
@@ -67,7 +67,7 @@ fn fill(
     bytes[2560 + v] = rs.len() as u8;
 }
 
-/// VEC d rs.
+/// VEC d rs, of a run that may have `most` vectors.
 /// Requires `Ready` counts and a live frame: the loop keeps both, and to count again would cost each step.
 pub fn vec(
     bytes: &mut [u8; 2632],
@@ -76,12 +76,13 @@ pub fn vec(
     k: usize,
     d: u8,
     rs: &[u8],
+    most: u8,
 ) -> Did
     requires { ⌜ Ready (now bytes) (now numbers) (now counts) × Live (now bytes) k × (length (now rs) < 256) ⌝ }
-    ensures { λ r. ⌜ Executes r (now (bytes .entry)) (now (numbers .entry)) (now (bytes .exit)) (now (numbers .exit)) (now (counts .exit)) k (VEC d (now (rs .entry))) ⌝ }
+    ensures { λ r. ⌜ ExecutesWith most r (now (bytes .entry)) (now (numbers .entry)) (now (bytes .exit)) (now (numbers .exit)) (now (counts .exit)) k (VEC d (now (rs .entry))) ⌝ }
 {
     if all_integers(bytes, numbers, k, rs) {
-        let Found::At(w) = heap::free_vector(counts) else {
+        let Found::At(w) = heap::free_vector(counts, most) else {
             return Did::Stop(Halt::Vectors);
         };
         if 16 <= d {

@@ -8,6 +8,9 @@ pub mod Runs
 pub mod Begin
 pub mod Changes
 pub mod Events
+pub mod Allowed
 pub mod Frames
 pub mod Trails
+pub mod Pools
+pub mod Houses
 pub mod Watches

@@ -164,6 +164,27 @@ pub struct Returned {
     pub back: Back,
 }
 
+/// What each of eight runs reserves of 64 vectors, and how many each has; in the layout of C.
+#[repr(C)]
+pub struct Pool {
+    pub reserves: [u8; 8],
+    pub has: [u8; 8],
+}
+
+/// Whether a pool is made, or a refusal's number and offset.
+pub enum Made {
+    Ready,
+    Refused(u8, u16),
+}
+
+/// What a single step in a pool says: a refusal's number and offset, or what a single step says.
+pub enum PoolSaid {
+    Refused(u8, u16),
+    GoesOn,
+    Ended(End),
+    Stuck,
+}
+
 /// A register of the topmost call, for a service screen: its declared type, and what it holds: 0 nothing, 1 the integer, 2 the vector's
 /// length and items, 3 the promise's mark. All other numbers are 0.
 #[repr(C)]

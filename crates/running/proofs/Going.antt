@@ -8,9 +8,9 @@ use lib.IntN.{ℤ}
 use lib.ListN.{length, set}
 use lib.Seq.{set-getD, set-set}
 use Rattle.layout.specs.Records.{_!_}
-use Rattle.machine.specs.Runs.{lastStep, runFrom}
+use Rattle.machine.specs.Allowed.{advanceWith, runWith}
+use Rattle.machine.specs.Runs.{lastStep}
 use Rattle.machine.specs.States.{withEnd, withStack}
-use Rattle.machine.specs.Steps.{advance}
 use Rattle.machine.specs.Try.{got, stuck, stop}
 use Rattle.machine.specs.declared.Activation.{Activation}
 use Rattle.machine.specs.declared.Answer.{Answer}
@@ -37,20 +37,21 @@ use Rattle.running.proofs.Turning.{depth-set, depth-there, standing-sam
 use Rattle.running.proofs.Turns.{turn-done, turn-none, turn-on, turn-stop, turn-stuck}
 
 -- the state that the run has come to: at the spot, or as the arrays say where it stands nowhere
-pub record Come (s t : List ℕ) (budget : ℕ) (b₀ : List ℕ) (n₀ : List ℤ) (b : List ℕ) (n : List ℤ) (p : Spot) (m : ℕ) (u : State) : Type 0 where
+pub record Come (s t : List ℕ) (most budget : ℕ) (b₀ : List ℕ) (n₀ : List ℤ) (b : List ℕ) (n : List ℤ) (p : Spot) (m : ℕ) (u : State) : Type 0 where
   pub here : 0 < p .last → u ≡ stateAt b n p
   pub lost : p .last ≡ 0 → u ≡ stateIn b n
-  pub same : runFrom (programIn s t) (budget - m) u m ≡ runFrom (programIn s t) budget (stateIn b₀ n₀) 0
+  pub same : runWith most (programIn s t) (budget - m) u m ≡ runWith most (programIn s t) budget (stateIn b₀ n₀) 0
 
 -- after m steps
-pub record Going (s t : List ℕ) (budget : ℕ) (b₀ : List ℕ) (n₀ : List ℤ) (b : List ℕ) (n : List ℤ) (c x : List ℕ) (p : Spot) (left : ℕ) : Type 0 where
+pub record Going (s t : List ℕ) (most budget : ℕ) (b₀ : List ℕ) (n₀ : List ℤ) (b : List ℕ) (n : List ℤ) (c x : List ℕ) (p : Spot) (left : ℕ) : Type 0 where
   pub ready : Ready b n c
   pub cached : Cached s t x
   pub run : stateIn b n .status ≡ Status.Running
   pub kept : Kept s t b n p
   pub within : left ≤ budget
   pub state : State
-  pub come : Come s t budget b₀ n₀ b n p (budget - left) state
+  pub allowed : p .most ≡ most
+  pub come : Come s t most budget b₀ n₀ b n p (budget - left) state
   pub first : left ≡ budget → (b ≡ b₀) × (n ≡ n₀) × (0 < p .last → nextOf p ≡ topIn b .next)
 
 -- the state that says where it stands
@@ -65,10 +66,11 @@ same-next b p e = ap (set b (nextByte b)) e ∙ set-getD b (nextByte b) 0
 pub kept-by : (s t b : List ℕ) (n : List ℤ) (p : Spot) → Located s t b p → Kept s t b n p
 kept-by s t b n p L = record { lost = λ z. L .lost z n; none = L .none; here = λ l. L .here l n }
 
-module _ (s t : List ℕ) (budget : ℕ) (b₀ : List ℕ) (n₀ : List ℤ) where
-  pub going-start : (c x : List ℕ) (p : Spot) → Ready b₀ n₀ c → Cached s t x → b₀ ! STATUS ≡ 0 → Located s t b₀ p → Going s t budget b₀ n₀ b₀ n₀ c x p budget
+module _ (s t : List ℕ) (most budget : ℕ) (b₀ : List ℕ) (n₀ : List ℤ) where
+  pub going-start : (c x : List ℕ) (p : Spot) → Ready b₀ n₀ c → Cached s t x → b₀ ! STATUS ≡ 0 → Located s t b₀ p → p .most ≡ most → Going s t most budget b₀ n₀ b₀ n₀ c x p budget
   unfolding stateIn statusOf
-  going-start c x p R C z L = record {
+  going-start c x p R C z L a = record {
+    allowed = a;
     ready = R;
     cached = C;
     run = rw z refl;
@@ -79,7 +81,7 @@ module _ (s t : List ℕ) (budget : ℕ) (b₀ : List ℕ) (n₀ : List ℤ) whe
     first = λ _. (refl, refl, L .next);
   }
 
-  module _ (b : List ℕ) (n : List ℤ) (c x : List ℕ) (p : Spot) (left : ℕ) (G : Going s t budget b₀ n₀ b n c x p left) (more : left ≡ 0 → ⊥) where
+  module _ (b : List ℕ) (n : List ℤ) (c x : List ℕ) (p : Spot) (left : ℕ) (G : Going s t most budget b₀ n₀ b n c x p left) (more : left ≡ 0 → ⊥) where
     abbrev m : ℕ
     m = budget - left
 
@@ -96,8 +98,12 @@ module _ (s t : List ℕ) (budget : ℕ) (b₀ : List ℕ) (n₀ : List ℤ) whe
     under : m < budget
     under = let w = G .within in omega arith
 
-    on-with : (u′ : State) → 0 < p .last → advance (programIn s t) (stateAt b n p) ≡ got u′ → u′ .status ≡ Status.Running → runFrom (programIn s t) (budget - (budget - (left - 1))) u′ (budget - (left - 1)) ≡ runFrom (programIn s t) budget (stateIn b₀ n₀) 0
-    on-with u′ l e q = ap (λ j. runFrom (programIn s t) (budget - j) u′ j) next-count ∙ sym (turn-on (programIn s t) u (status-here l) budget m under u′ (ap (advance (programIn s t)) (G .come .here l) ∙ e) q) ∙ G .come .same
+    -- the spot says how many vectors it may have
+    to-most : (v : State) → advanceWith most (programIn s t) v ≡ advanceWith (p .most) (programIn s t) v
+    to-most v = ap (λ j. advanceWith j (programIn s t) v) (sym (G .allowed))
+
+    on-with : (u′ : State) → 0 < p .last → advanceWith (p .most) (programIn s t) (stateAt b n p) ≡ got u′ → u′ .status ≡ Status.Running → runWith most (programIn s t) (budget - (budget - (left - 1))) u′ (budget - (left - 1)) ≡ runWith most (programIn s t) budget (stateIn b₀ n₀) 0
+    on-with u′ l e q = ap (λ j. runWith most (programIn s t) (budget - j) u′ j) next-count ∙ sym (turn-on most (programIn s t) u (status-here l) budget m under u′ (to-most u ∙ ap (advanceWith (p .most) (programIn s t)) (G .come .here l) ∙ e) q) ∙ G .come .same
 
     module _ (b′ : List ℕ) (n′ : List ℤ) (c′ x′ : List ℕ) (r : Turn) (T : Turned r s t b n b′ n′ c′ p) (C : Cached s t x′) where
       not-lost : (r ≡ Turn.Stuck → ⊥) → 0 < p .last
@@ -107,7 +113,7 @@ module _ (s t : List ℕ) (budget : ℕ) (b₀ : List ℕ) (n₀ : List ℤ) whe
           go (yes l) = l
           go (no l) = absurd (h (T .lost (omega arith) .0))
 
-      pub going-on : r ≡ Turn.On → Going s t budget b₀ n₀ b′ n′ c′ x′ (onward p 1) (left - 1)
+      pub going-on : r ≡ Turn.On → Going s t most budget b₀ n₀ b′ n′ c′ x′ (onward p 1) (left - 1)
       unfolding Went onward standing aside withStack
       going-on e =
           let l = not-lost (λ h. let o : _≡_ {A = ℕ} 0 1 = cc in omega arith) in
@@ -116,6 +122,7 @@ module _ (s t : List ℕ) (budget : ℕ) (b₀ : List ℕ) (n₀ : List ℤ) whe
             ready = W .2;
             cached = C;
             run = W .3 (G .run);
+            allowed = G .allowed;
             kept = record { lost = λ z. absurd (omega (arith, l, z)); none = λ z. absurd (omega (arith, l, z)); here = λ _. W .1 };
             within = let w = G .within in omega arith;
             state = stateAt b′ n′ (onward p 1);
@@ -123,7 +130,7 @@ module _ (s t : List ℕ) (budget : ℕ) (b₀ : List ℕ) (n₀ : List ℤ) whe
             first = λ q. let w = G .within in absurd (omega (arith, q, w, more));
           }
 
-      pub going-over : (j : ℕ) → r ≡ Turn.Over j → Going s t budget b₀ n₀ b′ n′ c′ x′ (onward p (1 + j)) (left - 1)
+      pub going-over : (j : ℕ) → r ≡ Turn.Over j → Going s t most budget b₀ n₀ b′ n′ c′ x′ (onward p (1 + j)) (left - 1)
       unfolding Went onward standing aside withStack
       going-over j e =
           let l = not-lost (λ h. let o : _≡_ {A = ℕ} 0 1 = cc in omega arith) in
@@ -132,6 +139,7 @@ module _ (s t : List ℕ) (budget : ℕ) (b₀ : List ℕ) (n₀ : List ℤ) whe
             ready = rw (sym (W .1), sym (W .2)) (W .3);
             cached = C;
             run = G .run;
+            allowed = G .allowed;
             kept = record { lost = λ z. absurd (omega (arith, l, z)); none = λ z. absurd (omega (arith, l, z)); here = λ _. W .4 };
             within = let w = G .within in omega arith;
             state = stateAt b n (onward p (1 + j));
@@ -139,15 +147,16 @@ module _ (s t : List ℕ) (budget : ℕ) (b₀ : List ℕ) (n₀ : List ℤ) whe
             first = λ q. let w = G .within in absurd (omega (arith, q, w, more));
           })
 
-      pub going-moved : r ≡ Turn.Moved → (p′ : Spot) → Located s t b′ p′ → Going s t budget b₀ n₀ b′ n′ c′ x′ p′ (left - 1)
+      pub going-moved : r ≡ Turn.Moved → (p′ : Spot) → Located s t b′ p′ → p′ .most ≡ most → Going s t most budget b₀ n₀ b′ n′ c′ x′ p′ (left - 1)
       unfolding Went
-      going-moved e p′ L =
+      going-moved e p′ L a =
           let l = not-lost (λ h. let z : _≡_ {A = ℕ} 0 1 = cc in omega arith) in
           let W = subst (λ y. Went y s t b n b′ n′ c′ p) e (T .went l) in
           record {
             ready = W .1;
             cached = C;
             run = W .2 (G .run);
+            allowed = a;
             kept = kept-by s t b′ n′ p′ L;
             within = let w = G .within in omega arith;
             state = stateIn b′ n′;
@@ -155,13 +164,13 @@ module _ (s t : List ℕ) (budget : ℕ) (b₀ : List ℕ) (n₀ : List ℤ) whe
             first = λ q. let w = G .within in absurd (omega (arith, q, w, more));
           }
 
-      pub going-done : r ≡ Turn.Done → Ran (record { pause = Pause.Ended; steps = m + 1 }) s t b₀ n₀ b′ n′ budget
+      pub going-done : r ≡ Turn.Done → Ran (record { pause = Pause.Ended; steps = m + 1 }) s t b₀ n₀ b′ n′ most budget
       unfolding Went answerOf
       going-done e =
           let l = not-lost (λ h. let z : _≡_ {A = ℕ} 0 1 = cc in omega arith) in
           let W = subst (λ y. Went y s t b n b′ n′ c′ p) e (T .went l) in
           let E = W .2 (G .run) in
-          record { ran = sym (G .come .same) ∙ turn-done (programIn s t) u (status-here l) budget m under (stateIn b′ n′) (E .0) (ap (advance (programIn s t)) (G .come .here l) ∙ W .0) (E .1) ∙ rw (E .1, E .2) refl; over = λ _. (E .0, E .1); stuck = λ h. let z : _≡_ {A = ℕ} 0 1 = cc in absurd (omega arith); none = λ z. absurd (omega (arith, under, z)) }
+          record { ran = sym (G .come .same) ∙ turn-done most (programIn s t) u (status-here l) budget m under (stateIn b′ n′) (E .0) (to-most u ∙ ap (advanceWith (p .most) (programIn s t)) (G .come .here l) ∙ W .0) (E .1) ∙ rw (E .1, E .2) refl; over = λ _. (E .0, E .1); stuck = λ h. let z : _≡_ {A = ℕ} 0 1 = cc in absurd (omega arith); none = λ z. absurd (omega (arith, under, z)) }
 
       -- the arrays where it pauses
       module _ (b″ : List ℕ) (K : Keeps b′ b″ p) (W : Touched b n b′ n′) where
@@ -187,14 +196,14 @@ module _ (s t : List ℕ) (budget : ℕ) (b₀ : List ℕ) (n₀ : List ℤ) whe
         length-paused : 0 < p .last → Ready b″ n c
         length-paused l = subst (λ y. Ready y n c) (sym (paused-is l)) (synced-ready b n c (G .ready) (deep-here l) (G .kept .here l .low) (nextOf p))
 
-        pub going-stop : (h : Halt) → r ≡ Turn.Stop h → (b‴ : List ℕ) → stateIn b‴ n′ ≡ stoppedBy b″ n′ h → Ran (record { pause = Pause.Ended; steps = m + lastStep (endOf h) }) s t b₀ n₀ b‴ n′ budget
+        pub going-stop : (h : Halt) → r ≡ Turn.Stop h → (b‴ : List ℕ) → stateIn b‴ n′ ≡ stoppedBy b″ n′ h → Ran (record { pause = Pause.Ended; steps = m + lastStep (endOf h) }) s t b₀ n₀ b‴ n′ most budget
         unfolding Went answerOf withEnd
         going-stop h e b‴ q =
             let l = not-lost (λ k. let z : _≡_ {A = ℕ} 0 1 = cc in omega arith) in
             let A = subst (λ y. Went y s t b n b′ n′ c′ p) e (T .went l) .0 in
             let z = ap (λ y. stateIn b″ y) (W .numbers) ∙ paused-here l in
             record {
-              ran = sym (G .come .same) ∙ turn-stop (programIn s t) u (status-here l) budget m under (endOf h) (ap (advance (programIn s t)) (G .come .here l) ∙ A) ∙ sym (rw (q, z) refl);
+              ran = sym (G .come .same) ∙ turn-stop most (programIn s t) u (status-here l) budget m under (endOf h) (to-most u ∙ ap (advanceWith (p .most) (programIn s t)) (G .come .here l) ∙ A) ∙ sym (rw (q, z) refl);
               over = λ _. (endOf h, ap (λ (w : State). w .status) q);
               stuck = λ k. let o : _≡_ {A = ℕ} 0 1 = cc in absurd (omega arith);
               none = λ k. absurd (omega (arith, under, k));
@@ -206,39 +215,39 @@ module _ (s t : List ℕ) (budget : ℕ) (b₀ : List ℕ) (n₀ : List ℤ) whe
             let Q = length-paused l in
             (Q .bytes, ap length (W .numbers) ∙ Q .numbers)
 
-        stuck-here : 0 < p .last → r ≡ Turn.Stuck → Ran (record { pause = Pause.Stuck; steps = m }) s t b₀ n₀ b″ n′ budget
+        stuck-here : 0 < p .last → r ≡ Turn.Stuck → Ran (record { pause = Pause.Stuck; steps = m }) s t b₀ n₀ b″ n′ most budget
         unfolding Went answerOf
         stuck-here l e =
             let A = subst (λ y. Went y s t b n b′ n′ c′ p) e (T .went l) .0 in
             let z = ap (λ y. stateIn b″ y) (W .numbers) ∙ paused-here l in
             record {
-              ran = sym (G .come .same) ∙ turn-stuck (programIn s t) u (status-here l) budget m under (ap (advance (programIn s t)) (G .come .here l) ∙ A) ∙ sym (rw z refl);
+              ran = sym (G .come .same) ∙ turn-stuck most (programIn s t) u (status-here l) budget m under (to-most u ∙ ap (advanceWith (p .most) (programIn s t)) (G .come .here l) ∙ A) ∙ sym (rw z refl);
               over = λ k. let o : _≡_ {A = ℕ} 0 1 = cc in absurd (omega arith);
               stuck = λ _ k. let F = G .first (steps-none k) in (byte-is l (F .2 l) ∙ F .0, W .numbers ∙ F .1);
               none = λ k. absurd (omega (arith, under, k));
             }
 
       -- where it stands nowhere
-      stuck-lost : (b″ : List ℕ) → Keeps b′ b″ p → p .last ≡ 0 → Ran (record { pause = Pause.Stuck; steps = m }) s t b₀ n₀ b″ n′ budget
+      stuck-lost : (b″ : List ℕ) → Keeps b′ b″ p → p .last ≡ 0 → Ran (record { pause = Pause.Stuck; steps = m }) s t b₀ n₀ b″ n′ most budget
       unfolding answerOf
       stuck-lost b″ K z =
           let T₀ = T .lost z in
           let e : b″ ≡ b = K .lost z ∙ T₀ .1 in
           let q : stateIn b″ n′ ≡ u = rw (e, T₀ .2) (sym (G .come .lost z)) in
-          let A : advance (programIn s t) u ≡ stuck = ap (advance (programIn s t)) (G .come .lost z) ∙ G .kept .lost z in
+          let A : advanceWith most (programIn s t) u ≡ stuck = to-most u ∙ ap (advanceWith (p .most) (programIn s t)) (G .come .lost z) ∙ G .kept .lost z in
           let g : u .status ≡ Status.Running = ap (λ (w : State). w .status) (G .come .lost z) ∙ G .run in
           record {
-            ran = sym (G .come .same) ∙ turn-stuck (programIn s t) u g budget m under A ∙ sym (rw q refl);
+            ran = sym (G .come .same) ∙ turn-stuck most (programIn s t) u g budget m under A ∙ sym (rw q refl);
             over = λ k. let o : _≡_ {A = ℕ} 0 1 = cc in absurd (omega arith);
             stuck = λ _ k. let w = G .within in let F = G .first (omega arith) in (e ∙ F .0, T₀ .2 ∙ F .1);
             none = λ k. absurd (omega (arith, under, k));
           }
 
-      pub going-stuck : (b″ : List ℕ) → Keeps b′ b″ p → r ≡ Turn.Stuck → Ran (record { pause = Pause.Stuck; steps = m }) s t b₀ n₀ b″ n′ budget
+      pub going-stuck : (b″ : List ℕ) → Keeps b′ b″ p → r ≡ Turn.Stuck → Ran (record { pause = Pause.Stuck; steps = m }) s t b₀ n₀ b″ n′ most budget
       unfolding Went
       going-stuck b″ K e = go (decLt 0 (p .last))
         where
-          go : Dec (0 < p .last) → Ran (record { pause = Pause.Stuck; steps = m }) s t b₀ n₀ b″ n′ budget
+          go : Dec (0 < p .last) → Ran (record { pause = Pause.Stuck; steps = m }) s t b₀ n₀ b″ n′ most budget
           go (yes l) = stuck-here b″ K (subst (λ y. Went y s t b n b′ n′ c′ p) e (T .went l) .1) l e
           go (no l) = stuck-lost b″ K (omega arith)
 
@@ -270,7 +279,7 @@ module _ (s t : List ℕ) (budget : ℕ) (b₀ : List ℕ) (n₀ : List ℤ) whe
       over-low j e = subst (λ y. Went y s t b n b′ n′ c′ p) e (T .went (not-lost (λ h. let z : _≡_ {A = ℕ} 0 1 = cc in omega arith))) .5
 
   -- where the budget is used up
-  module _ (b : List ℕ) (n : List ℤ) (c x : List ℕ) (p : Spot) (left : ℕ) (G : Going s t budget b₀ n₀ b n c x p left) where
+  module _ (b : List ℕ) (n : List ℤ) (c x : List ℕ) (p : Spot) (left : ℕ) (G : Going s t most budget b₀ n₀ b n c x p left) where
     pub none-keep : 0 < p .last → going.Standing b p
     none-keep l = let H = G .kept .here l in record { deep = depth-there s t b n p H c (G .ready); low = H .low; first = H .first; near = H .near; small = H .small }
 
@@ -281,10 +290,10 @@ module _ (s t : List ℕ) (budget : ℕ) (b₀ : List ℕ) (n₀ : List ℤ) whe
         go (yes l) = let H = G .kept .here l in let a = H .near in let z = H .small in omega arith
         go (no l) = let z = G .kept .none (omega arith) in omega arith
 
-    pub going-none : left ≡ 0 → (b″ : List ℕ) → Keeps b b″ p → Ran (record { pause = Pause.Steps; steps = budget }) s t b₀ n₀ b″ n budget
+    pub going-none : left ≡ 0 → (b″ : List ℕ) → Keeps b b″ p → Ran (record { pause = Pause.Steps; steps = budget }) s t b₀ n₀ b″ n most budget
     unfolding answerOf
     going-none z b″ K = record {
-      ran = sym (G .come .same) ∙ turn-none (programIn s t) (G .state) budget (budget - left) (omega arith) ∙ (let e : budget - left ≡ budget = omega arith in sym (rw (paused (decLt 0 (p .last)), e) refl));
+      ran = sym (G .come .same) ∙ turn-none most (programIn s t) (G .state) budget (budget - left) (omega arith) ∙ (let e : budget - left ≡ budget = omega arith in sym (rw (paused (decLt 0 (p .last)), e) refl));
       over = λ h. let o : _≡_ {A = ℕ} 0 1 = cc in absurd (omega arith);
       stuck = λ h. let o : _≡_ {A = ℕ} 0 1 = cc in absurd (omega arith);
       none = λ h. let F = G .first (omega arith) in (untouched (F .2) (decLt 0 (p .last)) ∙ F .0, F .1);
@@ -299,7 +308,7 @@ module _ (s t : List ℕ) (budget : ℕ) (b₀ : List ℕ) (n₀ : List ℤ) whe
         paused (no l) = let w : p .last ≡ 0 = omega arith in ap (λ y. stateIn y n) (K .lost w) ∙ sym (G .come .lost w)
 
 -- one sum for another
-pub over-spot : (s t : List ℕ) (budget : ℕ) (b₀ : List ℕ) (n₀ : List ℤ) (b : List ℕ) (n : List ℤ) (c x : List ℕ) (p : Spot) (left j : ℕ) → Going s t budget b₀ n₀ b n c x (onward p (1 + j)) left
-    → Going s t budget b₀ n₀ b n c x (record { frame = p .frame; block = p .block; next = p .next + 1 + j; last = p .last }) left
+pub over-spot : (s t : List ℕ) (most budget : ℕ) (b₀ : List ℕ) (n₀ : List ℤ) (b : List ℕ) (n : List ℤ) (c x : List ℕ) (p : Spot) (left j : ℕ) → Going s t most budget b₀ n₀ b n c x (onward p (1 + j)) left
+    → Going s t most budget b₀ n₀ b n c x (record { frame = p .frame; block = p .block; next = p .next + 1 + j; last = p .last; most = p .most }) left
 unfolding onward
-over-spot s t budget b₀ n₀ b n c x p left j G = let e : p .next + (1 + j) ≡ p .next + 1 + j = omega arith in subst (λ i. Going s t budget b₀ n₀ b n c x (record { frame = p .frame; block = p .block; next = i; last = p .last }) left) e G
+over-spot s t most budget b₀ n₀ b n c x p left j G = let e : p .next + (1 + j) ≡ p .next + 1 + j = omega arith in subst (λ i. Going s t most budget b₀ n₀ b n c x (record { frame = p .frame; block = p .block; next = i; last = p .last; most = p .most }) left) e G

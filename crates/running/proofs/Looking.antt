@@ -2,7 +2,7 @@
 use mathlib.Core.Path.{_≡_, refl, sym, ap, _∙_, subst}
 use mathlib.Core.List.{List}
 use mathlib.Core.Bool.{Bool, true, false, cond, false≢true}
-use mathlib.Core.Logic.{inl, inr}
+use mathlib.Core.Logic.{_⊎_, inl, inr}
 use Rattle.ending.specs.Ends as ends
 use Rattle.ending.specs.Ends.{BlockEnds, Working, returnsIn}
 use Rattle.ending.specs.declared.Ended.{Ended}
@@ -15,13 +15,15 @@ use Rattle.machine.specs.declared.Status.{Status}
 use Rattle.program.specs.Program.{Program}
 use Rattle.runs.specs.Lives.{isDone}
 use Rattle.runs.proofs.Keeps.{gives-got}
+use Rattle.runs.proofs.Caps.{own-or-vectors}
 use Rattle.runs.proofs.Lives.{GoesOn, advance-gives}
+use Rattle.store.proofs.Statuses.{ended-by}
 use Rattle.running.specs.Standing.{aside, standing, stateAt}
 use Rattle.running.specs.Turning.{Kept, Left, Quick, Turned}
 use Rattle.layout.specs.Kinds as kind
 use Rattle.layout.specs.declared.Form.{Form}
 use Rattle.program.specs.Program.{numberIn}
-use Rattle.loaded.proofs.Reading.{long-lit, long-vec}
+use Rattle.loaded.proofs.Reading.{long-call, long-dispatch, long-lit, long-vec}
 use lib.ListN.{drop}
 use Rattle.running.proofs.Turning.{deep-with, depth-there, here-end, here-outside, here-with, low-with, room, synced-ready, untouched}
 use lib.Dec.{eqb}
@@ -35,7 +37,7 @@ use Rattle.program.specs.Program.{Instr, LIT, PROM, VEC}
 use Rattle.layout.specs.Records.{every, fields}
 use Rattle.store.specs.Store.{frameIn, stateIn}
 use Rattle.matching.specs.Kinds.{TypedBy}
-use Rattle.store.specs.Acts.{Executes}
+use Rattle.store.specs.Acts.{Executes, ExecutesWith}
 use Rattle.store.specs.Counts.{Ready}
 use Rattle.store.specs.declared.Did.{Did}
 use Rattle.acts.specs.Typed.{ExecutesIf, ExecutesTyped, typedIn, typedOf}
@@ -45,7 +47,9 @@ use Rattle.running.specs.Turning.{Looks, ownIn}
 use Rattle.layout.specs.Records.{_!_}
 use Rattle.program.specs.Program.{Version}
 use Rattle.machine.specs.Calls.{enter}
+use Rattle.machine.specs.Allowed.{advanceWith, executeWith}
 use Rattle.machine.specs.Steps.{advance, execute}
+use Rattle.machine.proofs.Within.{makes, own-within}
 use Rattle.machine.specs.States.{value}
 use Rattle.machine.specs.Try.{Try, got, stuck, stop, each, _>>=_}
 use Rattle.machine.specs.declared.End.{End}
@@ -58,7 +62,7 @@ use Rattle.store.specs.Answers.{endOf}
 use Rattle.store.specs.declared.Halt.{Halt}
 use Rattle.listing.specs.Entering.{AllFull, Enters, entered}
 use Rattle.loaded.specs.Loaded.{instrIn, placeIn, recordAt}
-use Rattle.matching.specs.Choosing.{Chooses, Comes, Entering, countAt, executedAt, registersAt}
+use Rattle.matching.specs.Choosing.{Calling, Chooses, Comes, Entering, countAt, executedAt, registersAt}
 use Rattle.matching.specs.declared.Choice.{Choice}
 use Rattle.matching.specs.declared.Site.{Site}
 use Rattle.running.specs.Plain.{isPlain}
@@ -66,7 +70,7 @@ use Rattle.running.specs.Standing.{Here, nextByte, nextOf, onward}
 use Rattle.running.specs.Turning.{Answers, Chosen, Opens, Stands, Stored, Went, openedOf, turnOf}
 use Rattle.running.specs.declared.Spot.{Spot}
 use Rattle.running.specs.declared.Turn.{Turn}
-use Rattle.running.proofs.Turning.{function-with, opened-went, past-line, plain-went, version-with}
+use Rattle.running.proofs.Turning.{function-with, opened-went, own-executes, past-line, plain-went, version-with}
 use lib.ListN.{set}
 
 -- PROM, told how many blocks there are
@@ -84,8 +88,8 @@ pub typed-look : (s t b : List ℕ) (n : List ℤ) (b′ : List ℕ) (n′ : Lis
 typed-look s t b n b′ n′ c′ k r x d a i h T E = (E .0 (programIn s t) (versionIn s t (ownIn b k)) (subst (λ v. typedIn (programIn s t) (versionIn s t v) (stateIn b n) (frameIn b n k) d a ≡ typedOf x) h (T n)), E .1)
 
 -- VEC with the registers that stand in the image
-pub vec-as : (s b : List ℕ) (n : List ℤ) (b′ : List ℕ) (n′ : List ℤ) (c′ : List ℕ) (k : ℕ) (r : Did) (at m : ℕ) {d e : ℕ} {rs : List ℕ} → d ≡ e → rs ≡ fields s at m → Executes r b n b′ n′ c′ k (VEC d rs) → Executes r b n b′ n′ c′ k (VEC e (fields s at m))
-vec-as s b n b′ n′ c′ k r at m p q E = rw (sym p, sym q) E
+pub vec-as : (most : ℕ) (s b : List ℕ) (n : List ℤ) (b′ : List ℕ) (n′ : List ℤ) (c′ : List ℕ) (k : ℕ) (r : Did) (at m : ℕ) {d e : ℕ} {rs : List ℕ} → d ≡ e → rs ≡ fields s at m → ExecutesWith most r b n b′ n′ c′ k (VEC d rs) → ExecutesWith most r b n b′ n′ c′ k (VEC e (fields s at m))
+vec-as most s b n b′ n′ c′ k r at m p q E = rw (sym p, sym q) E
 
 -- the part of a room that was listed
 pub sliced : (s rs : List ℕ) (at n : ℕ) {x : ℕ} {m : ℕ} → take n rs ≡ every s at 1 n → n ≡ few m → m ≡ x → take (n - 0) rs ≡ fields s at (few x)
@@ -95,13 +99,14 @@ sliced s rs at n e f g = let z : n - 0 ≡ n = omega arith in ap (λ j. take j r
 
 module _ (s t b : List ℕ) (n : List ℤ) (p : Spot) (H : Here s t b n p) (l : p .next < p .last) where
   -- a plain instruction of the version in the loaded program
-  pub look-went : (b′ : List ℕ) (n′ : List ℤ) (c′ : List ℕ) (i : Instr) (r : Did) {x : Turn} → x ≡ turnOf r → Looks r s t b n b′ n′ c′ (p .frame) i → instrIn s t (p .next) ≡ i → isPlain i ≡ true → Went x s t b n b′ n′ c′ p
-  look-went b′ n′ c′ i r e L is q =
+  pub look-went : (b′ : List ℕ) (n′ : List ℤ) (c′ : List ℕ) (i : Instr) (r : Did) {x : Turn} → x ≡ turnOf r → Looks r s t b n b′ n′ c′ (p .frame) i → instrIn s t (p .next) ≡ i → isPlain i ≡ true → makes i ≡ false → Went x s t b n b′ n′ c′ p
+  look-went b′ n′ c′ i r e L is q o =
       subst (λ y. Went y s t b n b′ n′ c′ p) (sym e)
-      (plain-went s t b n p H l i is q b′ n′ c′ r (subst (λ v. Does r (execute (programIn s t) (stateIn b n) (p .frame) (frameIn b n (p .frame)) (versionIn s t v) i) b n b′ n′) (sym (H .number)) (L .0)) (L .1))
+      (plain-went s t b n p H l i is q b′ n′ c′ r (subst (λ u. Does r u b n b′ n′) (sym (own-within (p .most) (programIn s t) (stateIn b n) (p .frame) (frameIn b n (p .frame)) (versionIn s t (H .own)) i o))
+      (subst (λ v. Does r (execute (programIn s t) (stateIn b n) (p .frame) (frameIn b n (p .frame)) (versionIn s t v) i) b n b′ n′) (sym (H .number)) (L .0))) (L .1))
 
-  pub plain-looks : (b′ : List ℕ) (n′ : List ℤ) (c′ : List ℕ) (i : Instr) (r : Did) → Executes r b n b′ n′ c′ (p .frame) i → Looks r s t b n b′ n′ c′ (p .frame) i
-  plain-looks b′ n′ c′ i r E = (E .0 (programIn s t) (versionIn s t (ownIn b (p .frame))), E .1)
+  pub made-went : (b′ : List ℕ) (n′ : List ℤ) (c′ : List ℕ) (i : Instr) (r : Did) {x : Turn} → x ≡ turnOf r → ExecutesWith (p .most) r b n b′ n′ c′ (p .frame) i → instrIn s t (p .next) ≡ i → isPlain i ≡ true → Went x s t b n b′ n′ c′ p
+  made-went b′ n′ c′ i r e E is q = subst (λ y. Went y s t b n b′ n′ c′ p) (sym e) (plain-went s t b n p H l i is q b′ n′ c′ r (E .0 (programIn s t) (versionIn s t (H .own))) (E .1))
 
 -- what is not plain is not left
 pub not-rest : (r : Did) {x : Turn} → x ≡ turnOf r → x ≡ Turn.Rest → ⊥
@@ -112,11 +117,20 @@ not-rest (Did.Stop x) e h = let z : _≡_ {A = ℕ} 0 1 = cc in omega arith
 
 -- ---- CALL and DISPATCH
 
+-- CALL and DISPATCH make no vector
+calls-own : (s t : List ℕ) (i : ℕ) → Calling (t ! recordAt i) → makes (instrIn s t i) ≡ false
+unfolding makes
+calls-own s t i C = go (decLt (t ! recordAt i) 34)
+  where
+    go : Dec (t ! recordAt i < 34) → makes (instrIn s t i) ≡ false
+    go (yes l) = rw (long-call s t i (let z : t ! recordAt i ≡ 33 = omega (arith, C .0, l) in z)) refl
+    go (no l) = rw (long-dispatch s t i (let z : t ! recordAt i ≡ 34 = omega (arith, C .1, l) in z)) refl
+
 -- entering keeps the status
 enter-status : (u : State) (k d : ℕ) (f : Frame) (W : Version) (rs : List ℕ) → Gives (λ (w : State). w .status ≡ u .status) (entered u k f d W rs)
 enter-status u k d f W rs = gives-then _ (each (value f) rs) _ (λ vs _. gives-weaken (EntersOn u (W .function) (W .version)) _ (enter u k d W rs vs) (enter-enters u k d W rs vs) (λ w h. h .0))
 
-module _ (s t b : List ℕ) (n : List ℤ) (p : Spot) (H : Here s t b n p) (c : List ℕ) (R : Ready b n c) (l : p .next < p .last) (b₁ : List ℕ) (st : Stored b b₁ p 1) (x : Site) (own-is : x .own ≡ ownIn b₁ (p .frame)) (at-frame : x .frame ≡ p .frame) (rs : List ℕ) (b′ : List ℕ) (n′ : List ℤ) (c′ : List ℕ) where
+module _ (s t b : List ℕ) (n : List ℤ) (p : Spot) (H : Here s t b n p) (c : List ℕ) (R : Ready b n c) (l : p .next < p .last) (b₁ : List ℕ) (st : Stored b b₁ p 1) (x : Site) (own-is : x .own ≡ ownIn b₁ (p .frame)) (at-frame : x .frame ≡ p .frame) (rs : List ℕ) (b′ : List ℕ) (n′ : List ℤ) (c′ : List ℕ) (calling : Calling (t ! recordAt (p .next))) where
   abbrev b₂ : List ℕ
   b₂ = set b (nextByte b) (nextOf (onward p 1))
 
@@ -132,11 +146,11 @@ module _ (s t b : List ℕ) (n : List ℤ) (p : Spot) (H : Here s t b n p) (c : 
   module _ (r : Choice) (C : Comes r s t b₁ n x (p .next) rs) where
     pub call-stuck : r ≡ Choice.Stuck → b′ ≡ b₁ → n′ ≡ n → Went Turn.Stuck s t b n b′ n′ c′ p
     unfolding Comes Went
-    call-stuck e f g = let D : executedAt s t b₁ n x (p .next) ≡ stuck = subst (λ y. Comes y s t b₁ n x (p .next) rs) e C in (past-line s t b n p H c R l ∙ sym at-site ∙ D, record { next = nextOf (onward p 1); bytes = f ∙ st; numbers = g })
+    call-stuck e f g = let D : executedAt s t b₁ n x (p .next) ≡ stuck = subst (λ y. Comes y s t b₁ n x (p .next) rs) e C in (past-line s t b n p H c R l (calls-own s t (p .next) calling) ∙ sym at-site ∙ D, record { next = nextOf (onward p 1); bytes = f ∙ st; numbers = g })
 
     pub call-undef : r ≡ Choice.Undef → b′ ≡ b₁ → n′ ≡ n → Went (Turn.Stop Halt.Undef) s t b n b′ n′ c′ p
     unfolding Comes Went endOf
-    call-undef e f g = let D : executedAt s t b₁ n x (p .next) ≡ stop End.Undef = subst (λ y. Comes y s t b₁ n x (p .next) rs) e C in (past-line s t b n p H c R l ∙ sym at-site ∙ D, record { next = nextOf (onward p 1); bytes = f ∙ st; numbers = g })
+    call-undef e f g = let D : executedAt s t b₁ n x (p .next) ≡ stop End.Undef = subst (λ y. Comes y s t b₁ n x (p .next) rs) e C in (past-line s t b n p H c R l (calls-own s t (p .next) calling) ∙ sym at-site ∙ D, record { next = nextOf (onward p 1); bytes = f ∙ st; numbers = g })
 
     module _ (j m : ℕ) (e : r ≡ Choice.Version j m) where
       pub entering : Entering j m s t b₁ n x (p .next) rs
@@ -144,7 +158,7 @@ module _ (s t b : List ℕ) (n : List ℤ) (p : Spot) (H : Here s t b n p) (c : 
       entering = subst (λ y. Comes y s t b₁ n x (p .next) rs) e C
 
       pub call-went : (y : Did) (d : ℕ) → d ≡ s ! (x .place + 2) → Enters y b₁ n b′ n′ c′ (p .frame) (record { d = d; function = j / 4; version = j % 4 }) m rs → Went (openedOf y) s t b n b′ n′ c′ p
-      call-went y d q E = opened-went s t b n p H c R l (instrIn s t (p .next)) refl b′ n′ c′ y (subst (λ z. Does y z b₂ n b′ n′) (sym done-is) entered-does) (E .1) (subst (Gives (λ (w : State). w .status ≡ stateIn b₂ n .status)) (sym done-is) (enter-status (stateIn b₂ n) (p .frame) d (frameIn b₂ n (p .frame)) (versionIn s t j) rs))
+      call-went y d q E = opened-went s t b n p H c R l (instrIn s t (p .next)) refl (calls-own s t (p .next) calling) b′ n′ c′ y (subst (λ z. Does y z b₂ n b′ n′) (sym done-is) entered-does) (E .1) (subst (Gives (λ (w : State). w .status ≡ stateIn b₂ n .status)) (sym done-is) (enter-status (stateIn b₂ n) (p .frame) d (frameIn b₂ n (p .frame)) (versionIn s t j) rs))
         where
           done-is : now-done ≡ entered (stateIn b₂ n) (p .frame) (frameIn b₂ n (p .frame)) d (versionIn s t j) rs
           done-is = sym at-site ∙ entering .enters ∙ rw (at-frame, sym q, st) refl
@@ -215,36 +229,27 @@ module _ (s t b : List ℕ) (n : List ℤ) (p : Spot) (S : Stands s t b n p) (c 
         go Choice.Undef E = omega arith
         go Choice.Stuck E = omega arith
 
-    module _ (y : Turn) (d : ℕ) (d-is : d ≡ s ! (x .place + 2)) (b′ : List ℕ) (n′ : List ℤ) (c′ : List ℕ) (O : Opens y r b₁ n b′ n′ c′ (p .frame) d rs) where
+    module _ (calling : Calling (t ! recordAt (p .next))) (y : Turn) (d : ℕ) (d-is : d ≡ s ! (x .place + 2)) (b′ : List ℕ) (n′ : List ℤ) (c′ : List ℕ) (O : Opens y r b₁ n b′ n′ c′ (p .frame) d rs) where
       pub call-answers : Answers y s t b n b′ n′ c′ p
       unfolding Opens
       call-answers = go r refl O
         where
           go : (z : Choice) → r ≡ z → Opens y z b₁ n b′ n′ c′ (p .frame) d rs → Answers y s t b n b′ n′ c′ p
-          go (Choice.Version j m) e E = (subst (λ w. Went w s t b n b′ n′ c′ p) (sym (E .turn)) (call-went s t b n p (S .here) c R (S .line) b₁ st x own-is at-frame rs b′ n′ c′ r comes j m e (E .did) d d-is (E .enters)), λ q. moved-rest (E .did) (sym (E .turn) ∙ q))
-          go Choice.Undef e E = (subst (λ w. Went w s t b n b′ n′ c′ p) (sym (E .0)) (call-undef s t b n p (S .here) c R (S .line) b₁ st x own-is at-frame rs b′ n′ c′ r comes e (E .1) (E .2)), λ q. stop-rest Halt.Undef (sym (E .0) ∙ q))
-          go Choice.Stuck e E = (subst (λ w. Went w s t b n b′ n′ c′ p) (sym (E .0)) (call-stuck s t b n p (S .here) c R (S .line) b₁ st x own-is at-frame rs b′ n′ c′ r comes e (E .1) (E .2)), λ q. stuck-rest (sym (E .0) ∙ q))
+          go (Choice.Version j m) e E = (subst (λ w. Went w s t b n b′ n′ c′ p) (sym (E .turn)) (call-went s t b n p (S .here) c R (S .line) b₁ st x own-is at-frame rs b′ n′ c′ calling r comes j m e (E .did) d d-is (E .enters)), λ q. moved-rest (E .did) (sym (E .turn) ∙ q))
+          go Choice.Undef e E = (subst (λ w. Went w s t b n b′ n′ c′ p) (sym (E .0)) (call-undef s t b n p (S .here) c R (S .line) b₁ st x own-is at-frame rs b′ n′ c′ calling r comes e (E .1) (E .2)), λ q. stop-rest Halt.Undef (sym (E .0) ∙ q))
+          go Choice.Stuck e E = (subst (λ w. Went w s t b n b′ n′ c′ p) (sym (E .0)) (call-stuck s t b n p (S .here) c R (S .line) b₁ st x own-is at-frame rs b′ n′ c′ calling r comes e (E .1) (E .2)), λ q. stuck-rest (sym (E .0) ∙ q))
 
 -- ---- the end of a block
 
--- all but 0 is an end
-pub ended-by : (m : ℕ) → (m ≡ 0 → ⊥) → (l : ℕ) (v : ℤ) → (w : End) × (statusOf m l v ≡ Status.Ended w)
-unfolding statusOf
-ended-by m h l v = rw (ne-eqb m 0 h) (five (eqb m 1) (eqb m 2) (eqb m 3) (eqb m 4) (eqb m 5))
-  where
-    five : (a b c d e : Bool) → (w : End) × (cond a (Status.Ended (End.Integer v)) (cond b (Status.Ended (End.Vector l)) (cond c (Status.Ended End.Undef) (cond d (Status.Ended End.Deep) (cond e (Status.Ended End.Vectors) (Status.Ended End.Promises))))) ≡ Status.Ended w)
-    five true b c d e = (End.Integer v, refl)
-    five false true c d e = (End.Vector l, refl)
-    five false false true d e = (End.Undef, refl)
-    five false false false true e = (End.Deep, refl)
-    five false false false false true = (End.Vectors, refl)
-    five false false false false false = (End.Promises, refl)
-
 -- a step of a run that goes on ends it with DONE alone
-pub done-by : (P : Program) (u w : State) (x : End) → u .status ≡ Status.Running → advance P u ≡ got w → w .status ≡ Status.Ended x → lastStep x ≡ 1
+pub done-by : (most : ℕ) (P : Program) (u w : State) (x : End) → u .status ≡ Status.Running → advanceWith most P u ≡ got w → w .status ≡ Status.Ended x → lastStep x ≡ 1
 unfolding isDone lastStep
-done-by P u w x run e q = go (gives-got _ (advance P u) w (advance-gives P u) e .0)
+done-by most P u w x run e q = go (gives-got _ (advance P u) w (advance-gives P u) (advanced (own-or-vectors most P u)) .0)
   where
+    advanced : (advanceWith most P u ≡ advance P u) ⊎ (advanceWith most P u ≡ stop End.Vectors) → advance P u ≡ got w
+    advanced (inl h) = sym h ∙ e
+    advanced (inr h) = let z : _≡_ {A = ℕ} 0 1 = cc in absurd (omega arith)
+
     count : (y : End) → isDone y ≡ true → lastStep y ≡ 1
     count (End.Integer z) d = refl
     count (End.Vector m) d = refl
@@ -270,7 +275,7 @@ module _ (s t b : List ℕ) (n : List ℤ) (p : Spot) (H : Here s t b n p) (c : 
   )
 
   module _ (x : Typed) {v r : ℕ} (own-is : v ≡ ownIn b₁ (p .frame)) (r-is : r ≡ blockIn s t (p .block) .result) (T : Returned x s t b₁ (p .frame) v r) (y : Ended) (b′ : List ℕ) (n′ : List ℤ) (c′ : List ℕ) (B : BlockEnds x y b₁ n b′ n′ c′ (p .frame) r) where
-    came : ends.Comes y (advance (programIn s t) (stateAt b n p)) b₁ n b′ n′
+    came : ends.Comes y (advanceWith (p .most) (programIn s t) (stateAt b n p)) b₁ n b′ n′
     came = subst (λ z. ends.Comes y z b₁ n b′ n′) (sym (here-end s t b n p H c R e ∙ rw (sym stored-here, sym r-is) refl)) (B .0 (programIn s t) (versionIn s t (H .own)) (λ _. subst (λ w. returnsIn (programIn s t) (versionIn s t w) (stateIn b₁ n) (frameIn b₁ n (p .frame)) r ≡ typedOf x) (own-is ∙ end-ready .2) (T n)))
 
     at-status : stateAt b n p .status ≡ stateIn b n .status
@@ -279,26 +284,26 @@ module _ (s t b : List ℕ) (n : List ℤ) (p : Spot) (H : Here s t b n p) (c : 
 
     pub end-stuck : y ≡ Ended.Stuck → Answers Turn.Stuck s t b n b′ n′ c′ p
     unfolding ends.Comes Went
-    end-stuck q = let D = subst (λ z. ends.Comes z (advance (programIn s t) (stateAt b n p)) b₁ n b′ n′) q came in ((D .0, record { next = nextOf p; bytes = D .1 ∙ stored-here; numbers = D .2 }), stuck-rest)
+    end-stuck q = let D = subst (λ z. ends.Comes z (advanceWith (p .most) (programIn s t) (stateAt b n p)) b₁ n b′ n′) q came in ((D .0, record { next = nextOf p; bytes = D .1 ∙ stored-here; numbers = D .2 }), stuck-rest)
 
     pub end-moved : y ≡ Ended.Back → b′ ! STATUS ≡ 0 → Answers Turn.Moved s t b n b′ n′ c′ p
     unfolding ends.Comes ends.Left Went stateIn statusOf
-    end-moved q z = ((subst (λ w. ends.Comes w (advance (programIn s t) (stateAt b n p)) b₁ n b′ n′) q came, subst (λ w. ends.Left w b′ n′ c′) q (B .1), λ _. rw z refl), λ h. let o : _≡_ {A = ℕ} 0 1 = cc in omega arith)
+    end-moved q z = ((subst (λ w. ends.Comes w (advanceWith (p .most) (programIn s t) (stateAt b n p)) b₁ n b′ n′) q came, subst (λ w. ends.Left w b′ n′ c′) q (B .1), λ _. rw z refl), λ h. let o : _≡_ {A = ℕ} 0 1 = cc in omega arith)
 
     pub end-done : y ≡ Ended.Done → Answers Turn.Done s t b n b′ n′ c′ p
     unfolding ends.Comes ends.Left Went
     end-done q =
-        let D = subst (λ w. ends.Comes w (advance (programIn s t) (stateAt b n p)) b₁ n b′ n′) q came in
+        let D = subst (λ w. ends.Comes w (advanceWith (p .most) (programIn s t) (stateAt b n p)) b₁ n b′ n′) q came in
         let L = subst (λ w. ends.Left w b′ n′ c′) q (B .1) in
-        ((D, L .0, λ run. (L .1 .0, L .1 .1, done-by (programIn s t) (stateAt b n p) (stateIn b′ n′) (L .1 .0) (at-status ∙ run) D (L .1 .1))), λ h. let o : _≡_ {A = ℕ} 0 1 = cc in omega arith)
+        ((D, L .0, λ run. (L .1 .0, L .1 .1, done-by (p .most) (programIn s t) (stateAt b n p) (stateIn b′ n′) (L .1 .0) (at-status ∙ run) D (L .1 .1))), λ h. let o : _≡_ {A = ℕ} 0 1 = cc in omega arith)
 
     pub end-over : y ≡ Ended.Back → (b′ ! STATUS ≡ 0 → ⊥) → Answers Turn.Done s t b n b′ n′ c′ p
     unfolding ends.Comes ends.Left Went stateIn
     end-over q z =
-        let D = subst (λ w. ends.Comes w (advance (programIn s t) (stateAt b n p)) b₁ n b′ n′) q came in
+        let D = subst (λ w. ends.Comes w (advanceWith (p .most) (programIn s t) (stateAt b n p)) b₁ n b′ n′) q came in
         let Q : Ready b′ n′ c′ = subst (λ w. ends.Left w b′ n′ c′) q (B .1) in
         let E = ended-by (b′ ! STATUS) z (b′ ! (STATUS + 1)) (n′ # ENDING) in
-        ((D, (Q .bytes, Q .numbers), λ run. (E .0, E .1, done-by (programIn s t) (stateAt b n p) (stateIn b′ n′) (E .0) (at-status ∙ run) D (E .1))), λ h. let o : _≡_ {A = ℕ} 0 1 = cc in omega arith)
+        ((D, (Q .bytes, Q .numbers), λ run. (E .0, E .1, done-by (p .most) (programIn s t) (stateAt b n p) (stateIn b′ n′) (E .0) (at-status ∙ run) D (E .1))), λ h. let o : _≡_ {A = ℕ} 0 1 = cc in omega arith)
 
 -- ---- a turn
 
@@ -306,11 +311,14 @@ plain-rest : (r : Did) {x : Turn} → x ≡ turnOf r → x ≡ Turn.Rest → ⊥
 plain-rest r e h = not-rest r e h
 
 module _ (s t b : List ℕ) (n : List ℤ) (p : Spot) (S : Stands s t b n p) (b′ : List ℕ) (n′ : List ℤ) (c′ : List ℕ) where
-  pub look-answers : (i : Instr) (r : Did) {x : Turn} → x ≡ turnOf r → Looks r s t b n b′ n′ c′ (p .frame) i → instrIn s t (p .next) ≡ i → isPlain i ≡ true → Answers x s t b n b′ n′ c′ p
-  look-answers i r e L is q = (look-went s t b n p (S .here) (S .line) b′ n′ c′ i r e L is q, plain-rest r e)
+  pub look-answers : (i : Instr) (r : Did) {x : Turn} → x ≡ turnOf r → Looks r s t b n b′ n′ c′ (p .frame) i → instrIn s t (p .next) ≡ i → isPlain i ≡ true → makes i ≡ false → Answers x s t b n b′ n′ c′ p
+  look-answers i r e L is q o = (look-went s t b n p (S .here) (S .line) b′ n′ c′ i r e L is q o, plain-rest r e)
 
-  pub plain-answers : (i : Instr) (r : Did) {x : Turn} → x ≡ turnOf r → Executes r b n b′ n′ c′ (p .frame) i → instrIn s t (p .next) ≡ i → isPlain i ≡ true → Answers x s t b n b′ n′ c′ p
-  plain-answers i r e E is q = look-answers i r e (plain-looks s t b n p (S .here) (S .line) b′ n′ c′ i r E) is q
+  pub made-answers : (i : Instr) (r : Did) {x : Turn} → x ≡ turnOf r → ExecutesWith (p .most) r b n b′ n′ c′ (p .frame) i → instrIn s t (p .next) ≡ i → isPlain i ≡ true → Answers x s t b n b′ n′ c′ p
+  made-answers i r e E is q = (made-went s t b n p (S .here) (S .line) b′ n′ c′ i r e E is q, plain-rest r e)
+
+  pub plain-answers : (i : Instr) (r : Did) {x : Turn} → x ≡ turnOf r → Executes r b n b′ n′ c′ (p .frame) i → instrIn s t (p .next) ≡ i → isPlain i ≡ true → makes i ≡ false → Answers x s t b n b′ n′ c′ p
+  plain-answers i r e E is q o = made-answers i r e (own-executes (p .most) r b n b′ n′ c′ (p .frame) i o E) is q
 
 -- from what the loop keeps
 pub stands-by : (s t b : List ℕ) (n : List ℤ) (p : Spot) → Kept s t b n p → p .next < p .last → Stands s t b n p

@@ -11,14 +11,15 @@ use lib.Seq.{set-set}
 use lib.Dec.{leb}
 use borrow.Author.Tests.{le-leb, lt-leb}
 use Rattle.layout.specs.Bounds.{INSTRUCTIONS}
-use Rattle.layout.specs.Tests.{any}
+use Rattle.layout.specs.Tests.{any, _and_}
 use Rattle.layout.proofs.Lists.{get-take, take-in, get-same, get-in}
 use Rattle.program.specs.Program.{Block, Instr, SKIP, Version, Program, findVersion}
 use Rattle.machine.specs.Try.{Try, got, stuck, stop, _>>=_, _>>_, stuckUnless, at, orStuck}
-use Rattle.machine.specs.Values.{isZero}
-use Rattle.machine.specs.States.{isForce, integer, liveActivations, liveFrames, pending, value, withStack}
+use Rattle.machine.specs.Values.{RANGE, isZero}
+use Rattle.machine.specs.States.{held, isForce, integer, liveActivations, liveFrames, pending, value, vectorCounts, withStack}
 use Rattle.machine.specs.Calls.{finish, passed, skipped}
-use Rattle.machine.specs.Steps.{Here, Position, advanceTo, blockEnd, executeTo, here, instruction, outside, position, positionOf, proceedTo}
+use Rattle.machine.specs.Allowed.{advanceWith, executeWith, needsVector, proceedWith, vectorsIn}
+use Rattle.machine.specs.Steps.{Here, Position, blockEnd, execute, executeTo, here, instruction, outside, position, positionOf, proceedTo}
 use Rattle.machine.specs.declared.Activation.{Activation}
 use Rattle.machine.specs.declared.End.{End}
 use Rattle.machine.specs.declared.Frame.{Frame}
@@ -42,7 +43,16 @@ any-set p (x ∷ l) zero (suc i) a b e o = refl
 any-set p (x ∷ l) (suc d) zero a b e o = let q : x ≡ a = cc in ap (λ w. isForce p w || any (λ (c : Activation). isForce p (c .opener)) (take d l)) (o ∙ ap (λ (c : Activation). c .opener) (sym q))
 any-set p (x ∷ l) (suc d) (suc i) a b e o = ap (λ w. isForce p (x .opener) || w) (any-set p l d i a b e o)
 
-module _ (R : ℕ) (P : Program) (u : State) (k : ℕ) (a : Activation) (f : Frame) (W : Version) (B : Block) (S : Spotted P u k a f W B) where
+-- an instruction that is executed is executed as without a pool
+pub with-got : (most : ℕ) (P : Program) (u : State) (k : ℕ) (f : Frame) (W : Version) (i : Instr) (w : State) → executeWith most P u k f W i ≡ got w → execute P u k f W i ≡ got w
+unfolding executeWith
+with-got most P u k f W i w = go (needsVector (u .vectors) f i and leb most (vectorsIn u))
+  where
+    go : (t : Bool) → elim t [ true ↦ stop End.Vectors | false ↦ execute P u k f W i ] ≡ got w → execute P u k f W i ≡ got w
+    go true e = let z : _≡_ {A = ℕ} 0 1 = cc in absurd (omega arith)
+    go false e = e
+
+module _ (most : ℕ) (P : Program) (u : State) (k : ℕ) (a : Activation) (f : Frame) (W : Version) (B : Block) (S : Spotted P u k a f W B) where
   abbrev list : ℕ → List Activation
   list x = set (u .activations) (u .depth - 1) (moved a x)
 
@@ -64,8 +74,8 @@ module _ (R : ℕ) (P : Program) (u : State) (k : ℕ) (a : Activation) (f : Fra
   unfolding here standing aside withStack liveFrames moved _>>=_ at orStuck
   here-standing x = rw (at-top x, S .frame, S .live, S .version, S .block) refl
 
-  step-at : (x : ℕ) → advanceTo R P (standing u a x) ≡ proceedTo R P (standing u a x) (stood x) (position (take INSTRUCTIONS (B .code)) x)
-  unfolding advanceTo positionOf moved _>>=_
+  step-at : (x : ℕ) → advanceWith most P (standing u a x) ≡ proceedWith most P (standing u a x) (stood x) (position (take INSTRUCTIONS (B .code)) x)
+  unfolding advanceWith positionOf moved _>>=_
   step-at x = rw (here-standing x) refl
 
   passed-standing : (x : ℕ) → passed (standing u a x) (moved a x) ≡ standing u a (x + 1)
@@ -77,45 +87,54 @@ module _ (R : ℕ) (P : Program) (u : State) (k : ℕ) (a : Activation) (f : Fra
   framed x = S .frame
 
   -- an instruction
-  pub step-line : (x : ℕ) (i : Instr) → position (take INSTRUCTIONS (B .code)) x ≡ instruction i → advanceTo R P (standing u a x) ≡ executeTo R P (standing u a (x + 1)) k f W i
-  unfolding proceedTo
-  step-line x i e = step-at x ∙ ap (proceedTo R P (standing u a x) (stood x)) e ∙ go
+  pub step-line : (x : ℕ) (i : Instr) → position (take INSTRUCTIONS (B .code)) x ≡ instruction i → advanceWith most P (standing u a x) ≡ executeWith most P (standing u a (x + 1)) k f W i
+  unfolding proceedWith
+  step-line x i e = step-at x ∙ ap (proceedWith most P (standing u a x) (stood x)) e ∙ go
     where
-      go : executeTo R P (passed (standing u a x) (moved a x)) (moved a x .frame) f W i ≡ executeTo R P (standing u a (x + 1)) k f W i
+      go : executeWith most P (passed (standing u a x) (moved a x)) (moved a x .frame) f W i ≡ executeWith most P (standing u a (x + 1)) k f W i
       go = rw (passed-standing x, framed x) refl
 
   -- the end of the block
-  pub step-end : (x : ℕ) → position (take INSTRUCTIONS (B .code)) x ≡ blockEnd → advanceTo R P (standing u a x) ≡ (value f (B .result) >>= λ (v : Value). finish P (standing u a x) (moved a x) W v (a .opener))
-  unfolding proceedTo moved
-  step-end x e = step-at x ∙ ap (proceedTo R P (standing u a x) (stood x)) e
+  pub step-end : (x : ℕ) → position (take INSTRUCTIONS (B .code)) x ≡ blockEnd → advanceWith most P (standing u a x) ≡ (value f (B .result) >>= λ (v : Value). finish P (standing u a x) (moved a x) W v (a .opener))
+  unfolding proceedWith proceedTo moved
+  step-end x e = step-at x ∙ ap (proceedWith most P (standing u a x) (stood x)) e
 
   -- neither
-  pub step-outside : (x : ℕ) → position (take INSTRUCTIONS (B .code)) x ≡ outside → advanceTo R P (standing u a x) ≡ stuck
-  unfolding proceedTo
-  step-outside x e = step-at x ∙ ap (proceedTo R P (standing u a x) (stood x)) e
+  pub step-outside : (x : ℕ) → position (take INSTRUCTIONS (B .code)) x ≡ outside → advanceWith most P (standing u a x) ≡ stuck
+  unfolding proceedWith proceedTo
+  step-outside x e = step-at x ∙ ap (proceedWith most P (standing u a x) (stood x)) e
 
   -- ---- plain instructions
 
   module _ (x : ℕ) (i : Instr) (plain : isPlain i ≡ true) where
-    aside-plain : executeTo R P (standing u a x) k f W i ≡ besides (list x) (executeTo R P u k f W i)
+    aside-plain : execute P (standing u a x) k f W i ≡ besides (list x) (execute P u k f W i)
     unfolding standing
-    aside-plain = execute-aside (list x) u (pends x) R P k f W i plain
+    aside-plain = execute-aside (list x) u (pends x) RANGE P k f W i plain
 
-    pub plain-stuck : executeTo R P u k f W i ≡ stuck → executeTo R P (standing u a x) k f W i ≡ stuck
+    -- a vector that is needed is counted in the frames
+    aside-with : executeWith most P (standing u a x) k f W i ≡ besides (list x) (executeWith most P u k f W i)
+    unfolding executeWith vectorsIn vectorCounts held liveFrames standing aside withStack besides
+    aside-with = go (needsVector (u .vectors) f i and leb most (vectorsIn u))
+      where
+        go : (t : Bool) → _≡_ {A = Try State} (elim t [ true ↦ stop End.Vectors | false ↦ execute P (standing u a x) k f W i ]) (besides (list x) (elim t [ true ↦ stop End.Vectors | false ↦ execute P u k f W i ]))
+        go true = refl
+        go false = aside-plain
+
+    pub plain-stuck : executeWith most P u k f W i ≡ stuck → executeWith most P (standing u a x) k f W i ≡ stuck
     unfolding besides
-    plain-stuck e = aside-plain ∙ rw e refl
+    plain-stuck e = aside-with ∙ rw e refl
 
-    pub plain-stop : (h : End) → executeTo R P u k f W i ≡ stop h → executeTo R P (standing u a x) k f W i ≡ stop h
+    pub plain-stop : (h : End) → executeWith most P u k f W i ≡ stop h → executeWith most P (standing u a x) k f W i ≡ stop h
     unfolding besides
-    plain-stop h e = aside-plain ∙ rw e refl
+    plain-stop h e = aside-with ∙ rw e refl
 
-    module _ (w : State) (e : executeTo R P u k f W i ≡ got w) where
+    module _ (w : State) (e : executeWith most P u k f W i ≡ got w) where
       still : Still u w
-      still = gives-got (Still u) (executeTo R P u k f W i) w (execute-still R P u k f W i plain) e
+      still = gives-got (Still u) (execute P u k f W i) w (execute-still RANGE P u k f W i plain) (with-got most P u k f W i w e)
 
-      pub plain-got : executeTo R P (standing u a x) k f W i ≡ got (standing w a x)
+      pub plain-got : executeWith most P (standing u a x) k f W i ≡ got (standing w a x)
       unfolding besides standing
-      plain-got = aside-plain ∙ ap (besides (list x)) e ∙ ap (λ l. got (aside w l)) (rw (still .activations, still .depth) refl)
+      plain-got = aside-with ∙ ap (besides (list x)) e ∙ ap (λ l. got (aside w l)) (rw (still .activations, still .depth) refl)
 
 -- ---- it stands there still
 
@@ -175,7 +194,7 @@ module _ (R : ℕ) (P : Program) (u : State) (k : ℕ) (a : Activation) (f : Fra
 
     by-room : skipped (standing u a x) n ≡ (stuckUnless (leb (x + n) INSTRUCTIONS) >> got (standing u a (x + n)))
     unfolding skipped standing aside withStack moved _>>=_
-    by-room = rw (at-top R P u k a f W B S x) (ap (λ l. stuckUnless (leb (x + n) INSTRUCTIONS) >> got (withStack u (u .frames) (u .calls) l (u .depth))) (set-set (u .activations) (u .depth - 1) (moved a x) (moved a (x + n))))
+    by-room = rw (at-top 0 P u k a f W B S x) (ap (λ l. stuckUnless (leb (x + n) INSTRUCTIONS) >> got (withStack u (u .frames) (u .calls) l (u .depth))) (set-set (u .activations) (u .depth - 1) (moved a x) (moved a (x + n))))
 
     pub skip-over : x + n ≤ INSTRUCTIONS → executeTo R P (standing u a x) k f W (SKIP c n) ≡ got (standing u a (x + n))
     unfolding stuckUnless _>>_

@@ -13,7 +13,9 @@ use Rattle.layout.specs.Bounds.{INSTRUCTIONS}
 use Rattle.layout.specs.Records.{_!_}
 use Rattle.program.specs.Program.{Instr, LIT, MOVE, USE, DUP, VEC, LEN, GET, SET, ARITH, SELECT, CAST, NAMED, STORE, PROM, FORCE, PEEK, POKE, CALL, DISPATCH, SKIP, Program, Version}
 use Rattle.machine.specs.Calls.{finish, force, opened}
-use Rattle.machine.specs.Steps.{Position, advance, blockEnd, execute, executeTo, instruction, outside, position}
+use Rattle.machine.specs.Allowed.{advanceWith, executeWith}
+use Rattle.machine.specs.Steps.{Position, blockEnd, execute, executeTo, instruction, outside, position}
+use Rattle.machine.proofs.Within.{makes, own-within}
 use Rattle.machine.specs.States.{ACTIVATIONS, assign, integer, liveFrames, pending, promise, value, withStack}
 use Rattle.machine.specs.Try.{Try, got, stuck, stop, _>>=_, _>>_, at, endUnless}
 use Rattle.machine.specs.Values.{RANGE, isZero}
@@ -27,7 +29,7 @@ use Rattle.machine.specs.declared.State.{State}
 use Rattle.machine.specs.declared.Value.{Value}
 use Rattle.runs.proofs.Keeps.{Gives, Keeps, execute-keeps, gives-got, gives-next, gives-then, gives-weaken}
 use Rattle.runs.specs.Lives.{isCall}
-use Rattle.store.specs.Acts.{Does, Executes, withNext}
+use Rattle.store.specs.Acts.{Does, Executes, ExecutesWith, withNext}
 use Rattle.store.specs.Answers.{endOf}
 use Rattle.store.specs.Counts.{Ready}
 use Rattle.store.specs.Store.{CALLS, DEPTH, STACK, activationIn, frameIn, stateIn, Live}
@@ -46,7 +48,7 @@ use Rattle.ending.specs.Ends.{endedBy, topOpener}
 use Rattle.running.specs.declared.Spot.{Spot}
 use Rattle.running.specs.declared.Turn.{Turn}
 use Rattle.running.proofs.Locating.{counts-as, top-there}
-use Rattle.running.proofs.Spots.{plain-got, plain-stop, plain-stuck, skip-far, skip-on, skip-over, skip-stuck, spotted-still, step-end, step-line, step-outside}
+use Rattle.running.proofs.Spots.{plain-got, plain-stop, plain-stuck, skip-far, skip-on, skip-over, skip-stuck, spotted-still, step-end, step-line, step-outside, with-got}
 use Rattle.running.proofs.Still.{Still, assign-still, execute-still}
 
 -- plain instructions open no call
@@ -177,21 +179,24 @@ module _ (s t b : List ℕ) (n : List ℤ) (p : Spot) (H : Here s t b n p) where
     own = H .own
 
     -- what it comes to
-    pub here-line : advance (programIn s t) (stateAt b n p) ≡ execute (programIn s t) (stateAt b n (onward p 1)) (p .frame) (frameIn b n (p .frame)) (versionIn s t own) (instrIn s t (p .next))
-    here-line = step-line RANGE (programIn s t) (stateIn b n) (p .frame) (topIn b) (frameIn b n (p .frame)) (versionIn s t own) (blockIn s t (p .block)) (H .spotted) (nextOf p) (instrIn s t (p .next)) at-line
-        ∙ ap (λ x. execute (programIn s t) (standing (stateIn b n) (topIn b) x) (p .frame) (frameIn b n (p .frame)) (versionIn s t own) (instrIn s t (p .next))) onward-next
+    pub here-line : advanceWith (p .most) (programIn s t) (stateAt b n p) ≡ executeWith (p .most) (programIn s t) (stateAt b n (onward p 1)) (p .frame) (frameIn b n (p .frame)) (versionIn s t own) (instrIn s t (p .next))
+    here-line = step-line (p .most) (programIn s t) (stateIn b n) (p .frame) (topIn b) (frameIn b n (p .frame)) (versionIn s t own) (blockIn s t (p .block)) (H .spotted) (nextOf p) (instrIn s t (p .next)) at-line
+        ∙ ap (λ x. executeWith (p .most) (programIn s t) (standing (stateIn b n) (topIn b) x) (p .frame) (frameIn b n (p .frame)) (versionIn s t own) (instrIn s t (p .next))) onward-next
 
     -- a plain one
     module _ (i : Instr) (is : instrIn s t (p .next) ≡ i) (plain : isPlain i ≡ true) where
-      step : {u : Try State} → execute (programIn s t) (stateAt b n (onward p 1)) (p .frame) (frameIn b n (p .frame)) (versionIn s t own) i ≡ u → advance (programIn s t) (stateAt b n p) ≡ u
-      step e = here-line ∙ ap (execute (programIn s t) (stateAt b n (onward p 1)) (p .frame) (frameIn b n (p .frame)) (versionIn s t own)) is ∙ e
+      step : {u : Try State} → executeWith (p .most) (programIn s t) (stateAt b n (onward p 1)) (p .frame) (frameIn b n (p .frame)) (versionIn s t own) i ≡ u → advanceWith (p .most) (programIn s t) (stateAt b n p) ≡ u
+      step e = here-line ∙ ap (executeWith (p .most) (programIn s t) (stateAt b n (onward p 1)) (p .frame) (frameIn b n (p .frame)) (versionIn s t own)) is ∙ e
 
-      module _ (b′ : List ℕ) (n′ : List ℤ) (e : execute (programIn s t) (stateIn b n) (p .frame) (frameIn b n (p .frame)) (versionIn s t own) i ≡ got (stateIn b′ n′)) where
+      module _ (b′ : List ℕ) (n′ : List ℤ) (e : executeWith (p .most) (programIn s t) (stateIn b n) (p .frame) (frameIn b n (p .frame)) (versionIn s t own) i ≡ got (stateIn b′ n′)) where
+        executed : execute (programIn s t) (stateIn b n) (p .frame) (frameIn b n (p .frame)) (versionIn s t own) i ≡ got (stateIn b′ n′)
+        executed = with-got (p .most) (programIn s t) (stateIn b n) (p .frame) (frameIn b n (p .frame)) (versionIn s t own) i (stateIn b′ n′) e
+
         kept : Keeps (stateIn b n) (stateIn b′ n′)
-        kept = gives-got (Keeps (stateIn b n)) _ _ (execute-keeps (programIn s t) (stateIn b n) (p .frame) (frameIn b n (p .frame)) (versionIn s t own) i (plain-no-call i plain)) e
+        kept = gives-got (Keeps (stateIn b n)) _ _ (execute-keeps (programIn s t) (stateIn b n) (p .frame) (frameIn b n (p .frame)) (versionIn s t own) i (plain-no-call i plain)) executed
 
         still : Still (stateIn b n) (stateIn b′ n′)
-        still = gives-got (Still (stateIn b n)) _ _ (execute-still RANGE (programIn s t) (stateIn b n) (p .frame) (frameIn b n (p .frame)) (versionIn s t own) i plain) e
+        still = gives-got (Still (stateIn b n)) _ _ (execute-still RANGE (programIn s t) (stateIn b n) (p .frame) (frameIn b n (p .frame)) (versionIn s t own) i plain) executed
 
         behind : Behind s t b n b′ n′ p
         behind = stays s t b n b′ n′ p H kept still l
@@ -199,18 +204,18 @@ module _ (s t b : List ℕ) (n : List ℤ) (p : Spot) (H : Here s t b n p) where
         pub plain-on : {c′ : List ℕ} → Ready b′ n′ c′ → Went Turn.On s t b n b′ n′ c′ p
         unfolding Went
         plain-on R = (
-          step (plain-got RANGE (programIn s t) (stateIn b n) (p .frame) (topIn b) (frameIn b n (p .frame)) (versionIn s t own) (blockIn s t (p .block)) (H .spotted) (nextOf (onward p 1)) i plain (stateIn b′ n′) e
+          step (plain-got (p .most) (programIn s t) (stateIn b n) (p .frame) (topIn b) (frameIn b n (p .frame)) (versionIn s t own) (blockIn s t (p .block)) (H .spotted) (nextOf (onward p 1)) i plain (stateIn b′ n′) e
               ∙ ap (λ a. got (standing (stateIn b′ n′) a (nextOf (onward p 1)))) (sym (behind .top))),
           behind .here,
           R,
           λ q. kept .status ∙ q,
         )
 
-      pub plain-went : (b′ : List ℕ) (n′ : List ℤ) (c′ : List ℕ) (r : Did) → Does r (execute (programIn s t) (stateIn b n) (p .frame) (frameIn b n (p .frame)) (versionIn s t own) i) b n b′ n′ → Ready b′ n′ c′ → Went (turnOf r) s t b n b′ n′ c′ p
+      pub plain-went : (b′ : List ℕ) (n′ : List ℤ) (c′ : List ℕ) (r : Did) → Does r (executeWith (p .most) (programIn s t) (stateIn b n) (p .frame) (frameIn b n (p .frame)) (versionIn s t own) i) b n b′ n′ → Ready b′ n′ c′ → Went (turnOf r) s t b n b′ n′ c′ p
       unfolding Does turnOf Went
       plain-went b′ n′ c′ Did.On D R = plain-on b′ n′ D R
-      plain-went b′ n′ c′ Did.Stuck D R = (step (plain-stuck RANGE (programIn s t) (stateIn b n) (p .frame) (topIn b) (frameIn b n (p .frame)) (versionIn s t own) (blockIn s t (p .block)) (H .spotted) (nextOf (onward p 1)) i plain (D .0)), untouched b n b′ n′ (D .1) (D .2))
-      plain-went b′ n′ c′ (Did.Stop h) D R = (step (plain-stop RANGE (programIn s t) (stateIn b n) (p .frame) (topIn b) (frameIn b n (p .frame)) (versionIn s t own) (blockIn s t (p .block)) (H .spotted) (nextOf (onward p 1)) i plain (endOf h) (D .0)), untouched b n b′ n′ (D .1) (D .2))
+      plain-went b′ n′ c′ Did.Stuck D R = (step (plain-stuck (p .most) (programIn s t) (stateIn b n) (p .frame) (topIn b) (frameIn b n (p .frame)) (versionIn s t own) (blockIn s t (p .block)) (H .spotted) (nextOf (onward p 1)) i plain (D .0)), untouched b n b′ n′ (D .1) (D .2))
+      plain-went b′ n′ c′ (Did.Stop h) D R = (step (plain-stop (p .most) (programIn s t) (stateIn b n) (p .frame) (topIn b) (frameIn b n (p .frame)) (versionIn s t own) (blockIn s t (p .block)) (H .spotted) (nextOf (onward p 1)) i plain (endOf h) (D .0)), untouched b n b′ n′ (D .1) (D .2))
 
 -- ---- the number of the next instruction in the state
 
@@ -342,15 +347,16 @@ module _ (s t b : List ℕ) (n : List ℤ) (p : Spot) (H : Here s t b n p) (c : 
     abbrev past : List ℕ
     past = set b (nextByte b) (nextOf (onward p 1))
 
-    pub past-line : advance (programIn s t) (stateAt b n p) ≡ execute (programIn s t) (stateIn past n) (p .frame) (frameIn past n (p .frame)) (versionIn s t (H .own)) (instrIn s t (p .next))
-    past-line = here-line s t b n p H l ∙ rw (state-with (nextOf (onward p 1)), frame-with (nextOf (onward p 1))) refl
+    pub past-line : makes (instrIn s t (p .next)) ≡ false → advanceWith (p .most) (programIn s t) (stateAt b n p) ≡ execute (programIn s t) (stateIn past n) (p .frame) (frameIn past n (p .frame)) (versionIn s t (H .own)) (instrIn s t (p .next))
+    past-line o = here-line s t b n p H l ∙ own-within (p .most) (programIn s t) (stateAt b n (onward p 1)) (p .frame) (frameIn b n (p .frame)) (versionIn s t (H .own)) (instrIn s t (p .next)) o
+        ∙ rw (state-with (nextOf (onward p 1)), frame-with (nextOf (onward p 1))) refl
 
-    module _ (i : Instr) (is : instrIn s t (p .next) ≡ i) (b′ : List ℕ) (n′ : List ℤ) (c′ : List ℕ) where
+    module _ (i : Instr) (is : instrIn s t (p .next) ≡ i) (own : makes i ≡ false) (b′ : List ℕ) (n′ : List ℤ) (c′ : List ℕ) where
       abbrev done : Try State
       done = execute (programIn s t) (stateIn past n) (p .frame) (frameIn past n (p .frame)) (versionIn s t (H .own)) i
 
-      come : {u : Try State} → done ≡ u → advance (programIn s t) (stateAt b n p) ≡ u
-      come e = past-line ∙ ap (execute (programIn s t) (stateIn past n) (p .frame) (frameIn past n (p .frame)) (versionIn s t (H .own))) is ∙ e
+      come : {u : Try State} → done ≡ u → advanceWith (p .most) (programIn s t) (stateAt b n p) ≡ u
+      come e = past-line (ap makes is ∙ own) ∙ ap (execute (programIn s t) (stateIn past n) (p .frame) (frameIn past n (p .frame)) (versionIn s t (H .own))) is ∙ e
 
       pub opened-went : (r : Did) → Does r done past n b′ n′ → Ready b′ n′ c′ → Gives (λ (w : State). w .status ≡ stateIn past n .status) done → Went (openedOf r) s t b n b′ n′ c′ p
       unfolding Does openedOf Went
@@ -371,18 +377,18 @@ module _ (s t b : List ℕ) (n : List ℤ) (p : Spot) (H : Here s t b n p) (c : 
         let q = H .last in
         sym (next-end s t (p .block) (nextOf p) refl (omega (arith, q)) (omega (arith, q, counted s t b n p H)) (λ a z. omega (arith, q, counted s t b n p H)))
 
-    pub here-end : advance (programIn s t) (stateAt b n p) ≡ endedBy (programIn s t) (versionIn s t (H .own)) there n (p .frame) (blockIn s t (p .block) .result) (topOpener there)
+    pub here-end : advanceWith (p .most) (programIn s t) (stateAt b n p) ≡ endedBy (programIn s t) (versionIn s t (H .own)) there n (p .frame) (blockIn s t (p .block) .result) (topOpener there)
     unfolding moved
-    here-end = step-end RANGE (programIn s t) (stateIn b n) (p .frame) (topIn b) (frameIn b n (p .frame)) (versionIn s t (H .own)) (blockIn s t (p .block)) (H .spotted) (nextOf p) at-end
+    here-end = step-end (p .most) (programIn s t) (stateIn b n) (p .frame) (topIn b) (frameIn b n (p .frame)) (versionIn s t (H .own)) (blockIn s t (p .block)) (H .spotted) (nextOf p) at-end
         ∙ rw (state-with (nextOf p), frame-with (nextOf p), opener-with (nextOf p), top-with (nextOf p)) refl
 
   -- neither
-  pub here-outside : p .last < p .next → advance (programIn s t) (stateAt b n p) ≡ stuck
+  pub here-outside : p .last < p .next → advanceWith (p .most) (programIn s t) (stateAt b n p) ≡ stuck
   unfolding answers.nextOf
   here-outside l =
       let f = H .first in
       let q = H .last in
-      step-outside RANGE (programIn s t) (stateIn b n) (p .frame) (topIn b) (frameIn b n (p .frame)) (versionIn s t (H .own)) (blockIn s t (p .block)) (H .spotted) (nextOf p)
+      step-outside (p .most) (programIn s t) (stateIn b n) (p .frame) (topIn b) (frameIn b n (p .frame)) (versionIn s t (H .own)) (blockIn s t (p .block)) (H .spotted) (nextOf p)
       (sym (next-outside s t (p .block) (nextOf p) refl (λ a z. omega (arith, q, counted s t b n p H))))
 
 -- ---- FORCE
@@ -409,7 +415,8 @@ module _ (s t b : List ℕ) (n : List ℤ) (p : Spot) (H : Here s t b n p) (c : 
   force-keeps = execute-keeps (programIn s t) (stateIn behind-it n) (p .frame) (frameIn behind-it n (p .frame)) (versionIn s t (H .own)) (FORCE d a) refl
 
   pub force-opened : (r : Did) → Does r forced behind-it n b′ n′ → Ready b′ n′ c′ → Went (openedOf r) s t b n b′ n′ c′ p
-  force-opened r D Q = opened-went s t b n p H c R l (FORCE d a) is b′ n′ c′ r D Q (gives-weaken (Keeps (stateIn behind-it n)) _ forced force-keeps (λ w h. h .status))
+  unfolding makes
+  force-opened r D Q = opened-went s t b n p H c R l (FORCE d a) is refl b′ n′ c′ r D Q (gives-weaken (Keeps (stateIn behind-it n)) _ forced force-keeps (λ w h. h .status))
 
   module _ (D : forced ≡ got (stateIn b′ n′)) (same : b′ ! DEPTH ≡ b ! DEPTH) (Q : Ready b′ n′ c′) where
     keeps-it : Keeps (stateIn behind-it n) (stateIn b′ n′)
@@ -441,8 +448,10 @@ module _ (s t b : List ℕ) (n : List ℤ) (p : Spot) (H : Here s t b n p) (l : 
   abbrev k₀ : ℕ
   k₀ = p .frame
 
-  skip-step : {u : Try State} → execute (programIn s t) (standing (stateIn b n) (topIn b) (nextOf (onward p 1))) k₀ (frameIn b n k₀) (versionIn s t (H .own)) (SKIP x m) ≡ u → advance (programIn s t) (stateAt b n p) ≡ u
-  skip-step e = here-line s t b n p H l ∙ ap (execute (programIn s t) (stateAt b n (onward p 1)) k₀ (frameIn b n k₀) (versionIn s t (H .own))) is ∙ e
+  skip-step : {u : Try State} → execute (programIn s t) (standing (stateIn b n) (topIn b) (nextOf (onward p 1))) k₀ (frameIn b n k₀) (versionIn s t (H .own)) (SKIP x m) ≡ u → advanceWith (p .most) (programIn s t) (stateAt b n p) ≡ u
+  unfolding makes
+  skip-step e = here-line s t b n p H l ∙ ap (executeWith (p .most) (programIn s t) (stateAt b n (onward p 1)) k₀ (frameIn b n k₀) (versionIn s t (H .own))) is
+      ∙ own-within (p .most) (programIn s t) (stateAt b n (onward p 1)) k₀ (frameIn b n k₀) (versionIn s t (H .own)) (SKIP x m) refl ∙ e
 
   further : (j : ℕ) → p .next + j ≤ p .block + 256 → Here s t b n (onward p j)
   unfolding onward
@@ -500,8 +509,12 @@ module _ (t b : List ℕ) (n : List ℤ) (c : List ℕ) (p : Spot) (R : Ready b 
 pub turns-by : {x y : Turn} (t b : List ℕ) (n : List ℤ) (b′ : List ℕ) (n′ : List ℤ) (c′ : List ℕ) (p : Spot) (i : Instr) → Turns x t b n b′ n′ c′ p i → x ≡ y → Turns y t b n b′ n′ c′ p i
 turns-by t b n b′ n′ c′ p i T e s H l is = subst (λ r. Went r s t b n b′ n′ c′ p) e (T s H l is)
 
+-- an instruction that makes no vector does not look at how many there may be
+pub own-executes : (most : ℕ) (r : Did) (b : List ℕ) (n : List ℤ) (b′ : List ℕ) (n′ : List ℤ) (c′ : List ℕ) (k : ℕ) (i : Instr) → makes i ≡ false → Executes r b n b′ n′ c′ k i → ExecutesWith most r b n b′ n′ c′ k i
+own-executes most r b n b′ n′ c′ k i o E = (λ P W. subst (λ u. Does r u b n b′ n′) (sym (own-within most P (stateIn b n) k (frameIn b n k) W i o)) (E .0 P W), E .1)
+
 -- a plain instruction, of whatever image
-pub plain-turns : (t b : List ℕ) (n : List ℤ) (b′ : List ℕ) (n′ : List ℤ) (c′ : List ℕ) (p : Spot) (i : Instr) (r : Did) → isPlain i ≡ true → Executes r b n b′ n′ c′ (p .frame) i → Turns (turnOf r) t b n b′ n′ c′ p i
+pub plain-turns : (t b : List ℕ) (n : List ℤ) (b′ : List ℕ) (n′ : List ℤ) (c′ : List ℕ) (p : Spot) (i : Instr) (r : Did) → isPlain i ≡ true → ExecutesWith (p .most) r b n b′ n′ c′ (p .frame) i → Turns (turnOf r) t b n b′ n′ c′ p i
 plain-turns t b n b′ n′ c′ p i r q E s H l is = plain-went s t b n p H l i is q b′ n′ c′ r (E .0 (programIn s t) (versionIn s t (H .own))) (E .1)
 
 pub stored-by : (b : List ℕ) (x : ℕ) {d : ℕ} → d ≡ b ! DEPTH → set b (STACK + 8 * (d - 1) + 5) x ≡ set b (nextByte b) x
@@ -512,8 +525,12 @@ pub quick-by : (t b : List ℕ) (n : List ℤ) (b′ : List ℕ) (n′ : List �
 quick-by t b n b′ n′ c′ p i r l T is s H = T s (H l) l (is s)
 
 -- the same of a plain one
-pub quick-plain : (t b : List ℕ) (n : List ℤ) (b′ : List ℕ) (n′ : List ℤ) (c′ : List ℕ) (p : Spot) (i : Instr) (r : Did) {x : Turn} → p .next < p .last → x ≡ turnOf r → Executes r b n b′ n′ c′ (p .frame) i → isPlain i ≡ true → ((s : List ℕ) → instrIn s t (p .next) ≡ i) → Quick x t b n b′ n′ c′ p
+pub quick-plain : (t b : List ℕ) (n : List ℤ) (b′ : List ℕ) (n′ : List ℤ) (c′ : List ℕ) (p : Spot) (i : Instr) (r : Did) {x : Turn} → p .next < p .last → x ≡ turnOf r → ExecutesWith (p .most) r b n b′ n′ c′ (p .frame) i → isPlain i ≡ true → ((s : List ℕ) → instrIn s t (p .next) ≡ i) → Quick x t b n b′ n′ c′ p
 quick-plain t b n b′ n′ c′ p i r l e E q is s H = subst (λ y. Went y s t b n b′ n′ c′ p) (sym e) (plain-turns t b n b′ n′ c′ p i r q E s (H l) l (is s))
+
+-- and of one that makes no vector
+pub quick-own : (t b : List ℕ) (n : List ℤ) (b′ : List ℕ) (n′ : List ℤ) (c′ : List ℕ) (p : Spot) (i : Instr) (r : Did) {x : Turn} → p .next < p .last → x ≡ turnOf r → Executes r b n b′ n′ c′ (p .frame) i → isPlain i ≡ true → makes i ≡ false → ((s : List ℕ) → instrIn s t (p .next) ≡ i) → Quick x t b n b′ n′ c′ p
+quick-own t b n b′ n′ c′ p i r l e E q o is = quick-plain t b n b′ n′ c′ p i r l e (own-executes (p .most) r b n b′ n′ c′ (p .frame) i o E) q is
 
 -- nothing is next that needs its record alone
 pub quick-rest : (t b : List ℕ) (n : List ℤ) (c : List ℕ) (p : Spot) → Ready b n c → (p .next < p .last → Left t (p .next)) → Quick Turn.Rest t b n b n c p

@@ -6,12 +6,14 @@ use lib.IntN.{ℤ}
 use lib.ListN.{set}
 use Rattle.layout.specs.Records.{_!_}
 use Rattle.program.specs.Program.{Program}
-use Rattle.machine.specs.Runs.{budgetIn, runFrom, stepOf}
+use Rattle.machine.specs.Allowed.{budgetInWith, runWith, stepWith}
+use Rattle.machine.specs.Runs.{budgetIn, stepOf}
 use Rattle.machine.specs.declared.Answer.{Answer}
 use Rattle.machine.specs.declared.End.{End}
 use Rattle.machine.specs.declared.Ran.{Ran as Outcome}
 use Rattle.machine.specs.declared.Said.{Said}
 use Rattle.machine.specs.declared.Status.{Status}
+use Rattle.machine.specs.declared.Stepped.{Stepped}
 use Rattle.store.specs.Store.{DEPTH, stateIn}
 use Rattle.loaded.specs.Loaded.{programIn}
 use Rattle.running.specs.Standing.{nextByte, nextOf}
@@ -58,24 +60,37 @@ outcomeIn r b n = record { state = stateIn b n; answer = answerOf (r .pause) (st
 abbrev pub Over : Pause → List ℕ → List ℤ → Type 0
 Over r b n = r ≡ Pause.Ended → (e : End) × (stateIn b n .status ≡ Status.Ended e)
 
--- a budget of a run that goes on comes to that; a first step that is stuck, and a budget of 0, leave every byte
-pub record Ran (r : Counted) (s t b : List ℕ) (n : List ℤ) (b′ : List ℕ) (n′ : List ℤ) (budget : ℕ) : Type 0 where
-  pub ran : runFrom (programIn s t) budget (stateIn b n) 0 ≡ outcomeIn r b′ n′
+-- a budget of a run that goes on, and may have `most` vectors, comes to that; a first step that is stuck, and a budget of 0, leave every byte
+pub record Ran (r : Counted) (s t b : List ℕ) (n : List ℤ) (b′ : List ℕ) (n′ : List ℤ) (most budget : ℕ) : Type 0 where
+  pub ran : runWith most (programIn s t) budget (stateIn b n) 0 ≡ outcomeIn r b′ n′
   pub over : Over (r .pause) b′ n′
   pub stuck : r .pause ≡ Pause.Stuck → r .steps ≡ 0 → (b′ ≡ b) × (n′ ≡ n)
   pub none : budget ≡ 0 → (b′ ≡ b) × (n′ ≡ n)
 
--- a budget of a run, ended or not; where nothing is done every byte is as it was
-pub record Resumes (r : Counted) (P : Program) (b : List ℕ) (n : List ℤ) (b′ : List ℕ) (n′ : List ℤ) (budget : ℕ) : Type 0 where
-  pub ran : budgetIn P (stateIn b n) budget (stateIn b n .status) ≡ outcomeIn r b′ n′
+-- a budget of a run, ended or not, that comes to u; where nothing is done every byte is as it was
+pub record ResumesTo (u : Outcome) (r : Counted) (b : List ℕ) (n : List ℤ) (b′ : List ℕ) (n′ : List ℤ) (budget : ℕ) : Type 0 where
+  pub ran : u ≡ outcomeIn r b′ n′
   pub over : Over (r .pause) b′ n′
   pub stuck : r .pause ≡ Pause.Stuck → r .steps ≡ 0 → (b′ ≡ b) × (n′ ≡ n)
   pub none : budget ≡ 0 → (b′ ≡ b) × (n′ ≡ n)
   pub ended : (e : End) → stateIn b n .status ≡ Status.Ended e → (b′ ≡ b) × (n′ ≡ n)
 
--- a single step, likewise
-pub record Steps (r : Pause) (P : Program) (b : List ℕ) (n : List ℤ) (b′ : List ℕ) (n′ : List ℤ) : Type 0 where
-  pub stepped : stepOf P (stateIn b n) ≡ record { state = stateIn b′ n′; said = saidOf r (stateIn b′ n′ .status) }
+abbrev pub Resumes : Counted → Program → List ℕ → List ℤ → List ℕ → List ℤ → ℕ → Type 0
+Resumes r P b n b′ n′ budget = ResumesTo (budgetIn P (stateIn b n) budget (stateIn b n .status)) r b n b′ n′ budget
+
+-- of a run that may have `most` vectors
+abbrev pub ResumesWith : ℕ → Counted → Program → List ℕ → List ℤ → List ℕ → List ℤ → ℕ → Type 0
+ResumesWith most r P b n b′ n′ budget = ResumesTo (budgetInWith most P (stateIn b n) budget (stateIn b n .status)) r b n b′ n′ budget
+
+-- a single step that comes to u, likewise
+pub record StepsTo (u : Stepped) (r : Pause) (b : List ℕ) (n : List ℤ) (b′ : List ℕ) (n′ : List ℤ) : Type 0 where
+  pub stepped : u ≡ record { state = stateIn b′ n′; said = saidOf r (stateIn b′ n′ .status) }
   pub over : Over r b′ n′
   pub stuck : r ≡ Pause.Stuck → (b′ ≡ b) × (n′ ≡ n)
   pub ended : (e : End) → stateIn b n .status ≡ Status.Ended e → (b′ ≡ b) × (n′ ≡ n)
+
+abbrev pub Steps : Pause → Program → List ℕ → List ℤ → List ℕ → List ℤ → Type 0
+Steps r P b n b′ n′ = StepsTo (stepOf P (stateIn b n)) r b n b′ n′
+
+abbrev pub StepsWith : ℕ → Pause → Program → List ℕ → List ℤ → List ℕ → List ℤ → Type 0
+StepsWith most r P b n b′ n′ = StepsTo (stepWith most P (stateIn b n)) r b n b′ n′

@@ -8,7 +8,7 @@ use lib.ListN.{getElem?, set}
 use Rattle.layout.specs.Bounds.{INSTRUCTIONS}
 use Rattle.layout.specs.Records.{_!_}
 use Rattle.program.specs.Program.{Block, Version, Program, findVersion}
-use Rattle.machine.specs.Steps.{advance}
+use Rattle.machine.specs.Allowed.{advanceWith}
 use Rattle.machine.specs.Try.{got, stuck, at}
 use Rattle.machine.specs.States.{liveFrames, withStack}
 use Rattle.machine.specs.declared.Activation.{Activation}
@@ -74,7 +74,7 @@ pub record Here (s t b : List ℕ) (n : List ℤ) (p : Spot) : Type 0 where
 
 -- the spot m instructions further on
 unfoldable pub onward : Spot → ℕ → Spot
-onward p m = record { frame = p .frame; block = p .block; next = p .next + m; last = p .last }
+onward p m = record { frame = p .frame; block = p .block; next = p .next + m; last = p .last; most = p .most }
 
 -- where the number of the next instruction of the activation on top stands
 abbrev pub nextByte : List ℕ → ℕ
@@ -82,7 +82,7 @@ nextByte b = STACK + 8 * (b ! DEPTH - 1) + 5
 
 -- what is found of where the run of the bytes stands: nowhere, or at the spot; nowhere is last 0 and next 1, so that next is neither below nor at last
 pub record Located (s t b : List ℕ) (p : Spot) : Type 0 where
-  pub lost : p .last ≡ 0 → (n : List ℤ) → advance (programIn s t) (stateIn b n) ≡ stuck
+  pub lost : p .last ≡ 0 → (n : List ℤ) → advanceWith (p .most) (programIn s t) (stateIn b n) ≡ stuck
   pub here : 0 < p .last → (n : List ℤ) → Here s t b n p
   pub next : 0 < p .last → nextOf p ≡ topIn b .next
   pub none : p .last ≡ 0 → p .next ≡ 1

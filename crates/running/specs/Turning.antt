@@ -7,7 +7,8 @@ use lib.ListN.{length, set}
 use Rattle.layout.specs.Kinds as kind
 use Rattle.layout.specs.Records.{_!_}
 use Rattle.machine.specs.Runs.{lastStep}
-use Rattle.machine.specs.Steps.{advance, execute}
+use Rattle.machine.specs.Allowed.{advanceWith}
+use Rattle.machine.specs.Steps.{execute}
 use Rattle.machine.specs.Try.{got, stuck, stop}
 use Rattle.machine.specs.declared.End.{End}
 use Rattle.machine.specs.declared.Status.{Status}
@@ -53,12 +54,14 @@ Goes b n b′ n′ = stateIn b n .status ≡ Status.Running → stateIn b′ n�
 
 -- the step from b and n at the spot p comes to the turn; b′ and n′ are left
 unfoldable pub Went : Turn → List ℕ → List ℕ → List ℕ → List ℤ → List ℕ → List ℤ → List ℕ → Spot → Type 0
-Went Turn.On s t b n b′ n′ c′ p = (advance (programIn s t) (stateAt b n p) ≡ got (stateAt b′ n′ (onward p 1))) × Here s t b′ n′ (onward p 1) × Ready b′ n′ c′ × Goes b n b′ n′
-Went (Turn.Over m) s t b n b′ n′ c′ p = (advance (programIn s t) (stateAt b n p) ≡ got (stateAt b n (onward p (1 + m)))) × (b′ ≡ b) × (n′ ≡ n) × Ready b′ n′ c′ × Here s t b n (onward p (1 + m)) × (m < 256)
-Went Turn.Moved s t b n b′ n′ c′ p = (advance (programIn s t) (stateAt b n p) ≡ got (stateIn b′ n′)) × Ready b′ n′ c′ × Goes b n b′ n′
-Went Turn.Done s t b n b′ n′ c′ p = (advance (programIn s t) (stateAt b n p) ≡ got (stateIn b′ n′)) × Sized b′ n′ × (stateIn b n .status ≡ Status.Running → (e : End) × (stateIn b′ n′ .status ≡ Status.Ended e) × (lastStep e ≡ 1))
-Went Turn.Stuck s t b n b′ n′ c′ p = (advance (programIn s t) (stateAt b n p) ≡ stuck) × Touched b n b′ n′
-Went (Turn.Stop h) s t b n b′ n′ c′ p = (advance (programIn s t) (stateAt b n p) ≡ stop (endOf h)) × Touched b n b′ n′
+Went Turn.On s t b n b′ n′ c′ p = (advanceWith (p .most) (programIn s t) (stateAt b n p) ≡ got (stateAt b′ n′ (onward p 1))) × Here s t b′ n′ (onward p 1) × Ready b′ n′ c′ × Goes b n b′ n′
+Went (Turn.Over m) s t b n b′ n′ c′ p = (advanceWith (p .most) (programIn s t) (stateAt b n p) ≡ got (stateAt b n (onward p (1 + m)))) × (b′ ≡ b) × (n′ ≡ n) × Ready b′ n′ c′
+    × Here s t b n (onward p (1 + m)) × (m < 256)
+Went Turn.Moved s t b n b′ n′ c′ p = (advanceWith (p .most) (programIn s t) (stateAt b n p) ≡ got (stateIn b′ n′)) × Ready b′ n′ c′ × Goes b n b′ n′
+Went Turn.Done s t b n b′ n′ c′ p = (advanceWith (p .most) (programIn s t) (stateAt b n p) ≡ got (stateIn b′ n′)) × Sized b′ n′
+    × (stateIn b n .status ≡ Status.Running → (e : End) × (stateIn b′ n′ .status ≡ Status.Ended e) × (lastStep e ≡ 1))
+Went Turn.Stuck s t b n b′ n′ c′ p = (advanceWith (p .most) (programIn s t) (stateAt b n p) ≡ stuck) × Touched b n b′ n′
+Went (Turn.Stop h) s t b n b′ n′ c′ p = (advanceWith (p .most) (programIn s t) (stateAt b n p) ≡ stop (endOf h)) × Touched b n b′ n′
 Went Turn.Rest s t b n b′ n′ c′ p = (b′ ≡ b) × (n′ ≡ n) × Ready b′ n′ c′ × (p .next < p .last → Left t (p .next))
 
 -- a plain instruction as a turn
@@ -109,7 +112,7 @@ Looks r s t b n b′ n′ c′ k i = Does r (execute (programIn s t) (stateIn b 
 
 -- what the loop keeps: the run stands at the spot, or nowhere (last is 0), and then its step is stuck
 pub record Kept (s t b : List ℕ) (n : List ℤ) (p : Spot) : Type 0 where
-  pub lost : p .last ≡ 0 → advance (programIn s t) (stateIn b n) ≡ stuck
+  pub lost : p .last ≡ 0 → advanceWith (p .most) (programIn s t) (stateIn b n) ≡ stuck
   pub none : p .last ≡ 0 → p .next ≡ 1
   pub here : 0 < p .last → Here s t b n p
 

@@ -9,14 +9,14 @@ ghost use Rattle.layout.specs.declared.Form.{Form};
 ghost use Rattle.loaded.specs.Loaded.{few, programIn, recordAt};
 ghost use Rattle.matching.specs.Choosing.{Cached, Calling, countAt, registersAt};
 ghost use Rattle.program.specs.Program.{CAST, FORCE, LIT, MOVE, PROM, SKIP, VEC, numberIn};
-ghost use Rattle.store.specs.Acts.{Executes};
+ghost use Rattle.store.specs.Acts.{Executes, ExecutesWith};
 ghost use Rattle.store.specs.Counts.{Ready};
 ghost use Rattle.store.specs.Store.{DEPTH, STATUS, Live, Sized};
 ghost use Rattle.layout.specs.Records.{_!_, fields};
 ghost use Rattle.running.specs.Standing.{Framed, Here, Located, lengthIn};
 ghost use Rattle.machine.specs.Runs.{lastStep};
 ghost use Rattle.store.specs.Answers.{endOf};
-ghost use Rattle.running.specs.Budgets.{Keeps, Ran, Resumes, Standing, Steps};
+ghost use Rattle.running.specs.Budgets.{Keeps, Ran, Resumes, ResumesWith, Standing, Steps, StepsWith};
 ghost use Rattle.running.specs.declared.Turn.{Turn};
 ghost use Rattle.running.specs.Turning.{Answers, Chosen, Fit, Kept, Left, Looks, Opens, Quick, Stands, Stored, Turned, Turns, openedOf, ownIn, turnOf};
 use acts::Pair;
@@ -37,12 +37,13 @@ use store::cells;
 use store::stack;
 
 /// Where a run stands: its frame, the record of its block, the record that comes next and the one behind its last instruction;
-/// `last` is 0 where it stands nowhere.
+/// `last` is 0 where it stands nowhere. The run may have `most` vectors.
 pub struct Spot {
     pub frame: usize,
     pub block: usize,
     pub next: usize,
     pub last: usize,
+    pub most: u8,
 }
 
 /// What a turn has done: gone on to the next instruction, or over some; gone to another activation, whose place stands in the state;
@@ -58,14 +59,15 @@ pub enum Turn {
 }
 
 /// The spot of a run that stands nowhere.
-fn nowhere() -> Spot
-    ensures { λ r. ⌜ r ≡ record { frame = 0; block = 0; next = 1; last = 0 } ⌝ }
+fn nowhere(most: u8) -> Spot
+    ensures { λ r. ⌜ r ≡ record { frame = 0; block = 0; next = 1; last = 0; most = most } ⌝ }
 {
     Spot {
         frame: 0,
         block: 0,
         next: 1,
         last: 0,
+        most: most,
     }
 }
 
@@ -82,15 +84,15 @@ fn lines(table: &[u8], e: u16) -> usize
 }
 
 /// Where the activation on top, which works in the live frame `k`, stands.
-fn framed(image: &[u8], table: &[u8], bytes: &[u8; 2632], k: usize, a: Activation) -> Spot
+fn framed(image: &[u8], table: &[u8], bytes: &[u8; 2632], k: usize, a: Activation, most: u8) -> Spot
     requires { ⌜ Framed (now bytes) k a ⌝ }
-    ensures { λ r. ⌜ Located (now (image .entry)) (now (table .entry)) (now (bytes .entry)) r ⌝ }
+    ensures { λ r. ⌜ Located (now (image .entry)) (now (table .entry)) (now (bytes .entry)) r × (r .most ≡ most) ⌝ }
 {
     let Number::Of(own) = lookup::version(table, bytes[32 * k + 24], bytes[32 * k + 25]) else {
-        return nowhere();
+        return nowhere(most);
     };
     let BlockAt::Entry(i) = lookup::block(image, table, own, a.block) else {
-        return nowhere();
+        return nowhere(most);
     };
     let n = lines(table, i);
     let e = i as usize;
@@ -99,26 +101,27 @@ fn framed(image: &[u8], table: &[u8], bytes: &[u8; 2632], k: usize, a: Activatio
         block: e,
         next: e + 1 + layout::wide(a.next),
         last: e + 1 + n,
+        most: most,
     }
 }
 
 /// Where the run of the state stands.
-fn locate(image: &[u8], table: &[u8], bytes: &[u8; 2632]) -> Spot
-    ensures { λ r. ⌜ Located (now (image .entry)) (now (table .entry)) (now (bytes .entry)) r ⌝ }
+fn locate(image: &[u8], table: &[u8], bytes: &[u8; 2632], most: u8) -> Spot
+    ensures { λ r. ⌜ Located (now (image .entry)) (now (table .entry)) (now (bytes .entry)) r × (r .most ≡ most) ⌝ }
 {
     let depth = layout::wide(bytes[2625]);
     if depth == 0 {
-        return nowhere();
+        return nowhere(most);
     }
     if 32 < depth {
-        return nowhere();
+        return nowhere(most);
     }
     let a = stack::activation(bytes, depth - 1);
     let k = layout::wide(a.frame);
     if frames::is_live(bytes, k) {
-        framed(image, table, bytes, k, a)
+        framed(image, table, bytes, k, a, most)
     } else {
-        nowhere()
+        nowhere(most)
     }
 }
 
@@ -148,7 +151,8 @@ fn store_next(bytes: &mut [u8; 2632], spot: Spot, behind: usize)
 /// SKIP a n.
 fn skip(bytes: &[u8; 2632], numbers: &[i64; 2129], spot: Spot, a: u8, n: u8) -> Turn
     requires { ⌜ (spot .frame < 32) × (spot .block < spot .next) × (spot .next ≤ spot .block + 48) ⌝ }
-    ensures { λ r. ⌜ ((t c : List ℕ) → Ready (now (bytes .entry)) (now (numbers .entry)) c → Turns r t (now (bytes .entry)) (now (numbers .entry)) (now (bytes .entry)) (now (numbers .entry)) c spot (SKIP a n)) ⌝ }
+    ensures { λ r. ⌜ ((t c : List ℕ) → Ready (now (bytes .entry)) (now (numbers .entry)) c
+        → Turns r t (now (bytes .entry)) (now (numbers .entry)) (now (bytes .entry)) (now (numbers .entry)) c spot (SKIP a n)) ⌝ }
 {
     let Whole::Is(z) = cells::integer(bytes, numbers, spot.frame, a) else {
         return Turn::Stuck;
@@ -205,7 +209,15 @@ fn line(
     let p = RECORDS + 8 * spot.next;
     match table[p] {
         18 => turned(acts::use_up(bytes, numbers, counts, k, table[p + 1], table[p + 2])),
-        19 => turned(acts::dup(bytes, numbers, counts, k, table[p + 1], table[p + 2])),
+        19 => turned(acts::dup(
+            bytes,
+            numbers,
+            counts,
+            k,
+            table[p + 1],
+            table[p + 2],
+            spot.most,
+        )),
         21 => turned(acts::len(bytes, numbers, counts, k, table[p + 1], table[p + 2])),
         22 => turned(acts::get(
             bytes,
@@ -284,7 +296,8 @@ fn quick(
     spot: Spot,
 ) -> Turn
     requires { ⌜ Ready (now bytes) (now numbers) (now counts) × (spot .next < spot .last → Fit (now table) (now bytes) spot) ⌝ }
-    ensures { λ r. ⌜ Quick r (now (table .entry)) (now (bytes .entry)) (now (numbers .entry)) (now (bytes .exit)) (now (numbers .exit)) (now (counts .exit)) spot × ((spot .next < spot .last → ⊥) → r ≡ Turn.Rest) ⌝ }
+    ensures { λ r. ⌜ Quick r (now (table .entry)) (now (bytes .entry)) (now (numbers .entry)) (now (bytes .exit)) (now (numbers .exit)) (now (counts .exit)) spot
+        × ((spot .next < spot .last → ⊥) → r ≡ Turn.Rest) ⌝ }
 {
     if spot.next < spot.last {
         return line(table, bytes, numbers, counts, spot);
@@ -313,7 +326,8 @@ fn moves(
     p: usize,
 ) -> Did
     requires { ⌜ Ready (now bytes) (now numbers) (now counts) × Live (now bytes) k × (ownIn (now bytes) k < 128) × (p + 8 ≤ length (now table)) ⌝ }
-    ensures { λ r. ⌜ Looks r (now (image .entry)) (now (table .entry)) (now (bytes .entry)) (now (numbers .entry)) (now (bytes .exit)) (now (numbers .exit)) (now (counts .exit)) k (MOVE (now (table .entry) ! (p + 1)) (now (table .entry) ! (p + 2))) ⌝ }
+    ensures { λ r. ⌜ Looks r (now (image .entry)) (now (table .entry)) (now (bytes .entry)) (now (numbers .entry)) (now (bytes .exit)) (now (numbers .exit)) (now (counts .exit)) k
+        (MOVE (now (table .entry) ! (p + 1)) (now (table .entry) ! (p + 2))) ⌝ }
 {
     let d = table[p + 1];
     let a = table[p + 2];
@@ -333,7 +347,8 @@ fn casts(
     p: usize,
 ) -> Did
     requires { ⌜ Ready (now bytes) (now numbers) (now counts) × Live (now bytes) k × (ownIn (now bytes) k < 128) × (p + 8 ≤ length (now table)) ⌝ }
-    ensures { λ r. ⌜ Looks r (now (image .entry)) (now (table .entry)) (now (bytes .entry)) (now (numbers .entry)) (now (bytes .exit)) (now (numbers .exit)) (now (counts .exit)) k (CAST (now (table .entry) ! (p + 1)) (now (table .entry) ! (p + 2))) ⌝ }
+    ensures { λ r. ⌜ Looks r (now (image .entry)) (now (table .entry)) (now (bytes .entry)) (now (numbers .entry)) (now (bytes .exit)) (now (numbers .exit)) (now (counts .exit)) k
+        (CAST (now (table .entry) ! (p + 1)) (now (table .entry) ! (p + 2))) ⌝ }
 {
     let d = table[p + 1];
     let a = table[p + 2];
@@ -353,7 +368,8 @@ fn delays(
     p: usize,
 ) -> Did
     requires { ⌜ Ready (now bytes) (now numbers) (now counts) × Live (now bytes) k × (ownIn (now bytes) k < 128) × (p + 8 ≤ length (now table)) ⌝ }
-    ensures { λ r. ⌜ Looks r (now (image .entry)) (now (table .entry)) (now (bytes .entry)) (now (numbers .entry)) (now (bytes .exit)) (now (numbers .entry)) (now (counts .exit)) k (PROM (now (table .entry) ! (p + 1)) (now (table .entry) ! (p + 2))) ⌝ }
+    ensures { λ r. ⌜ Looks r (now (image .entry)) (now (table .entry)) (now (bytes .entry)) (now (numbers .entry)) (now (bytes .exit)) (now (numbers .entry)) (now (counts .exit)) k
+        (PROM (now (table .entry) ! (p + 1)) (now (table .entry) ! (p + 2))) ⌝ }
 {
     let d = table[p + 1];
     let block = table[p + 2];
@@ -372,7 +388,8 @@ fn lits(
     e: u16,
 ) -> Did
     requires { ⌜ Ready (now bytes) (now numbers) (now counts) × Live (now bytes) k ⌝ }
-    ensures { λ r. ⌜ Executes r (now (bytes .entry)) (now (numbers .entry)) (now (bytes .exit)) (now (numbers .exit)) (now (counts .exit)) k (LIT (now (image .entry) ! (e + 2)) (numberIn Form.Wide (drop (e + 2) (now (image .entry))))) ⌝ }
+    ensures { λ r. ⌜ Executes r (now (bytes .entry)) (now (numbers .entry)) (now (bytes .exit)) (now (numbers .exit)) (now (counts .exit)) k
+        (LIT (now (image .entry) ! (e + 2)) (numberIn Form.Wide (drop (e + 2) (now (image .entry))))) ⌝ }
 {
     let d = loaded::byte(image, e as usize + 2);
     let i = decode::literal(image, e);
@@ -389,7 +406,7 @@ fn few(n: u8) -> usize
     8
 }
 
-/// VEC at the place `e` of the image.
+/// VEC at the place `e` of the image, of a run that may have `most` vectors.
 fn vectors(
     image: &[u8],
     bytes: &mut [u8; 2632],
@@ -397,16 +414,18 @@ fn vectors(
     counts: &mut [u16; 800],
     k: usize,
     e: u16,
+    most: u8,
 ) -> Did
     requires { ⌜ Ready (now bytes) (now numbers) (now counts) × Live (now bytes) k ⌝ }
-    ensures { λ r. ⌜ Executes r (now (bytes .entry)) (now (numbers .entry)) (now (bytes .exit)) (now (numbers .exit)) (now (counts .exit)) k (VEC (now (image .entry) ! (e + 2)) (fields (now (image .entry)) (e + 4) (few (now (image .entry) ! (e + 3))))) ⌝ }
+    ensures { λ r. ⌜ ExecutesWith most r (now (bytes .entry)) (now (numbers .entry)) (now (bytes .exit)) (now (numbers .exit)) (now (counts .exit)) k
+        (VEC (now (image .entry) ! (e + 2)) (fields (now (image .entry)) (e + 4) (few (now (image .entry) ! (e + 3))))) ⌝ }
 {
     let at = e as usize;
     let d = loaded::byte(image, at + 2);
     let n = few(loaded::byte(image, at + 3));
     let mut rs = [0u8; 8];
     matching::listed(image, at + 4, 1, n, &mut rs);
-    listing::vec(bytes, numbers, counts, k, d, &rs[0..n])
+    listing::vec(bytes, numbers, counts, k, d, &rs[0..n], most)
 }
 
 // ---- calls
@@ -475,8 +494,10 @@ fn calls(
     cache: &mut [u16; 256],
     spot: Spot,
 ) -> Turn
-    requires { ⌜ Ready (now bytes) (now numbers) (now counts) × Stands (now image) (now table) (now bytes) (now numbers) spot × Calling (now table ! recordAt (spot .next)) × Cached (now image) (now table) (now cache) ⌝ }
-    ensures { λ r. ⌜ Answers r (now (image .entry)) (now (table .entry)) (now (bytes .entry)) (now (numbers .entry)) (now (bytes .exit)) (now (numbers .exit)) (now (counts .exit)) spot × Cached (now (image .entry)) (now (table .entry)) (now (cache .exit)) ⌝ }
+    requires { ⌜ Ready (now bytes) (now numbers) (now counts) × Stands (now image) (now table) (now bytes) (now numbers) spot × Calling (now table ! recordAt (spot .next))
+        × Cached (now image) (now table) (now cache) ⌝ }
+    ensures { λ r. ⌜ Answers r (now (image .entry)) (now (table .entry)) (now (bytes .entry)) (now (numbers .entry)) (now (bytes .exit)) (now (numbers .exit)) (now (counts .exit)) spot
+        × Cached (now (image .entry)) (now (table .entry)) (now (cache .exit)) ⌝ }
 {
     let kind = table[RECORDS + 8 * spot.next];
     let e = lookup::place_at(table, spot.next as u32);
@@ -539,15 +560,17 @@ fn looks(
     cache: &mut [u16; 256],
     spot: Spot,
 ) -> Turn
-    requires { ⌜ Ready (now bytes) (now numbers) (now counts) × Stands (now image) (now table) (now bytes) (now numbers) spot × Left (now table) (spot .next) × Cached (now image) (now table) (now cache) ⌝ }
-    ensures { λ r. ⌜ Answers r (now (image .entry)) (now (table .entry)) (now (bytes .entry)) (now (numbers .entry)) (now (bytes .exit)) (now (numbers .exit)) (now (counts .exit)) spot × Cached (now (image .entry)) (now (table .entry)) (now (cache .exit)) ⌝ }
+    requires { ⌜ Ready (now bytes) (now numbers) (now counts) × Stands (now image) (now table) (now bytes) (now numbers) spot × Left (now table) (spot .next)
+        × Cached (now image) (now table) (now cache) ⌝ }
+    ensures { λ r. ⌜ Answers r (now (image .entry)) (now (table .entry)) (now (bytes .entry)) (now (numbers .entry)) (now (bytes .exit)) (now (numbers .exit)) (now (counts .exit)) spot
+        × Cached (now (image .entry)) (now (table .entry)) (now (cache .exit)) ⌝ }
 {
     let k = spot.frame;
     let p = RECORDS + 8 * spot.next;
     let e = lookup::place_at(table, spot.next as u32);
     match table[p] {
         17 => turned(moves(image, table, bytes, numbers, counts, k, p)),
-        20 => turned(vectors(image, bytes, numbers, counts, k, e)),
+        20 => turned(vectors(image, bytes, numbers, counts, k, e, spot.most)),
         26 => turned(casts(image, table, bytes, numbers, counts, k, p)),
         29 => turned(delays(image, table, bytes, numbers, counts, k, p)),
         33 => calls(image, table, bytes, numbers, counts, cache, spot),
@@ -566,8 +589,10 @@ fn rest(
     cache: &mut [u16; 256],
     spot: Spot,
 ) -> Turn
-    requires { ⌜ Ready (now bytes) (now numbers) (now counts) × Kept (now image) (now table) (now bytes) (now numbers) spot × Cached (now image) (now table) (now cache) × (spot .next < spot .last → Left (now table) (spot .next)) ⌝ }
-    ensures { λ r. ⌜ Turned r (now (image .entry)) (now (table .entry)) (now (bytes .entry)) (now (numbers .entry)) (now (bytes .exit)) (now (numbers .exit)) (now (counts .exit)) spot × Cached (now (image .entry)) (now (table .entry)) (now (cache .exit)) ⌝ }
+    requires { ⌜ Ready (now bytes) (now numbers) (now counts) × Kept (now image) (now table) (now bytes) (now numbers) spot × Cached (now image) (now table) (now cache)
+        × (spot .next < spot .last → Left (now table) (spot .next)) ⌝ }
+    ensures { λ r. ⌜ Turned r (now (image .entry)) (now (table .entry)) (now (bytes .entry)) (now (numbers .entry)) (now (bytes .exit)) (now (numbers .exit)) (now (counts .exit)) spot
+        × Cached (now (image .entry)) (now (table .entry)) (now (cache .exit)) ⌝ }
 {
     if spot.next < spot.last {
         return looks(image, table, bytes, numbers, counts, cache, spot);
@@ -589,7 +614,8 @@ fn advance(
     spot: Spot,
 ) -> Turn
     requires { ⌜ Ready (now bytes) (now numbers) (now counts) × Kept (now image) (now table) (now bytes) (now numbers) spot × Cached (now image) (now table) (now cache) ⌝ }
-    ensures { λ r. ⌜ Turned r (now (image .entry)) (now (table .entry)) (now (bytes .entry)) (now (numbers .entry)) (now (bytes .exit)) (now (numbers .exit)) (now (counts .exit)) spot × Cached (now (image .entry)) (now (table .entry)) (now (cache .exit)) ⌝ }
+    ensures { λ r. ⌜ Turned r (now (image .entry)) (now (table .entry)) (now (bytes .entry)) (now (numbers .entry)) (now (bytes .exit)) (now (numbers .exit)) (now (counts .exit)) spot
+        × Cached (now (image .entry)) (now (table .entry)) (now (cache .exit)) ⌝ }
 {
     match quick(table, bytes, numbers, counts, spot) {
         Turn::On => Turn::On,
@@ -603,6 +629,15 @@ fn advance(
 }
 
 // ---- a budget
+
+/// The greatest number of vectors.
+const VECTORS: u8 = 64;
+
+/// How many steps a run may take, and how many vectors it may have meanwhile.
+pub struct Budget {
+    pub steps: u32,
+    pub vectors: u8,
+}
 
 /// How a budget pauses: it is used up, the run has ended, or it is stuck.
 pub enum Pause {
@@ -647,13 +682,15 @@ fn go(
     numbers: &mut [i64; 2129],
     counts: &mut [u16; 800],
     cache: &mut [u16; 256],
-    budget: u32,
+    budget: Budget,
 ) -> Counted
     requires { ⌜ Ready (now bytes) (now numbers) (now counts) × Cached (now image) (now table) (now cache) × (now bytes ! STATUS ≡ 0) ⌝ }
-    ensures { λ r. ⌜ Ran r (now (image .entry)) (now (table .entry)) (now (bytes .entry)) (now (numbers .entry)) (now (bytes .exit)) (now (numbers .exit)) budget ⌝ }
+    ensures { λ r. ⌜ Ran r (now (image .entry)) (now (table .entry)) (now (bytes .entry)) (now (numbers .entry)) (now (bytes .exit)) (now (numbers .exit)) (budget .vectors) (budget .steps) ⌝ }
 {
-    let mut spot = locate(image, table, bytes);
-    let mut left = budget;
+    let most = budget.vectors;
+    let steps = budget.steps;
+    let mut spot = locate(image, table, bytes, most);
+    let mut left = steps;
     while left != 0 {
         match advance(image, table, bytes, numbers, counts, cache, spot) {
             Turn::On => {
@@ -665,20 +702,20 @@ fn go(
                 left -= 1;
             }
             Turn::Moved => {
-                spot = locate(image, table, bytes);
+                spot = locate(image, table, bytes, most);
                 left -= 1;
             }
             Turn::Done => {
                 return Counted {
                     pause: Pause::Ended,
-                    steps: budget - left + 1,
+                    steps: steps - left + 1,
                 };
             }
             Turn::Stuck => {
                 keep(bytes, spot);
                 return Counted {
                     pause: Pause::Stuck,
-                    steps: budget - left,
+                    steps: steps - left,
                 };
             }
             Turn::Stop(h) => {
@@ -686,13 +723,13 @@ fn go(
                 ending::stop_run(bytes, numbers, h);
                 return Counted {
                     pause: Pause::Ended,
-                    steps: budget - left + last_step(h),
+                    steps: steps - left + last_step(h),
                 };
             }
             Turn::Rest => {
                 return Counted {
                     pause: Pause::Stuck,
-                    steps: budget - left,
+                    steps: steps - left,
                 };
             }
         }
@@ -700,7 +737,7 @@ fn go(
     keep(bytes, spot);
     Counted {
         pause: Pause::Steps,
-        steps: budget,
+        steps: steps,
     }
 }
 
@@ -710,10 +747,10 @@ fn runs(
     table: &[u8],
     bytes: &mut [u8; 2632],
     numbers: &mut [i64; 2129],
-    budget: u32,
+    budget: Budget,
 ) -> Counted
     requires { ⌜ (now bytes ! STATUS ≡ 0) × Sized (now bytes) (now numbers) ⌝ }
-    ensures { λ r. ⌜ Ran r (now (image .entry)) (now (table .entry)) (now (bytes .entry)) (now (numbers .entry)) (now (bytes .exit)) (now (numbers .exit)) budget ⌝ }
+    ensures { λ r. ⌜ Ran r (now (image .entry)) (now (table .entry)) (now (bytes .entry)) (now (numbers .entry)) (now (bytes .exit)) (now (numbers .exit)) (budget .vectors) (budget .steps) ⌝ }
 {
     let mut counts = [0u16; 800];
     let mut cache = [0u16; 256];
@@ -729,18 +766,26 @@ fn runs(
     )
 }
 
-/// The length of a slice of bytes, which a proof learns so.
-fn byte_count(bytes: &[u8]) -> usize
-    ensures { λ r. ⌜ r ≡ length (now (bytes .entry)) ⌝ }
+/// Goes on with the run of the state, at most as many steps and with at most as many vectors as the budget says.
+pub fn resume_within(
+    image: &[u8],
+    table: &[u8],
+    bytes: &mut [u8; 2632],
+    numbers: &mut [i64; 2129],
+    budget: Budget,
+) -> Counted
+    ensures { λ r. ⌜ ResumesWith (budget .vectors) r (programIn (now (image .entry)) (now (table .entry))) (now (bytes .entry)) (now (numbers .entry)) (now (bytes .exit)) (now (numbers .exit))
+        (budget .steps) ⌝ }
 {
-    bytes.len()
-}
-
-/// The length of a slice of numbers.
-fn number_count(numbers: &[i64]) -> usize
-    ensures { λ r. ⌜ r ≡ length (now (numbers .entry)) ⌝ }
-{
-    numbers.len()
+    store::byte_count(bytes);
+    store::number_count(numbers);
+    if bytes[2626] != 0 {
+        return Counted {
+            pause: Pause::Ended,
+            steps: 0,
+        };
+    }
+    runs(image, table, bytes, numbers, budget)
 }
 
 /// Goes on with the run of the state, at most `budget` steps.
@@ -753,21 +798,34 @@ pub fn resume(
 ) -> Counted
     ensures { λ r. ⌜ Resumes r (programIn (now (image .entry)) (now (table .entry))) (now (bytes .entry)) (now (numbers .entry)) (now (bytes .exit)) (now (numbers .exit)) budget ⌝ }
 {
-    byte_count(bytes);
-    number_count(numbers);
-    if bytes[2626] != 0 {
-        return Counted {
-            pause: Pause::Ended,
-            steps: 0,
-        };
-    }
-    runs(image, table, bytes, numbers, budget)
+    let all = Budget {
+        steps: budget,
+        vectors: VECTORS,
+    };
+    resume_within(image, table, bytes, numbers, all)
+}
+
+/// A single step of the run of the state, which may have `most` vectors.
+pub fn step_within(
+    image: &[u8],
+    table: &[u8],
+    bytes: &mut [u8; 2632],
+    numbers: &mut [i64; 2129],
+    most: u8,
+) -> Pause
+    ensures { λ r. ⌜ StepsWith most r (programIn (now (image .entry)) (now (table .entry))) (now (bytes .entry)) (now (numbers .entry)) (now (bytes .exit)) (now (numbers .exit)) ⌝ }
+{
+    let one = Budget {
+        steps: 1,
+        vectors: most,
+    };
+    let r = resume_within(image, table, bytes, numbers, one);
+    r.pause
 }
 
 /// A single step of the run of the state.
 pub fn step(image: &[u8], table: &[u8], bytes: &mut [u8; 2632], numbers: &mut [i64; 2129]) -> Pause
     ensures { λ r. ⌜ Steps r (programIn (now (image .entry)) (now (table .entry))) (now (bytes .entry)) (now (numbers .entry)) (now (bytes .exit)) (now (numbers .exit)) ⌝ }
 {
-    let r = resume(image, table, bytes, numbers, 1);
-    r.pause
+    step_within(image, table, bytes, numbers, VECTORS)
 }

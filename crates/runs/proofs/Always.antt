@@ -23,7 +23,7 @@ module _ {A : Type 0} (Q : A → Type 0) where
   pub all-none : All Q []
   all-none b m = elim m [ ]
 
-  all-cons : (s : A) (l : List A) → Q s → All Q l → All Q (s ∷ l)
+  pub all-cons : (s : A) (l : List A) → Q s → All Q l → All Q (s ∷ l)
   all-cons s l q all b (List·Memᴰ·head e) = subst Q (sym e) q
   all-cons s l q all b (List·Memᴰ·tail m) = all b m
 

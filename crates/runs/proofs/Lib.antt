@@ -21,3 +21,13 @@ pub mod Counted
 pub mod Backs
 pub mod Visits
 pub mod Watches
+pub mod Fewer
+pub mod Caps
+pub mod Reserves
+pub mod Stores
+pub mod Rules
+pub mod Company
+pub mod Refusals
+pub mod Starts
+pub mod Lodgers
+pub mod Served

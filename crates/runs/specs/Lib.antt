@@ -7,4 +7,6 @@ pub mod Levels
 pub mod Singles
 pub mod Driven
 pub mod Backs
+pub mod Stores
+pub mod Company
 pub mod Watches

@@ -38,4 +38,5 @@ pub mod Levels
 pub mod Staying
 pub mod Inside
 pub mod Backs
+pub mod Pools
 pub mod Watches

@@ -54,7 +54,7 @@ verdict-numbered image =
     (ask-numbered 6 _ _ refl (ask-numbered 7 _ _ refl (ask-numbered 14 _ _ refl (ask-numbered 8 _ _ refl (ask-numbered 18 _ _ refl (ask-numbered 9 _ _ refl (ask-numbered 10 _ _ refl tt)))))))))))
 
 -- of an entry
-unfoldable Entered : Entry → Type 0
+unfoldable pub Entered : Entry → Type 0
 Entered Entry.Begun = Unit {0}
 Entered (Entry.Refused q p) = Refusal q p
 
@@ -89,7 +89,7 @@ eleventh level none words buffer = ofBeginning 11 refl
 eleventh level (some W) words buffer = nineteenth level W words buffer
 
 -- begin refuses by one of the questions
-begin-entered : (image : List ℕ) (level f v : ℕ) (words buffer : List ℤ) → Entered (beginOf image level f v words buffer .entry)
+pub begin-entered : (image : List ℕ) (level f v : ℕ) (words buffer : List ℤ) → Entered (beginOf image level f v words buffer .entry)
 unfolding beginOf beginAfter enteredOf refused Entered Numbered
 begin-entered image level f v words buffer = go (verdictOf image) (verdict-numbered image)
   where
@@ -113,7 +113,7 @@ writes-none xs (Answer.Ended End.Promises) h = refl
 writes-none xs Answer.Stuck h = refl
 
 -- and what writes nothing leaves the buffer
-buffer-kept : (r : Ran) (buffer : List ℤ) → ((k : ℕ) → r .answer ≢ Answer.Ended (End.Vector k)) → bufferOf r buffer ≡ buffer
+pub buffer-kept : (r : Ran) (buffer : List ℤ) → ((k : ℕ) → r .answer ≢ Answer.Ended (End.Vector k)) → bufferOf r buffer ≡ buffer
 unfolding bufferOf over
 buffer-kept r buffer h = rw (writes-none (r .state .result) (r .answer) h) refl
 
@@ -181,7 +181,7 @@ budget-told P safe s n buffer inv = long (longEnough buffer) refl
     long false e = rw (e, budgetOfTo) (refused-told n buffer s 13 0 (ofBeginning 13 refl))
 
 -- and only 13 refuses it
-refused-13 : (P : Program) → StepSafe P → (s : State) (n : ℕ) (buffer : List ℤ) → Inv P s → (q p : ℕ) → budgetOf P s n buffer .answer ≡ Answer.Refused q p → (q ≡ 13) × (p ≡ 0)
+pub refused-13 : (P : Program) → StepSafe P → (s : State) (n : ℕ) (buffer : List ℤ) → Inv P s → (q p : ℕ) → budgetOf P s n buffer .answer ≡ Answer.Refused q p → (q ≡ 13) × (p ≡ 0)
 unfolding budgetOfTo budgetInTo
 refused-13 P safe s n buffer inv q p = long (longEnough buffer) refl
   where
@@ -208,7 +208,7 @@ results image level f v words n buffer = go (beginOf image level f v words buffe
 -- ---- lists of events
 
 -- a change is taken or refused by a question
-outcome : (old new : List ℕ) (s : State) → Outcome (changeOf old new s)
+pub outcome : (old new : List ℕ) (s : State) → Outcome (changeOf old new s)
 unfolding changeOf changeAfter changedBy Numbered
 outcome old new s = go (verdictOf new) (verdict-numbered new)
   where

@@ -24,12 +24,13 @@ use Rattle.machine.specs.declared.Vector.{Vector}
 use Rattle.runs.proofs.Visits.{visit-after-keeps}
 use Rattle.runs.proofs.Watches.{rows-length, rows-at}
 use Rattle.soundness.specs.Claim.{entered, Declared, OfType, nothing, ofKind, begun}
-use Rattle.soundness.specs.Watches.{Shows, showsNothing, showsInteger, showsVector, showsPromise, ShowsRegister, ShowsRun, Watched, WatchedBack}
+use Rattle.soundness.specs.Watches.{Shows, showsNothing, showsInteger, showsVector, showsPromise, ShowsRegister, ShowsRun, Watched, WatchedBack, WatchedPool}
 use Rattle.soundness.proofs.Cells.{frameAt}
 use Rattle.soundness.proofs.Invariant.{versionAt}
 use Rattle.soundness.proofs.Closing.{live-known, register-typed}
 use Rattle.soundness.proofs.Histories.{Sound, sure-of, after-sound, sound-step, sound-taken, begun-sound}
 use Rattle.soundness.proofs.Taken.{frame-live}
+use Rattle.soundness.proofs.Pools.{house-sound}
 
 -- ---- a value that has a kind is there
 
@@ -136,3 +137,8 @@ pub watched-back : WatchedBack
 unfolding WatchedBack
 watched-back image level f v words buffer h moves =
     shows-run _ (visit-after-keeps Sound sound-step sound-taken moves (begun image level f v words buffer) (begun-sound image level f v words buffer h))
+
+-- and in the pool
+pub watched-pool : WatchedPool
+unfolding WatchedPool
+watched-pool reserves n fits l i r e = shows-run r (house-sound reserves l i r e)

@@ -5,4 +5,5 @@ pub mod Stay
 pub mod Levels
 pub mod Inside
 pub mod Backs
+pub mod Pools
 pub mod Watches

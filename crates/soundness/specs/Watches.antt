@@ -2,6 +2,7 @@
 use mathlib.Core.Path.{_≡_}
 use mathlib.Core.List.{List}
 use mathlib.Core.Option.{some}
+use mathlib.Core.Bool.{false}
 use Prim.Native.Nat.{ℕ, _<_}
 use lib.IntN.{ℤ}
 use lib.ListN.{length, getElem?}
@@ -11,6 +12,8 @@ use Rattle.machine.specs.States.{itemsOf, register}
 use Rattle.machine.specs.Begin.{beginOf}
 use Rattle.machine.specs.Events.{Run, Event, programIn, after}
 use Rattle.machine.specs.Trails.{runNow, visitOf, Move, visitAfter}
+use Rattle.machine.specs.Pools.{RUNS, overReserved, fresh}
+use Rattle.machine.specs.Houses.{Asked, opened, houseAfter}
 use Rattle.machine.specs.Watches.{emptyRow, integerRow, vectorRow, promiseRow, markIn, newest, watchOf}
 use Rattle.machine.specs.declared.Entry.{Entry}
 use Rattle.machine.specs.declared.Frame.{Frame}
@@ -56,3 +59,9 @@ unfoldable pub WatchedBack : Type 0
 WatchedBack =
     (image : List ℕ) (level f v : ℕ) (words buffer : List ℤ) → beginOf image level f v words buffer .entry ≡ Entry.Begun → (moves : List Move)
     → ShowsRun (runNow (visitAfter moves (visitOf (begun image level f v words buffer))))
+
+-- and in the pool, of the run that a number has
+unfoldable pub WatchedPool : Type 0
+WatchedPool =
+    (reserves : List ℕ) → length reserves ≡ RUNS → overReserved reserves ≡ false → (l : List Asked) (i : ℕ) (r : Run) → houseAfter l (opened (fresh reserves)) .runs i ≡ some r
+    → ShowsRun r

@@ -10,3 +10,5 @@ pub mod Vectors
 pub mod Pushing
 pub mod Promises
 pub mod Freed
+pub mod InUse
+pub mod Statuses

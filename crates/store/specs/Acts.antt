@@ -7,6 +7,7 @@ use lib.ListN.{set}
 use Rattle.layout.specs.declared.Found.{Found}
 use Rattle.layout.specs.declared.Found.the-variants.{Nothing, At}
 use Rattle.program.specs.Program.{Instr, Program, Version}
+use Rattle.machine.specs.Allowed.{executeWith}
 use Rattle.machine.specs.States.{assign, store, withPromise, withStack, withVector}
 use Rattle.machine.specs.Steps.{execute}
 use Rattle.machine.specs.Try.{Try, got, stuck, stop, _>>=_}
@@ -69,6 +70,10 @@ Leaves b n c s = (stateIn b n ≡ s) × Ready b n c
 -- the instruction i in the frame k, of whatever version and program
 abbrev pub Executes : Did → List ℕ → List ℤ → List ℕ → List ℤ → List ℕ → ℕ → Instr → Type 0
 Executes r b n b′ n′ c′ k i = ((P : Program) (W : Version) → Does r (execute P (stateIn b n) k (frameIn b n k) W i) b n b′ n′) × Ready b′ n′ c′
+
+-- likewise, of a run that may have `most` vectors
+abbrev pub ExecutesWith : ℕ → Did → List ℕ → List ℤ → List ℕ → List ℤ → List ℕ → ℕ → Instr → Type 0
+ExecutesWith most r b n b′ n′ c′ k i = ((P : Program) (W : Version) → Does r (executeWith most P (stateIn b n) k (frameIn b n k) W i) b n b′ n′) × Ready b′ n′ c′
 
 -- the state with x as the item j of the vector w at the place v
 unfoldable pub withItem : State → ℕ → Vector → ℕ → ℤ → State

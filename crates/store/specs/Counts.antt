@@ -6,12 +6,13 @@ use mathlib.Core.Option.{Option, none, some}
 use Prim.Native.Nat.{ℕ, _+_, _-_, _≤_, _<_}
 use lib.IntN.{ℤ}
 use lib.ListN.{getElem?, length, set}
-use lib.Dec.{eqb, ltb}
+use lib.Dec.{eqb, leb, ltb}
 use Rattle.layout.specs.Records.{_!_}
 use Rattle.layout.specs.declared.Found.{Found}
 use Rattle.layout.specs.declared.Found.the-variants.{Nothing, At}
-use Rattle.machine.specs.Try.{got, stop}
-use Rattle.machine.specs.States.{free, liveActivations, liveFrames, isForce, isPromise, isVector}
+use Rattle.machine.specs.Allowed.{counting}
+use Rattle.machine.specs.Try.{Try, got, stop}
+use Rattle.machine.specs.States.{VECTORS, free, liveActivations, liveFrames, isForce, isPromise, isVector}
 use Rattle.machine.specs.declared.Activation.{Activation}
 use Rattle.machine.specs.declared.End.{End}
 use Rattle.machine.specs.declared.Frame.{Frame}
@@ -156,3 +157,19 @@ taken c i j = not (eqb (c ! i) 0) || not (eqb (c ! j) 0)
 unfoldable pub Frees : Found → List ℕ → ℕ → ℕ → Type 0
 Frees (At v) c a b = ((e : End) → free e (λ i. taken c (a + i) (b + i)) 64 0 ≡ got v) × (v < 64)
 Frees Nothing c a b = (e : End) → free e (λ i. taken c (a + i) (b + i)) 64 0 ≡ stop e
+
+-- a count that is not 0
+unfoldable pub isHeld : ℕ → Bool
+isHeld m = not (eqb m 0)
+
+-- how many of the 64 counts of vectors are not 0
+unfoldable pub inUse : List ℕ → ℕ
+inUse c = counting (λ i. isHeld (c ! i)) VECTORS 0
+
+-- a place for a vector of a run that may have `most`, by the counts
+unfoldable pub freeBy : List ℕ → ℕ → Try ℕ
+freeBy c most = elim (leb most (inUse c)) [ true ↦ stop End.Vectors | false ↦ free End.Vectors (λ i. taken c (0 + i) (0 + i)) 64 0 ]
+
+unfoldable pub FreesVector : Found → List ℕ → ℕ → Type 0
+FreesVector (At v) c most = (freeBy c most ≡ got v) × (v < 64)
+FreesVector Nothing c most = freeBy c most ≡ stop End.Vectors

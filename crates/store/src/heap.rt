@@ -6,7 +6,7 @@ ghost use lib.IntN.{pos};
 ghost use lib.ListN.{length, getD};
 ghost use Rattle.machine.specs.States.{itemsOf};
 ghost use Rattle.store.specs.Store.{cacheOf, promiseIn, stateIn, vectorIn};
-ghost use Rattle.store.specs.Counts.{Frees, Ready, taken};
+ghost use Rattle.store.specs.Counts.{Frees, FreesVector, Ready, inUse, isHeld, one, taken};
 ghost use Rattle.store.specs.Acts.{Leaves, cachePut, itemPut, vectorCopied, withDelay};
 use layout::Found;
 use machine::Cache;
@@ -71,10 +71,46 @@ fn free(counts: &[u16; 800], a: usize, b: usize) -> Found
     Found::Nothing
 }
 
-/// A free place for a vector.
-pub fn free_vector(counts: &[u16; 800]) -> Found
-    ensures { λ r. ⌜ Frees r (now (counts .entry)) 0 0 ⌝ }
+/// The greatest number of vectors.
+const VECTORS: u8 = 64;
+
+/// 1 for a count that is not 0.
+fn held(count: u16) -> u16
+    ensures { λ r. ⌜ (r ≡ one (isHeld count)) × (r ≤ 1) ⌝ }
 {
+    if count != 0 { 1 } else { 0 }
+}
+
+/// How many of the 64 counts of vectors are not 0.
+pub fn in_use(counts: &[u16; 800]) -> u8
+    ensures { λ r. ⌜ r ≡ inUse (now (counts .entry)) ⌝ }
+{
+    let mut n: u16 = 0;
+    let mut v: usize = 0;
+    while v < 64 {
+        n += held(counts[v]);
+        v += 1;
+    }
+    n as u8
+}
+
+/// A free place for a vector, where fewer than `most` are in use.
+fn free_below(counts: &[u16; 800], most: u8) -> Found
+    ensures { λ r. ⌜ FreesVector r (now (counts .entry)) most ⌝ }
+{
+    if most <= in_use(counts) {
+        return Found::Nothing;
+    }
+    free(counts, 0, 0)
+}
+
+/// A free place for a vector of a run that may have `most`; with 64 of 64 places none need be counted.
+pub fn free_vector(counts: &[u16; 800], most: u8) -> Found
+    ensures { λ r. ⌜ FreesVector r (now (counts .entry)) most ⌝ }
+{
+    if most < VECTORS {
+        return free_below(counts, most);
+    }
     free(counts, 0, 0)
 }
 

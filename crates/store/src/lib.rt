@@ -3,6 +3,9 @@
 //! each vector and promise, how many force each promise, and how many cells of each live frame refer to one.
 //! Each function says by the machine's own definitions what it does to the state that the arrays stand for.
 //! What they require, the loop of `running` keeps; `whereabouts` and `searches` ask first.
+ghost use mathlib.Core.Path.{_≡_};
+ghost use lib.ListN.{length};
+
 pub mod cells;
 pub mod heap;
 pub mod stack;
@@ -26,4 +29,18 @@ pub enum Did {
 pub enum Whole {
     Is(i64),
     Stuck,
+}
+
+/// The length of a slice of bytes, which a proof learns so.
+pub fn byte_count(bytes: &[u8]) -> usize
+    ensures { λ r. ⌜ r ≡ length (now (bytes .entry)) ⌝ }
+{
+    bytes.len()
+}
+
+/// The length of a slice of numbers.
+pub fn number_count(numbers: &[i64]) -> usize
+    ensures { λ r. ⌜ r ≡ length (now (numbers .entry)) ⌝ }
+{
+    numbers.len()
 }

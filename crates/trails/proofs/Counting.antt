@@ -23,10 +23,12 @@ more : (s p m : ℕ) → p ≡ 0 → further (behindIn s p) m ≡ behindBy (s + 
 more s p m z = ap (λ (b : Behind). further b m) (within s p z) ∙ behind-further s m
 
 -- the sum is counted
-pub counts-on : (s p m n : ℕ) → p ≡ 0 → n ≡ s + m → Adds s p m n p
-counts-on s p m n z e = record {
+pub counts-on : (s p m n : ℕ) → p ≡ 0 → n ≡ s + m → n ≤ REACH → Adds s p m n p
+counts-on s p m n z e l = record {
   behind = within n p z ∙ ap behindBy e ∙ sym (more s p m z);
   none = λ o. (omega (arith, e, o), refl);
+  over = λ _ h. absurd (omega (arith, e, l, h));
+  beyond = λ o. absurd (o z);
 }
 
 -- it is past what can be counted, where the count before was not
@@ -34,14 +36,16 @@ pub counts-over : (s p m n : ℕ) → p ≡ 0 → n ≡ s + m → s ≤ REACH �
 counts-over s p m n z e l h = record {
   behind = beyond s 1 (λ o. omega (arith, o)) ∙ sym (more s p m z ∙ ap behindBy (sym e) ∙ past-reach n h);
   none = λ o. absurd (omega (arith, e, o, l, h));
+  over = λ _ _. (refl, refl);
+  beyond = λ o. absurd (o z);
 }
 
 -- none is counted any more
 pub counts-none : (s p m : ℕ) → (p ≡ 0 → ⊥) → Adds s p m s p
 unfolding further
-counts-none s p m h = record { behind = beyond s p h ∙ sym (ap (λ (b : Behind). further b m) (beyond s p h)); none = λ o. (refl, refl) }
+counts-none s p m h = record { behind = beyond s p h ∙ sym (ap (λ (b : Behind). further b m) (beyond s p h)); none = λ o. (refl, refl); over = λ z _. absurd (h z); beyond = λ _. (refl, refl) }
 
 -- no step more
-pub counts-zero : (s p : ℕ) → Adds s p 0 s p
-counts-zero s zero = counts-on s 0 0 s refl (sym (add-zero s))
-counts-zero s (suc p) = counts-none s (suc p) 0 (λ e. omega (arith, e))
+pub counts-zero : (s p : ℕ) → behindIn s p ≡ further (behindIn s p) 0
+counts-zero s zero = within s 0 refl ∙ ap behindBy (sym (add-zero s)) ∙ sym (more s 0 0 refl)
+counts-zero s (suc p) = counts-none s (suc p) 0 (λ e. omega (arith, e)) .behind

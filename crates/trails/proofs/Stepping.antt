@@ -13,7 +13,7 @@ use Rattle.store.specs.Store.{stateIn}
 use Rattle.runs.proofs.Counted.{one-taken}
 use Rattle.running.specs.Budgets.{Resumes, Steps}
 use Rattle.running.specs.declared.Counted.{Counted}
-use Rattle.running.proofs.Resuming.{step-by}
+use Rattle.running.proofs.Resuming.{one-step}
 use Rattle.trails.specs.Arrays.{Adds, stepsFrom}
 
 -- of a run that goes on and of one that has ended
@@ -26,4 +26,4 @@ pub step-counted : (P : Program) (b : List ℕ) (n : List ℤ) (b′ : List ℕ)
     → Steps (r .pause) P b n b′ n′ × Adds s p (stepsFrom P b n) s′ p′
 step-counted P b n b′ n′ s p s′ p′ r h =
     let e : r .steps ≡ stepsFrom P b n = ap (λ (x : Outcome). x .steps) (sym (h .0 .ran)) ∙ budget-of-one P (stateIn b n) (stateIn b n .status) refl in
-    (step-by P b n b′ n′ r (h .0), subst (λ (m : ℕ). Adds s p m s′ p′) e (h .1))
+    (one-step P b n b′ n′ r (h .0), subst (λ (m : ℕ). Adds s p m s′ p′) e (h .1))

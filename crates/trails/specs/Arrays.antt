@@ -2,13 +2,13 @@
 use mathlib.Core.List.{List}
 use mathlib.Core.Path.{_≡_}
 use mathlib.Core.Bool.{cond}
-use Prim.Native.Nat.{ℕ}
+use Prim.Native.Nat.{ℕ, _+_, _<_}
 use lib.Dec.{eqb}
 use lib.IntN.{ℤ}
 use Rattle.program.specs.Program.{Program}
 use Rattle.machine.specs.Changes.{changeOf}
 use Rattle.machine.specs.Runs.{stepOf}
-use Rattle.machine.specs.Trails.{backOf, behindBy, changeOn, further, started, stepsBy}
+use Rattle.machine.specs.Trails.{REACH, backOf, behindBy, changeOn, further, started, stepsBy}
 use Rattle.machine.specs.declared.Back.{Back}
 use Rattle.machine.specs.declared.Behind.{Behind}
 use Rattle.machine.specs.declared.Changed.{Changed}
@@ -29,10 +29,12 @@ pub record Starts (b : List ℕ) (n : List ℤ) (b₀ : List ℕ) (n₀ : List �
   pub bytes : b₀ ≡ b
   pub numbers : n₀ ≡ n
 
--- m steps more lie behind; where there are none both numbers are as they were
+-- m steps more lie behind; where there are none, and where none is counted any more, both numbers are as they were; past what can be counted 1 is written
 pub record Adds (steps past m steps′ past′ : ℕ) : Type 0 where
   pub behind : behindIn steps′ past′ ≡ further (behindIn steps past) m
   pub none : m ≡ 0 → (steps′ ≡ steps) × (past′ ≡ past)
+  pub over : past ≡ 0 → REACH < steps + m → (steps′ ≡ steps) × (past′ ≡ 1)
+  pub beyond : (past ≡ 0 → ⊥) → (steps′ ≡ steps) × (past′ ≡ past)
 
 -- the steps that a single step takes from the state of these arrays
 abbrev pub stepsFrom : Program → List ℕ → List ℤ → ℕ

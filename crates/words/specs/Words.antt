@@ -35,6 +35,7 @@ questionText n = choose n [] (
     (18, text "a CALL goes to a version of a higher level") ∷
     (19, text "the entry is above the level of the run") ∷
     (20, text "no step lies behind") ∷
+    (21, text "the reserves of a pool sum to at most 64, and a run's number is at most 7") ∷
     (22, text "the list of records is too short") ∷
     (23, text "the joined image would break a bound of the layout, or does not fit the buffer") ∷ [])
 
@@ -46,7 +47,7 @@ answerText n = choose n [] (
     (2, text "DONE with a vector") ∷
     (3, text "UNDEF: an operation has no result") ∷
     (4, text "DEEP: a 33rd activation is needed") ∷
-    (5, text "VECTORS: a 65th vector is needed") ∷
+    (5, text "VECTORS: a 65th vector is needed, or one more than a pool gives") ∷
     (6, text "PROMISES: a 65th promise is needed") ∷
     (7, text "stuck: the state is none of a run of this image") ∷
     (8, text "refused") ∷ [])

@@ -72,6 +72,10 @@ pub fn question_text(question: u8, out: &mut [u8]) -> usize
         18 => say(out, b"a CALL goes to a version of a higher level"),
         19 => say(out, b"the entry is above the level of the run"),
         20 => say(out, b"no step lies behind"),
+        21 => say(
+            out,
+            b"the reserves of a pool sum to at most 64, and a run's number is at most 7",
+        ),
         22 => say(out, b"the list of records is too short"),
         23 => say(
             out,
@@ -91,7 +95,10 @@ pub fn answer_text(code: u8, out: &mut [u8]) -> usize
         2 => say(out, b"DONE with a vector"),
         3 => say(out, b"UNDEF: an operation has no result"),
         4 => say(out, b"DEEP: a 33rd activation is needed"),
-        5 => say(out, b"VECTORS: a 65th vector is needed"),
+        5 => say(
+            out,
+            b"VECTORS: a 65th vector is needed, or one more than a pool gives",
+        ),
         6 => say(out, b"PROMISES: a 65th promise is needed"),
         7 => say(out, b"stuck: the state is none of a run of this image"),
         8 => say(out, b"refused"),

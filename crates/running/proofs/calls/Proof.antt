@@ -88,7 +88,7 @@ enters-requires c κs =
 -- src/lib.rt:410:1
 returns : tie.Need-returns
 returns c =
-    (call-answers _ _ _ _ _ ((c .before .before .before .before .before .before .before .before .before .before .before .before .before .before .before .before .before .before .before .before .before .before .before) .pre .1) _ ((c .before .before .before .before .before .before .before .before .before .before .before .before .before .before .before .before .before .before .before .before .before .before .before) .pre .0) _ ((c .before .before .before .before .before .before .before .before .before .before .before .before .before .store-next) .ensures) _ ((c .before .before .before .before .before .before .before .before .before .before .before .own) .ensures) refl refl (sym ((c .before .before .before .before .before .before .before .before .before .before .before .before .before .before .before .before .before .place-at) .ensures)) _ _ (part-all ((c .before .before .before .before .before .before .before .before .before .before .before .before .before .before .before .registers) .result) ((c .before .before .before .before .before .before .before .before .before .before .before .before .before .before .before .registers) .last .1 .1 .1 .0)) _ ((c .before .before .before .before .before .before .before .choose) .ensures .0) _ _ ((c .before .before .before .before .before .before .byte) .ensures) _ _ _ ((c .enters) .ensures), (c .before .before .before .before .before .before .before .choose) .ensures .1)
+    (call-answers _ _ _ _ _ ((c .before .before .before .before .before .before .before .before .before .before .before .before .before .before .before .before .before .before .before .before .before .before .before) .pre .1) _ ((c .before .before .before .before .before .before .before .before .before .before .before .before .before .before .before .before .before .before .before .before .before .before .before) .pre .0) _ ((c .before .before .before .before .before .before .before .before .before .before .before .before .before .store-next) .ensures) _ ((c .before .before .before .before .before .before .before .before .before .before .before .own) .ensures) refl refl (sym ((c .before .before .before .before .before .before .before .before .before .before .before .before .before .before .before .before .before .place-at) .ensures)) _ _ (part-all ((c .before .before .before .before .before .before .before .before .before .before .before .before .before .before .before .registers) .result) ((c .before .before .before .before .before .before .before .before .before .before .before .before .before .before .before .registers) .last .1 .1 .1 .0)) _ ((c .before .before .before .before .before .before .before .choose) .ensures .0) ((c .before .before .before .before .before .before .before .before .before .before .before .before .before .before .before .before .before .before .before .before .before .before .before) .pre .2) _ _ ((c .before .before .before .before .before .before .byte) .ensures) _ _ _ ((c .enters) .ensures), (c .before .before .before .before .before .before .before .choose) .ensures .1)
 
 pub calls-spec : {M : Type 1} → statement M
 calls-spec =

@@ -31,7 +31,7 @@ returns : tie.Need-returns
 returns c =
     let d = (c .before .before .wide) .ensures .0 in
     let z = (c .before .if1) .taken in
-    lost-by _ _ _ _ ((c .nowhere) .ensures) (λ n. none-open _ _ _ n (omega (arith, d, z)))
+    lost-by _ _ _ _ _ ((c .nowhere) .ensures) (λ n. none-open _ _ _ _ n (omega (arith, d, z)))
 
 -- src/lib.rt:75:9
 nowhere-requires-2 : tie.Need-nowhere-requires-2
@@ -42,7 +42,7 @@ returns-2 : tie.Need-returns-2
 returns-2 c =
     let d = (c .before .before .before .wide) .ensures .0 in
     let z = (c .before .if2) .taken in
-    lost-by _ _ _ _ ((c .nowhere2) .ensures) (λ n. too-many _ _ _ n (omega (arith, d, z)))
+    lost-by _ _ _ _ _ ((c .nowhere2) .ensures) (λ n. too-many _ _ _ _ n (omega (arith, d, z)))
 
 -- src/lib.rt:77:38
 sub-activation : tie.Need-sub-activation
@@ -76,7 +76,7 @@ returns-3 c = search needs
 -- src/lib.rt:67:1
 returns-4 : tie.Need-returns-4
 returns-4 c =
-    lost-by _ _ _ _ ((c .nowhere3) .ensures) (lost-frame _ _ ((c .before .before .before .before .before .before .before .wide) .ensures .0) ((c .before .before .before .before .before .before .if1) .left) ((c .before .before .before .before .before .if2) .left) ((c .before .before .before .before .activation) .ensures) ((c .before .before .before .wide2) .ensures .0) ((c .before .before .is-live) .ensures) _ _ ((c .before .if3) .left))
+    lost-by _ _ _ _ _ ((c .nowhere3) .ensures) (lost-frame _ _ ((c .before .before .before .before .before .before .before .wide) .ensures .0) ((c .before .before .before .before .before .before .if1) .left) ((c .before .before .before .before .before .if2) .left) ((c .before .before .before .before .activation) .ensures) ((c .before .before .before .wide2) .ensures .0) ((c .before .before .is-live) .ensures) _ _ _ ((c .before .if3) .left))
 
 pub locate-spec : {M : Type 1} → statement M
 locate-spec =

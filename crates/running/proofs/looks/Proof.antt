@@ -1,8 +1,9 @@
+use Rattle.machine.proofs.Within.{makes}
 use native.Mathlib.Omega.{arith}
 use mathlib.Core.Path.{refl}
 use Rattle.loaded.proofs.Reading.{short-cast, short-move, short-prom}
 use Rattle.running.specs.Plain.{isPlain}
-use Rattle.running.proofs.Looking.{lit-here, look-answers, plain-answers, vec-here}
+use Rattle.running.proofs.Looking.{lit-here, look-answers, made-answers, plain-answers, vec-here}
 use borrow.Author.Needs.{needs}
 use Rattle.running.proofs.looks.Statement.{statement}
 use Rattle.running.proofs.looks.Tie as tie
@@ -91,27 +92,27 @@ turned-requires-5 c κs = search needs
 
 -- src/lib.rt:475:1
 returns : tie.Need-returns
-unfolding isPlain
+unfolding isPlain makes
 returns c =
-    (look-answers _ _ _ _ _ ((c .before .before .before .before .before .before .before .before .before .before .before .before) .pre .1) _ _ _ _ _ ((c .turned) .ensures) ((c .before .moves) .ensures) (short-move _ _ _ ((c .before .before .before .before .before .match) .keys1)) refl, (c .before .before .before .before .before .before .before .before .before .before .before .before) .pre .3)
+    (look-answers _ _ _ _ _ ((c .before .before .before .before .before .before .before .before .before .before .before .before) .pre .1) _ _ _ _ _ ((c .turned) .ensures) ((c .before .moves) .ensures) (short-move _ _ _ ((c .before .before .before .before .before .match) .keys1)) refl refl, (c .before .before .before .before .before .before .before .before .before .before .before .before) .pre .3)
 
 -- src/lib.rt:475:1
 returns-2 : tie.Need-returns-2
-unfolding isPlain
+unfolding isPlain makes
 returns-2 c =
-    (plain-answers _ _ _ _ _ ((c .before .before .before .before .before .before .before .before .before .before .before .before) .pre .1) _ _ _ _ _ ((c .turned2) .ensures) ((c .before .vectors) .ensures) (vec-here _ _ _ ((c .before .before .before .before .before .before .before .place-at) .ensures) ((c .before .before .before .before .before .match) .keys2)) refl, (c .before .before .before .before .before .before .before .before .before .before .before .before) .pre .3)
+    (made-answers _ _ _ _ _ ((c .before .before .before .before .before .before .before .before .before .before .before .before) .pre .1) _ _ _ _ _ ((c .turned2) .ensures) ((c .before .vectors) .ensures) (vec-here _ _ _ ((c .before .before .before .before .before .before .before .place-at) .ensures) ((c .before .before .before .before .before .match) .keys2)) refl, (c .before .before .before .before .before .before .before .before .before .before .before .before) .pre .3)
 
 -- src/lib.rt:475:1
 returns-3 : tie.Need-returns-3
-unfolding isPlain
+unfolding isPlain makes
 returns-3 c =
-    (look-answers _ _ _ _ _ ((c .before .before .before .before .before .before .before .before .before .before .before .before) .pre .1) _ _ _ _ _ ((c .turned3) .ensures) ((c .before .casts) .ensures) (short-cast _ _ _ ((c .before .before .before .before .before .match) .keys3)) refl, (c .before .before .before .before .before .before .before .before .before .before .before .before) .pre .3)
+    (look-answers _ _ _ _ _ ((c .before .before .before .before .before .before .before .before .before .before .before .before) .pre .1) _ _ _ _ _ ((c .turned3) .ensures) ((c .before .casts) .ensures) (short-cast _ _ _ ((c .before .before .before .before .before .match) .keys3)) refl refl, (c .before .before .before .before .before .before .before .before .before .before .before .before) .pre .3)
 
 -- src/lib.rt:475:1
 returns-4 : tie.Need-returns-4
-unfolding isPlain
+unfolding isPlain makes
 returns-4 c =
-    (look-answers _ _ _ _ _ ((c .before .before .before .before .before .before .before .before .before .before .before .before) .pre .1) _ _ _ _ _ ((c .turned4) .ensures) ((c .before .delays) .ensures) (short-prom _ _ _ ((c .before .before .before .before .before .match) .keys4)) refl, (c .before .before .before .before .before .before .before .before .before .before .before .before) .pre .3)
+    (look-answers _ _ _ _ _ ((c .before .before .before .before .before .before .before .before .before .before .before .before) .pre .1) _ _ _ _ _ ((c .turned4) .ensures) ((c .before .delays) .ensures) (short-prom _ _ _ ((c .before .before .before .before .before .match) .keys4)) refl refl, (c .before .before .before .before .before .before .before .before .before .before .before .before) .pre .3)
 
 -- src/lib.rt:475:1
 returns-5 : tie.Need-returns-5
@@ -123,9 +124,9 @@ returns-6 c = search needs
 
 -- src/lib.rt:475:1
 returns-7 : tie.Need-returns-7
-unfolding isPlain
+unfolding isPlain makes
 returns-7 c =
-    (plain-answers _ _ _ _ _ ((c .before .before .before .before .before .before .before .before .before .before .before .before) .pre .1) _ _ _ _ _ ((c .turned5) .ensures) ((c .before .lits) .ensures) (lit-here _ _ _ ((c .before .before .before .before .before .before .before .place-at) .ensures) ((c .before .before .before .before .before .before .before .before .before .before .before .before) .pre .2) ((c .before .before .before .before .before .match) .rest .0 .0 .0 .0 .0 .1) ((c .before .before .before .before .before .match) .rest .0 .0 .0 .0 .1) ((c .before .before .before .before .before .match) .rest .0 .0 .0 .1) ((c .before .before .before .before .before .match) .rest .0 .0 .1) ((c .before .before .before .before .before .match) .rest .0 .1) ((c .before .before .before .before .before .match) .rest .1)) refl, (c .before .before .before .before .before .before .before .before .before .before .before .before) .pre .3)
+    (plain-answers _ _ _ _ _ ((c .before .before .before .before .before .before .before .before .before .before .before .before) .pre .1) _ _ _ _ _ ((c .turned5) .ensures) ((c .before .lits) .ensures) (lit-here _ _ _ ((c .before .before .before .before .before .before .before .place-at) .ensures) ((c .before .before .before .before .before .before .before .before .before .before .before .before) .pre .2) ((c .before .before .before .before .before .match) .rest .0 .0 .0 .0 .0 .1) ((c .before .before .before .before .before .match) .rest .0 .0 .0 .0 .1) ((c .before .before .before .before .before .match) .rest .0 .0 .0 .1) ((c .before .before .before .before .before .match) .rest .0 .0 .1) ((c .before .before .before .before .before .match) .rest .0 .1) ((c .before .before .before .before .before .match) .rest .1)) refl refl, (c .before .before .before .before .before .before .before .before .before .before .before .before) .pre .3)
 
 pub looks-spec : {M : Type 1} → statement M
 looks-spec =

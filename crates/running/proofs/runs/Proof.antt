@@ -1,5 +1,6 @@
+use Rattle.frames.proofs.Tallying.{nothing-counted}
 use mathlib.Core.Path.{refl}
-use Rattle.running.proofs.Resuming.{nothing-cached, nothing-counted}
+use Rattle.running.proofs.Resuming.{nothing-cached}
 use borrow.Author.Needs.{needs}
 use Rattle.running.proofs.runs.Statement.{statement}
 use Rattle.running.proofs.runs.Tie as tie

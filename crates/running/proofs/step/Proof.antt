@@ -1,19 +1,16 @@
-use Rattle.running.proofs.Resuming.{step-by}
+use Rattle.running.proofs.Resuming.{step-all}
 use borrow.Author.Needs.{needs}
 use Rattle.running.proofs.step.Statement.{statement}
 use Rattle.running.proofs.step.Tie as tie
 use Rattle.running.proofs.step.Reads as reads
 use Rattle.running.proofs.step.Lts as lts
-use Rattle.running.proofs.resume.Reads as resume-reads
+use Rattle.running.proofs.step_within.Reads as step-within-reads
 
--- src/lib.rt:709:9
-resume-requires : tie.Need-resume-requires
-resume-requires c κs = search needs
+step-within-requires : tie.Need-step-within-requires
+step-within-requires c κs = search needs
 
--- src/lib.rt:706:1
 returns : tie.Need-returns
-returns c =
-    step-by _ _ _ _ _ _ ((c .resume) .ensures)
+returns c = step-all _ _ _ _ _ _ ((c .step-within) .ensures)
 
 pub step-spec : {M : Type 1} → statement M
-step-spec = tie.close (tie.spec resume-requires returns)
+step-spec = tie.close (tie.spec step-within-requires returns)

@@ -14,7 +14,7 @@ cast-steps : tie.Need-cast-steps
 cast-steps c = search needs
 
 returns-2 : tie.Need-returns-2
-returns-2 c = counts-on _ _ _ _ (c .before .before .before .if1 .left) (c .before .total .ensures)
+returns-2 c = counts-on _ _ _ _ (c .before .before .before .if1 .left) (c .before .total .ensures) (c .if2 .taken)
 
 returns-3 : tie.Need-returns-3
 returns-3 c = counts-over _ _ _ _ (c .before .before .before .if1 .left) (c .before .total .ensures) (search needs) (c .if2 .left)

@@ -147,6 +147,12 @@ slice-aggregate-say-23 c = search needs
 say-requires-23 : tie.Need-say-requires-23
 say-requires-23 c κs = search needs
 
+slice-aggregate-say-24 : tie.Need-slice-aggregate-say-24
+slice-aggregate-say-24 c = search needs
+
+say-requires-24 : tie.Need-say-requires-24
+say-requires-24 c κs = search needs
+
 same-length : tie.Need-same-length
 same-length c = search needs
 
@@ -331,11 +337,20 @@ unfolding questionText choose text
 returns-23 c =
     rw ((c .before .before .before .before .before .match) .keys23) ((c .before .before .say23) .ensures)
 
+same-length-24 : tie.Need-same-length-24
+same-length-24 c = search needs
+
 returns-24 : tie.Need-returns-24
-unfolding questionText
+unfolding questionText choose text
 returns-24 c =
+    rw ((c .before .before .before .before .before .match) .keys24) ((c .before .before .say24) .ensures)
+
+returns-25 : tie.Need-returns-25
+unfolding questionText
+returns-25 c =
     let q = (c .before .before) .args .question in
-    nothing (questionText q) _ (next-row q [] _ _ ((c .match) .rest .0 .0 .0 .0 .0 .0 .0 .0 .0 .0 .0 .0 .0 .0 .0 .0 .0 .0 .0 .0 .0 .0 .1)
+    nothing (questionText q) _ (next-row q [] _ _ ((c .match) .rest .0 .0 .0 .0 .0 .0 .0 .0 .0 .0 .0 .0 .0 .0 .0 .0 .0 .0 .0 .0 .0 .0 .0 .1)
+    ∙ next-row q [] _ _ ((c .match) .rest .0 .0 .0 .0 .0 .0 .0 .0 .0 .0 .0 .0 .0 .0 .0 .0 .0 .0 .0 .0 .0 .0 .1)
     ∙ next-row q [] _ _ ((c .match) .rest .0 .0 .0 .0 .0 .0 .0 .0 .0 .0 .0 .0 .0 .0 .0 .0 .0 .0 .0 .0 .0 .1)
     ∙ next-row q [] _ _ ((c .match) .rest .0 .0 .0 .0 .0 .0 .0 .0 .0 .0 .0 .0 .0 .0 .0 .0 .0 .0 .0 .0 .1)
     ∙ next-row q [] _ _ ((c .match) .rest .0 .0 .0 .0 .0 .0 .0 .0 .0 .0 .0 .0 .0 .0 .0 .0 .0 .0 .0 .1)
@@ -410,6 +425,8 @@ question-text-spec =
     say-requires-22
     slice-aggregate-say-23
     say-requires-23
+    slice-aggregate-say-24
+    say-requires-24
     same-length
     returns
     same-length-2
@@ -456,4 +473,6 @@ question-text-spec =
     returns-22
     same-length-23
     returns-23
-    returns-24)
+    same-length-24
+    returns-24
+    returns-25)
