@@ -8,21 +8,25 @@
  * What the caller owes, in every call:
  *   - A pointer with a length points to that many elements, aligned for their type; where the length is 0 it need not
  *     point to anything, but it is not NULL.
- *   - A pointer to a fir_state points to one, aligned as fir_state_alignment says, and a pointer to a fir_trail to one. The
- *     content of both may be anything.
- *   - What a call writes (a state, a trail, a table, a text, a result buffer, a moved or joined image, rows) overlaps nothing else
- *     that the call is lent.
+ *   - A pointer to a fir_state points to one, aligned as fir_state_alignment says, a pointer to a fir_trail to one, and a pointer
+ *     to a fir_pool to one. The content of all three may be anything.
+ *   - What a call writes (a state, a trail, a pool, a table, a text, a result buffer, a moved or joined image, rows) overlaps
+ *     nothing else that the call is lent.
  *   - Until the call returns, nobody else writes what is lent, and nobody else reads what the call writes.
  *   - An image that is lent with a table was loaded into it: fir_load answered FIR_LOADED, and neither was written since.
- *   - A step, forward or back, a budget, fir_watch, fir_search and fir_where are lent the image in force, and its table; fir_change and
- *     fir_trail_change, as their old image, the image in force. That is the one that the run was begun with, or the last one that
- *     such a change accepted for it. The caller keeps it, byte for byte, until another is accepted or the run is given up.
+ *   - A step, forward or back, a budget, fir_watch, fir_search and fir_where are lent the image in force, and its table; fir_change,
+ *     fir_trail_change and fir_pool_change, as their old image, the image in force. That is the one that the run was begun with, or
+ *     the last one that such a change accepted for it. The caller keeps it, byte for byte, until another is accepted or the run is
+ *     given up.
  *   - A trail is lent with its own state: the one that it was started at, as the calls with this trail have left it.
- * Nothing of this can be tested by the library. All else is: every image, table, entry, argument list, budget, buffer, state and
- * trail gets an answer that is listed here, and nothing outside the lent memory is read or written.
+ *   - A pool is lent with a number and the state of that number: the one that the last start, step or budget under it in this pool
+ *     has left. Nobody but the functions of the pool writes the pool.
+ * Nothing of this can be tested by the library. All else is: every image, table, entry, argument list, budget, buffer, state, trail,
+ * pool and number gets an answer that is listed here, and nothing outside the lent memory is read or written.
  *
- * Threads: every function may be called from several threads at once, each with its own states, trails, texts, buffers and rows. What
- * calls only read they may share: an image, its table once it is loaded, and a state behind a pointer to const.
+ * Threads: every function may be called from several threads at once, each with its own states, trails, pools, texts, buffers and
+ * rows. What calls only read they may share: an image, its table once it is loaded, and a state behind a pointer to const. One pool
+ * is one writer: calls on one pool do not overlap, also under different numbers.
  *
  * Linking: the archive that `rt staticlib` makes is for x86-64 and its calling convention of System V; tools/dist makes it for
  * aarch64, ARMv7 and riscv64 too. It needs three functions of the C library, memcpy, memmove and memset, on ARMv7 also libgcc,
@@ -34,12 +38,13 @@
  * taken, and a step back as much as the steps that lie behind. So an image is loaded once, and one budget costs less than as many
  * single steps. tests/interface/costs.c measures all of these. On a machine of 2026 for x86-64, microseconds, with an image of 512
  * bytes and with the longest:
- *   fir_check, which reads the image         3.6    214      fir_begin                            0.13   0.13
- *   fir_load, once for an image              3.9    226      fir_step; fir_budget of 0, 1 steps   0.06   0.04
- *   fir_change, the new image                4.5    230      fir_budget of 10 steps               0.08   0.07
- *   fir_join, with itself                    8.1    401      fir_budget of 100 steps              0.55   0.56
- *   fir_report, fir_mend, at most            5.6  1,225      fir_where, fir_look                  0.01   0.01
- *                                                           fir_search, four versions in vain    0.16   0.16
+ *   fir_check, which reads the image         2.8    158      fir_begin                            0.20   0.19
+ *   fir_load, once for an image              3.1    175      fir_step; fir_budget of 0, 1 steps   0.06   0.09
+ *   fir_change, the new image                3.4    171      fir_budget of 10 steps               0.10   0.13
+ *   fir_join, with itself                    5.8    315      fir_budget of 100 steps              0.54   0.58
+ *   fir_report, fir_mend, at most            4.3    799      fir_pool_step                        0.08   0.11
+ *   fir_where, fir_look                      0.01   0.01     fir_pool_budget of 100 steps         0.59   0.63
+ *   fir_search, four versions in vain        0.16   0.16     fir_trail_back of one step           0.35   0.36
  *
  * The examples below are compiled and run by the tests, as they stand, behind <stdio.h> and this header.
  */
@@ -128,7 +133,10 @@ fir_versions fir_version(void);
  *   - A host that was compiled for a library before levels, and is not compiled again, passes other arguments than the
  *     library takes. */
 
-/* ---- Refusals: the question that says no, in the order in which they are put ---- */
+/* ---- Refusals: the question that says no ---- */
+
+/* To an image 1 to 7, 14, 8, 18, 9 and 10 are put, in this order; to a run that begins 11, 19, 12 and 13; in a pool 21 comes before
+ * everything that the call asks. A new image is asked 15 behind its own questions, a moved one 16 and 17, two that are joined 23. */
 
 #define FIR_ACCEPTED 0           /* none does */
 #define FIR_REFUSED_SIZE 1       /* the image has 1 to 32,768 bytes */
@@ -151,6 +159,7 @@ fir_versions fir_version(void);
 #define FIR_REFUSED_LITERAL 16   /* every literal of an image that is moved fits 32 bits */
 #define FIR_REFUSED_ROOM 17      /* the moved image has at most 32,768 bytes and fits the buffer */
 #define FIR_REFUSED_BACK 20      /* a step lies behind the state */
+#define FIR_REFUSED_POOL 21      /* the reserves of the pool sum to at most 64, and the number is 0 to 7 */
 #define FIR_REFUSED_ROWS 22      /* the list has a record for each register of the topmost call */
 #define FIR_REFUSED_JOIN 23      /* the joined image has at most 32,768 bytes, 32 functions and 64 versions and fits the buffer */
 
@@ -181,9 +190,9 @@ typedef struct fir_verdict {
     uint8_t question;
 } fir_verdict;
 
-/* Whether a run has begun, goes on under a new image or has gone back: FIR_ACCEPTED, or the question that refuses it and the
- * offset. A run is refused by 11, 19, 12 or 13, a new image by 1 to 10, 14, 15 or 18, a step back by 20. With FIR_ACCEPTED, 11 to
- * 13, 19 and 20 the offset is 0. */
+/* Whether a run has begun, goes on under a new image or has gone back, or a pool is made: FIR_ACCEPTED, or the question that refuses
+ * it and the offset. A run is refused by 11, 19, 12 or 13, a new image by 1 to 10, 14, 15 or 18, a step back by 20, and all of these
+ * in a pool by 21 first. With FIR_ACCEPTED, 11 to 13 and 19 to 21 the offset is 0. */
 typedef struct fir_entry {
     uint16_t offset;
     uint8_t question;
@@ -198,7 +207,7 @@ typedef struct fir_entry {
 #define FIR_VECTOR 2    /* DONE with a vector of `length` items */
 #define FIR_UNDEF 3     /* UNDEF */
 #define FIR_DEEP 4      /* DEEP: a 33rd activation is needed */
-#define FIR_VECTORS 5   /* VECTORS: a 65th vector is needed */
+#define FIR_VECTORS 5   /* VECTORS: a 65th vector is needed, or one more than the pool gives */
 #define FIR_PROMISES 6  /* PROMISES: a 65th promise is needed */
 #define FIR_STUCK 7     /* the state is none of a begun run that this image is in force for; a stuck step leaves it as it was */
 #define FIR_REFUSED 8   /* refused by `question` at `offset`; state and buffer are as they were */
@@ -471,8 +480,8 @@ fir_mended fir_mend(const uint8_t *image, size_t image_length);
 /* Lists the versions of an image with the most steps that a run of each can take. Whatever its level, its arguments and its
  * buffer are, and into however many steps and budgets it is divided: a run never takes more steps than a bound given for its
  * entry, as long as no change of its image was taken (fir_change), and no step back (fir_trail_back), behind which steps are taken
- * again. A bound need not be met: skipped parts, promises that are never forced and the longest version that a DISPATCH may enter
- * all count.
+ * again; nor does one in a pool. A bound need not be met: skipped parts, promises that are never forced and the longest version that
+ * a DISPATCH may enter all count.
  *
  * The row i is the version numbers[2 * i].numbers[2 * i + 1], and steps[i] its bound: its instructions and block ends in all
  * blocks, promise bodies too, and for each CALL and DISPATCH the largest bound that it may reach, 0 where nothing fits. A
@@ -648,8 +657,8 @@ fir_entry fir_change(const uint8_t *old_image, size_t old_length, const uint8_t 
  * further back up to the start, names, caches and counts included.
  *
  * The steps that count are those that a budget counts: each that goes on, and the one that makes DONE or UNDEF. One that DEEP,
- * VECTORS or PROMISES stops does not, nor does one that is stuck or refused, or one of a run that has ended. Where more than
- * 4,294,967,295 were taken since the start, none lies behind any more, until a new start.
+ * VECTORS or PROMISES stops does not, nor does one that is stuck or refused, or one of a run that has ended. A step back lowers
+ * the number. Once more than 4,294,967,295 lie between the start and the state, none lies behind any more, until a new start.
  *
  * What the caller owes: a trail belongs to one state, and both go together where they are copied or stored. A state that is
  * stepped without its trail leaves the trail behind, and nothing is promised of the two: a step back gives the state of one step
@@ -663,7 +672,7 @@ typedef struct fir_trail {
     int64_t numbers[FIR_TRAIL_NUMBERS]; /* the start */
     uint8_t bytes[FIR_TRAIL_BYTES];
     uint32_t steps;                     /* how many steps lie behind, where `past` is 0 */
-    uint8_t past;                       /* all else than 0: more than 4,294,967,295 were taken, and none lies behind */
+    uint8_t past;                       /* all else than 0: more than 4,294,967,295 lie between, and none behind */
 } fir_trail;
 
 /* Keeps a state as the start, with no step behind it. The state is mostly one that fir_begin has written; it may be any other, and
@@ -689,10 +698,10 @@ fir_entry fir_trail_change(const uint8_t *old_image, size_t old_length, const ui
  * VECTORS and PROMISES the step before the one that was stopped. With no step behind, 20 at 0: state and trail are as they were,
  * and an end stays. The trail knows where the state came from: what the state held makes no difference.
  *
- * It costs a copy of the start and a budget of n - 1 steps: 21 milliseconds for n = 1,000,000, on a busy machine. Where that is too slow, keep
- * checkpoints: below, each of them is a state with a trail of its own, which was started at the state of the one before, so that no
- * step back takes EACH steps or more while there are checkpoints left. Where its trail has no step behind, the run goes back in the
- * one before. After a change that is taken, the checkpoints of before belong to the old image and are given up.
+ * It costs a copy of the start and a budget of n - 1 steps: 21 milliseconds for n = 1,000,000, on a busy machine. Where that is
+ * too slow, keep checkpoints: below, each of them is a state with a trail of its own, which was started at the state of the one
+ * before, so that no step back takes EACH steps or more while there are checkpoints left. Where its trail has no step behind, the run
+ * goes back in the one before. After a change that is taken, the checkpoints of before belong to the old image and are given up.
  *
  * Example:
  *
@@ -734,6 +743,108 @@ fir_entry fir_trail_change(const uint8_t *old_image, size_t old_length, const ui
 fir_entry fir_trail_back(const uint8_t *image, size_t image_length, const uint8_t *table, size_t table_length, fir_state *state,
                          fir_trail *trail);
 
+/* ---- Eight runs, one store of vectors ---- */
+
+#define FIR_RUNS 8 /* the numbers of runs in a pool: 0 to 7 */
+
+/* A box with eight stairwells runs eight states, which share the places for 64 vectors. The pool says how many of them each number
+ * reserves, and how many its run has: vectors that count in its state while the run has not ended, else 0. The reserves are fixed when
+ * the pool is made, and a number without a live run keeps its whole reserve as unused.
+ *
+ * A run always gets vectors up to its reserve. Above it, it gets one exactly when those in use, its own among them, plus other runs'
+ * unused reserves are below 64; else the step stops with FIR_VECTORS, which does not count. So the run i may have the larger of
+ * reserves[i] and 64 less the sum, over all other numbers j, of the larger of reserves[j] and has[j]; that is the same all through a
+ * budget, since no other run moves meanwhile. Asked are VEC and DUP alone, whose operands are there, and the arguments of a start.
+ * All eight together never have more than 64.
+ *
+ * A run under a number with the reserve 64 is the run without a pool: answers, steps, buffers and states. In company only when
+ * FIR_VECTORS comes may differ: up to there a run gives the answers that it gives without a pool.
+ *
+ * What the caller owes: one pool, eight states and their images belong together. Each number goes on with the state, and under the
+ * image, that the last start, step, budget or change under it gave, and nobody else writes the pool. A state that is stepped without
+ * its pool leaves the pool behind, and nothing is promised then of how many vectors there are together. Every content of a pool has
+ * an answer all the same.
+ *
+ * A pool may be stored with its states: its 16 bytes are the reserves, by number, and behind them what each run has. */
+typedef struct fir_pool {
+    uint8_t reserves[FIR_RUNS]; /* of 64 vectors, by number; together at most 64 */
+    uint8_t has[FIR_RUNS];      /* how many the run of each number has */
+} fir_pool;
+
+/* What a single step in a pool says: FIR_STEPS to FIR_REFUSED. */
+typedef struct fir_turn {
+    int64_t value;
+    uint16_t offset;
+    uint8_t code;
+    uint8_t length;
+    uint8_t question;
+} fir_turn;
+
+/* Makes a pool with these reserves, in which no number has a run; or 21, where they sum above 64, and the pool is as it was.
+ *
+ * 21 is asked by each function of the pool, before all else and at 0: the reserves of the lent pool sum above FIR_PLACES, or the
+ * number is above 7. Then nothing is written: pool, state and buffer are as they were. */
+fir_entry fir_pool_make(const uint8_t reserves[FIR_RUNS], fir_pool *pool);
+
+/* Begins a run under a number, as fir_begin does: 21, then 11, 19, 12 and 13. Where it is refused, state and pool are as they were, and
+ * the run that had the number goes on. Else that run has ended, and its vectors count for nobody.
+ *
+ * A start whose arguments need more vectors than it may have is answered FIR_ACCEPTED too: its state has no live call and has ended,
+ * and each step and each budget, of 0 steps too, answers FIR_VECTORS with 0 steps. */
+fir_entry fir_pool_begin(const uint8_t *image, size_t image_length, const uint8_t *table, size_t table_length, size_t level,
+                         size_t function, size_t version, const int64_t *words, size_t words_length, const int64_t *buffer,
+                         size_t buffer_length, fir_state *state, fir_pool *pool, size_t number);
+
+/* Takes a single step of the run of a number, as fir_step does, and writes down what the run has, whatever the step says: where the
+ * pool and its states belong together, a stuck step and one of an ended run leave the pool as it was. Refused by 21, it writes
+ * nothing. */
+fir_turn fir_pool_step(const uint8_t *image, size_t image_length, const uint8_t *table, size_t table_length, fir_state *state,
+                       fir_pool *pool, size_t number);
+
+/* Takes at most `budget` steps of the run of a number, as fir_budget does, and writes down what the run has, with a budget of 0 too.
+ * Refused by 21 or 13, it writes nothing.
+ *
+ * Example:
+ *
+ *     static uint8_t may_have(const fir_pool *pool, size_t number)
+ *     {
+ *         unsigned others = 0;
+ *         size_t j;
+ *         for (j = 0; j < FIR_RUNS; j++)
+ *             if (j != number)
+ *                 others += pool->reserves[j] > pool->has[j] ? pool->reserves[j] : pool->has[j];
+ *         others = others < FIR_PLACES ? FIR_PLACES - others : 0;
+ *         return (uint8_t)(others > pool->reserves[number] ? others : pool->reserves[number]);
+ *     }
+ *
+ *     static size_t one_round(const uint8_t *image, size_t image_length, fir_state states[FIR_RUNS], fir_pool *pool, uint32_t slice)
+ *     {
+ *         static int64_t items[FIR_RUNS][FIR_ITEMS];
+ *         size_t number, going = 0;
+ *         for (number = 0; number < FIR_RUNS; number++) {
+ *             fir_answer answer = fir_pool_budget(image, image_length, table, sizeof table, &states[number], pool, number, slice,
+ *                                                 items[number], FIR_ITEMS);
+ *             going += answer.code == FIR_STEPS;
+ *         }
+ *         return going;
+ *     }
+ */
+fir_answer fir_pool_budget(const uint8_t *image, size_t image_length, const uint8_t *table, size_t table_length, fir_state *state,
+                           fir_pool *pool, size_t number, uint32_t budget, int64_t *buffer, size_t buffer_length);
+
+/* Begins a run under a number and takes at most `budget` steps: fir_pool_begin, and where that is not refused fir_pool_budget. */
+fir_answer fir_pool_run(const uint8_t *image, size_t image_length, const uint8_t *table, size_t table_length, size_t level,
+                        size_t function, size_t version, const int64_t *words, size_t words_length, uint32_t budget,
+                        int64_t *buffer, size_t buffer_length, fir_state *state, fir_pool *pool, size_t number);
+
+/* Whether the run of a number may go on under a new image: 21, then as fir_change. Nothing is written: the state is carried over
+ * whole, and so what the run has stays. */
+fir_entry fir_pool_change(const uint8_t *old_image, size_t old_length, const uint8_t *new_image, size_t new_length,
+                          const fir_state *state, const fir_pool *pool, size_t number);
+
+/* A step back of the run of a number: 21, else 20, at 0. A state in a pool has no start kept, and no step lies behind it. */
+fir_entry fir_pool_back(const fir_pool *pool, size_t number);
+
 /* ---- Looking at a state ---- */
 
 #define FIR_NOTHING 0 /* an empty register or an unset name */
@@ -774,7 +885,7 @@ typedef struct fir_watched {
 /* Fills a list with the registers of the topmost call, a record for each that its version declares, in order, from 0 on: 16 at
  * most. The topmost call is the newest, also while a block of an older one is forced. Records past the last register stay as they
  * were, and the state is not written. With no live call none is filled, and the whole list stays, an empty one too. After UNDEF,
- * DEEP, VECTORS and PROMISES the newest call is shown as the run left it. Where the list is too short, 22: then all of it stays.
+ * DEEP, VECTORS and PROMISES the newest call is shown as the run left it. Where the list is too short, 22 at 0: then all of it stays.
  *
  * In a run that was begun and is lent its image, each record shows a value of the declared type, or nothing. It may be called
  * between any two budgets, from another thread too while nobody writes the state.

@@ -1,6 +1,6 @@
 #!/usr/bin/env bash
 # Counts the machine instructions of a step: tests/differential/instructions.sh [WORKLOAD..]. Each workload is run under callgrind
-# by the proved engine and by the tuned interpreter, up to two numbers of steps each; what differs is divided by the steps between
+# by the proved engine, by the same in a pool and by the tuned interpreter, up to two numbers of steps each; what differs is divided by the steps between
 # them, so that loading and beginning are left out. Without names all workloads are run. Needs the proved library and valgrind.
 set -euo pipefail
 cd "$(dirname "$0")/../.."
@@ -28,7 +28,11 @@ if [ $# -eq 0 ]; then mapfile -t names < <("$program"); else names=("$@"); fi
 echo "machine instructions of a step"
 for name in "${names[@]}"; do
     proved=$(of_a_step "$name" proved)
+    pooled=$(of_a_step "$name" pooled)
     tuned=$(of_a_step "$name" tuned)
-    echo "$name $proved $tuned" |
-        awk '{ p = $(NF - 1); t = $NF; NF -= 2; printf "%-16s proved %7.1f   tuned %6.1f   proved/tuned %5.2f\n", $0, p / 10, t / 10, p / t }'
+    echo "$name $proved $pooled $tuned" |
+        awk '{
+            p = $(NF - 2); o = $(NF - 1); t = $NF; NF -= 3
+            printf "%-16s proved %7.1f   in a pool %7.1f   tuned %6.1f   proved/tuned %5.2f\n", $0, p / 10, o / 10, t / 10, p / t
+        }'
 done

@@ -88,6 +88,37 @@ static void budget_of(uint32_t steps)
     seen += fir_budget(LENT(*tried), &state, steps, buffer, FIR_ITEMS).steps;
 }
 
+/* In a pool of which nothing is reserved, and where the run may have all. */
+static fir_pool pool;
+static const uint8_t reserves[FIR_RUNS] = {0};
+static void pool_make(void) { seen += fir_pool_make(reserves, &pool).question; }
+
+static void pool_begin(void)
+{
+    seen += fir_pool_begin(LENT(*tried), FIR_FACTORY, 0, 0, words, 2, buffer, FIR_ITEMS, &state, &pool, 0).question;
+}
+
+static void pool_step(void)
+{
+    bring_back();
+    seen += fir_pool_step(LENT(*tried), &state, &pool, 0).code;
+}
+
+static void pool_budget_of(uint32_t steps)
+{
+    bring_back();
+    seen += fir_pool_budget(LENT(*tried), &state, &pool, 0, steps, buffer, FIR_ITEMS).steps;
+}
+
+static void pool_budget_1(void) { pool_budget_of(1); }
+static void pool_budget_100(void) { pool_budget_of(100); }
+static void pool_back(void) { seen += fir_pool_back(&pool, 0).question; }
+
+static void pool_change(void)
+{
+    seen += fir_pool_change(tried->bytes, tried->length, tried->bytes, tried->length, midway, &pool, 0).question;
+}
+
 /* The trail brought back too. */
 static void bring_both_back(void)
 {
@@ -277,6 +308,10 @@ static const struct {
              {"fir_trail_change", trail_change, nothing}, {"fir_trail_back, 20", back_from_0, bring_both_back},
              {"fir_trail_back, 1", back_from_1, bring_both_back},
              {"fir_trail_back, 101", back_from_101, bring_both_back},
+             {"fir_pool_make", pool_make, nothing}, {"fir_pool_begin", pool_begin, nothing},
+             {"fir_pool_step", pool_step, bring_back}, {"fir_pool_budget, 1", pool_budget_1, bring_back},
+             {"fir_pool_budget, 100", pool_budget_100, bring_back}, {"fir_pool_change", pool_change, nothing},
+             {"fir_pool_back", pool_back, nothing},
              {"fir_where", where, nothing}, {"fir_watch", watch, nothing}, {"fir_search", search, nothing},
              {"fir_search, 4 in vain", search_all, nothing}, {"fir_look", look, nothing},
              {"fir_table_size", table_size, nothing}, {"fir_question_text", question_text, nothing},

@@ -209,6 +209,32 @@ static void watching(void)
     printed(file, "r0 7\n-r0 7\n-r0 7\n-");
 }
 
+/* Eight runs that hoard vectors, in a pool that keeps 8 for each: all come to VECTORS in their second round. */
+static void one_by_one(void)
+{
+    static const uint8_t reserves[FIR_RUNS] = {8, 8, 8, 8, 8, 8, 8, 8};
+    static fir_state states[FIR_RUNS];
+    fir_pool pool;
+    size_t number, rounds = 0;
+    hoarding_vectors(&tried);
+    same("whether the image is loaded", (size_t)load_image(stdout, tried.bytes, tried.length), 1);
+    same("a pool's question", fir_pool_make(reserves, &pool).question, FIR_ACCEPTED);
+    for (number = 0; number < FIR_RUNS; number++) {
+        fir_pool_begin(TABLED(tried), FIR_PORTAL, 0, 0, words, 2, items, FIR_ITEMS, &states[number], &pool, number);
+        same("what a run may have", may_have(&pool, number), 8);
+    }
+    while (one_round(tried.bytes, tried.length, states, &pool, 5) > 0)
+        rounds++;
+    same("the rounds that some run goes on after", rounds, 1);
+    for (number = 0; number < FIR_RUNS; number++) {
+        same("how a run ends", states[number].status, FIR_VECTORS);
+        same("what it has then", pool.has[number], 0);
+    }
+    pool.has[1] = 20;
+    same("what a run may have beside 20 of another", may_have(&pool, 0), 8);
+    same("what that other may have", may_have(&pool, 1), 8);
+}
+
 static void positions(void)
 {
     FILE *file = opened();
@@ -282,6 +308,7 @@ int main(void)
     changing();
     without_words();
     checkpoints();
+    one_by_one();
     watching();
     positions();
     joining();

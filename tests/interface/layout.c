@@ -76,6 +76,10 @@ int main(void)
     AT(fir_trail, bytes, offsetof(fir_state, tags));
     AT(fir_trail, steps, sizeof(fir_state));
     AT(fir_trail, past, sizeof(fir_state) + 4);
+    same("sizeof fir_pool", sizeof(fir_pool), 16);
+    same("alignment of fir_pool", ALIGNMENT(fir_pool), 1);
+    AT(fir_pool, reserves, 0);
+    AT(fir_pool, has, FIR_RUNS);
     same("FIR_TABLE_BYTES", FIR_TABLE_BYTES(FIR_IMAGE_BYTES), 45992);
     same("sizeof fir_loaded", sizeof(fir_loaded), 2 * size);
     AT(fir_loaded, detail, 0);
@@ -98,6 +102,12 @@ int main(void)
     same("sizeof fir_said", sizeof(fir_said), 16);
     AT(fir_said, code, 8);
     AT(fir_said, length, 9);
+    same("sizeof fir_turn", sizeof(fir_turn), 16);
+    AT(fir_turn, value, 0);
+    AT(fir_turn, offset, 8);
+    AT(fir_turn, code, 10);
+    AT(fir_turn, length, 11);
+    AT(fir_turn, question, 12);
     same("sizeof fir_answer", sizeof(fir_answer), 24);
     AT(fir_answer, value, 8);
     AT(fir_answer, offset, 16);

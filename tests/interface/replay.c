@@ -1,5 +1,5 @@
 /* Plays recorded cases, as the program `recorded` of tests/generator writes them, from standard input, and prints a sum over all that
- * the library answers and leaves: numbers, verdicts and texts, moves, joined images, bounds, mends, tables, states, trails, buffers,
+ * the library answers and leaves: numbers, verdicts and texts, moves, joined images, bounds, mends, tables, states, trails, pools, buffers,
  * positions and searches. On two machines the same cases print the same. */
 #include <stdio.h>
 #include <stdlib.h>
@@ -27,7 +27,7 @@ typedef struct run {
     fir_state state;
 } run;
 
-static image images[3];
+static image images[4];
 static uint8_t out[FIR_IMAGE_BYTES];
 static uint8_t text[FIR_REPORT_BYTES];
 static uint8_t row_numbers[2 * FIR_ROWS];
@@ -37,6 +37,9 @@ static int64_t buffer[PLACES];
 static run plain;      /* by fir_step, fir_budget and fir_change */
 static run trailed;    /* by the functions that are lent a trail, and back */
 static fir_trail trail;
+static run pooled;     /* by the functions that are lent a pool, under a number, beside one that has some vectors */
+static fir_pool pool;
+static size_t lodging;
 static uint64_t sum = 14695981039346656037u; /* FNV-1a */
 static unsigned long steps;
 
@@ -233,16 +236,40 @@ static void add_entry(fir_entry entry)
     add(entry.question * 65536u + entry.offset);
 }
 
-/* An image that neither run is under. */
+static void add_turn(fir_turn turn)
+{
+    add((uint64_t)turn.value);
+    add(turn.offset);
+    add(turn.code * 65536u + turn.length * 256u + turn.question);
+}
+
+/* What each number reserves and has. */
+static void look_in_pool(void)
+{
+    add_bytes(pool.reserves, sizeof pool.reserves);
+    add_bytes(pool.has, sizeof pool.has);
+    add_entry(fir_pool_back(&pool, lodging));
+}
+
+/* A pool that keeps two for each number, and another number that has some. */
+static void make_pool(uint64_t seed)
+{
+    static const uint8_t reserves[FIR_RUNS] = {2, 2, 2, 2, 2, 2, 2, 2};
+    lodging = (size_t)(seed % FIR_RUNS);
+    add_entry(fir_pool_make(reserves, &pool));
+    pool.has[(lodging + 1) % FIR_RUNS] = (uint8_t)(seed % FIR_PLACES);
+}
+
+/* An image that no run is under. */
 static image *unused(void)
 {
     image *image = images;
-    while (image == plain.in_force || image == trailed.in_force)
+    while (image == plain.in_force || image == trailed.in_force || image == pooled.in_force)
         image++;
     return image;
 }
 
-/* A change of the image in both runs, each for itself. */
+/* A change of the image in all runs, each for itself. */
 static void change(void)
 {
     image *new_image = unused();
@@ -258,9 +285,14 @@ static void change(void)
     add_entry(entry);
     if (entry.question == FIR_ACCEPTED)
         trailed.in_force = new_image;
+    entry = fir_pool_change(pooled.in_force->bytes, pooled.in_force->length, new_image->bytes, new_image->length, &pooled.state,
+                            &pool, lodging);
+    add_entry(entry);
+    if (entry.question == FIR_ACCEPTED)
+        pooled.in_force = new_image;
 }
 
-/* One thing done with both runs; a step back with one of them alone. */
+/* One thing done with all runs; a step back with one of them alone. */
 static void act(void)
 {
     uint32_t budget;
@@ -269,12 +301,14 @@ static void act(void)
     case 0:
         add_said(fir_step(LENT(*plain.in_force), &plain.state));
         add_said(fir_trail_step(LENT(*trailed.in_force), &trailed.state, &trail));
+        add_turn(fir_pool_step(LENT(*pooled.in_force), &pooled.state, &pool, lodging));
         break;
     case 1:
         budget = (uint32_t)number();
         places = (size_t)number();
         add_answer(fir_budget(LENT(*plain.in_force), &plain.state, budget, buffer, places));
         add_answer(fir_trail_budget(LENT(*trailed.in_force), &trailed.state, &trail, budget, buffer, places));
+        add_answer(fir_pool_budget(LENT(*pooled.in_force), &pooled.state, &pool, lodging, budget, buffer, places));
         break;
     case 2:
         change();
@@ -285,6 +319,8 @@ static void act(void)
     look(&plain);
     look(&trailed);
     look_behind();
+    look(&pooled);
+    look_in_pool();
 }
 
 static void play(uint64_t length)
@@ -305,8 +341,10 @@ static void play(uint64_t length)
     bound(in_force);
     mend(in_force);
     load(in_force);
-    plain.in_force = trailed.in_force = in_force;
+    plain.in_force = trailed.in_force = pooled.in_force = in_force;
     memset(&plain.state, 0, sizeof plain.state);
+    memset(&pooled.state, 0, sizeof pooled.state);
+    make_pool(length);
     memset(buffer, 0, sizeof buffer);
     add_entry(fir_begin(LENT(*in_force), (size_t)level, (size_t)function, (size_t)version, words, (size_t)count,
                         buffer, FIR_ITEMS, &plain.state));
@@ -314,11 +352,18 @@ static void play(uint64_t length)
     trailed.state = plain.state;
     fir_trail_start(&trailed.state, &trail);
     look_behind();
+    add_entry(fir_pool_begin(LENT(*in_force), (size_t)level, (size_t)function, (size_t)version, words, (size_t)count,
+                             buffer, FIR_ITEMS, &pooled.state, &pool, lodging));
+    look(&pooled);
     for (i = number(); i > 0; i--)
         act();
     add_answer(fir_run(LENT(*plain.in_force), (size_t)level, (size_t)function, (size_t)version, words, (size_t)count,
                        500, buffer, PLACES, &plain.state));
     look(&plain);
+    add_answer(fir_pool_run(LENT(*pooled.in_force), (size_t)level, (size_t)function, (size_t)version, words, (size_t)count,
+                            500, buffer, PLACES, &pooled.state, &pool, lodging));
+    look(&pooled);
+    look_in_pool();
 }
 
 static void show(unsigned long cases)

@@ -1,9 +1,9 @@
 #!/usr/bin/env bash
 # Tries the C interface: its header as C99 and as C++ and the examples in it, the symbols of the archive, the layout of what
-# crosses it, the bytes of states, the stack that each function takes, what a search, a position and a watch answer, steps back, texts, images
-# loaded, one moved there and back, two joined, mends, bounds, levels, calls from several threads, and the examples controller, update,
-# stored, standby, stepper and service, whose output stands beside them; and prints what each call costs. Needs a C and a C++ compiler with nm,
-# and valgrind. Its last line is `interface: N passed, 0 failed`; where something fails, it says what and its status is 1.
+# crosses it, the bytes of states, the stack that each function takes, what a search, a position and a watch answer, steps back, eight
+# runs in a pool, texts, images loaded, one moved there and back, two joined, mends, bounds, levels, calls from several threads, and the
+# examples controller, update, stored, standby, stepper, service and stairwells, whose output stands beside them; and prints what each
+# call costs. Needs a C and a C++ compiler with nm, and valgrind. Its last line is `interface: N passed, 0 failed`; where something fails, it says what and its status is 1.
 #
 # With the name of another machine, as tools/dist/target.sh gives it, the library for that machine is tried: by its compiler, under
 # qemu, and without C++ and valgrind.
@@ -65,7 +65,7 @@ ok "the archive needs $needs alone"
 ok "the archive has no variable"
 
 awk -f tests/interface/examples.awk include/fir.h >"$out/examples.inc"
-for host in layout bytes loads stack search where watch back texts moves join mend bounds levels threads costs examples; do
+for host in layout bytes loads stack search where watch back pool texts moves join mend bounds levels threads costs examples; do
     "$cc" -std=c99 -O2 "${strict[@]}" -I"$out" "tests/interface/$host.c" "$library" -lpthread -o "$out/$host" || fail "$host does not compile"
     "${run[@]}" "$out/$host" || fail "$host"
     ok "$host"
@@ -122,11 +122,18 @@ service() {
     with_status "$@" "$out/service" "$out/short.fir"
 }
 
+# The block of stairwells with its own image, and with one that is cut short.
+stairwells() {
+    with_status "$@" "$out/stairwells"
+    with_status "$@" "$out/stairwells" "$out/short.fir"
+}
+
 example controller
 example update
 example stored
 example standby
 example stepper
 example service
+example stairwells
 
 echo "interface: $passed passed, 0 failed"

@@ -31,6 +31,8 @@ static uint8_t row_numbers[2 * FIR_ROWS];
 static uint64_t row_steps[FIR_ROWS];
 
 static fir_row rows[FIR_REGISTERS];
+static fir_pool pool;
+static const uint8_t reserves[FIR_RUNS] = {8, 8, 8, 8, 8, 8, 8, 8};
 
 static void nothing(void) { }
 static void watch(void) { fir_watch(LENT(tried), &midway, rows, FIR_REGISTERS); }
@@ -64,6 +66,27 @@ static void trail_change(void)
     fir_trail_change(tried.bytes, tried.length, tried.bytes, tried.length, &midway, &midway_trail);
 }
 
+static void pool_make(void) { fir_pool_make(reserves, &pool); }
+
+static void pool_begin(void)
+{
+    fir_pool_begin(LENT(tried), FIR_FACTORY, 0, 0, words, 2, buffer, FIR_ITEMS, &state, &pool, 3);
+}
+
+static void pool_step(void) { fir_pool_step(LENT(tried), &state, &pool, 3); }
+static void pool_budget(void) { fir_pool_budget(LENT(tried), &state, &pool, 3, 100000, buffer, FIR_ITEMS); }
+
+static void pool_run(void)
+{
+    fir_pool_run(LENT(tried), FIR_FACTORY, 0, 0, words, 2, 100000, buffer, FIR_ITEMS, &state, &pool, 3);
+}
+
+static void pool_change(void)
+{
+    fir_pool_change(tried.bytes, tried.length, tried.bytes, tried.length, &midway, &pool, 3);
+}
+
+static void pool_back(void) { fir_pool_back(&pool, 3); }
 static void change(void) { fir_change(tried.bytes, tried.length, tried.bytes, tried.length, &midway); }
 static void check_in(void) { fir_check_in(stored.bytes, stored.length, FIR_FORM_32); }
 static void report_in(void) { fir_report_in(stored.bytes, stored.length, FIR_FORM_32, text, sizeof text); }
@@ -114,8 +137,8 @@ static void question_text(void) { fir_question_text(FIR_REFUSED_BOUNDS, text, si
 static void answer_text(void) { fir_answer_text(FIR_STUCK, text, sizeof text); }
 
 /* Images that are not loaded, refused by 3 and with a table that is too short, runs that are refused by 11, 19 where the entry is for the factory, 12 and 13, changes that are refused by 1 and by 15, moves that are by 3 and by 17,
- * images that are not joined, by the first, the second and 23, bounds that are refused by 3, an image that no mend is looked for, and a
- * step back, a budget and changes with a trail that are refused by 20, 13, 1 and 15. */
+ * images that are not joined, by the first, the second and 23, bounds that are refused by 3, an image that no mend is looked for, a
+ * step back, a budget and changes with a trail that are refused by 20, 13, 1 and 15, and in a pool by 21, 12 and 13. */
 static void refusals(void)
 {
     fir_load(stored.bytes, stored.length, stored.table, sizeof stored.table);
@@ -139,6 +162,9 @@ static void refusals(void)
     fir_trail_budget(LENT(tried), &midway, &midway_trail, 1000, buffer, FIR_ITEMS - 1);
     fir_trail_change(tried.bytes, tried.length, tried.bytes, 0, &midway, &midway_trail);
     fir_trail_change(tried.bytes, 0, tried.bytes, tried.length, &midway, &midway_trail);
+    fir_pool_begin(LENT(tried), FIR_FACTORY, 0, 0, words, 2, buffer, FIR_ITEMS, &state, &pool, FIR_RUNS);
+    fir_pool_begin(LENT(tried), FIR_FACTORY, 0, 0, words, 1, buffer, FIR_ITEMS, &state, &pool, 0);
+    fir_pool_budget(LENT(tried), &state, &pool, 0, 1000, buffer, FIR_ITEMS - 1);
 }
 
 static void *call(void *function)
@@ -176,6 +202,9 @@ int main(void)
                  {"fir_narrow", narrow}, {"fir_join", join}, {"fir_mend", mend}, {"fir_bounds", bounds}, {"fir_where", where},
                  {"fir_trail_start", trail_start}, {"fir_trail_step", trail_step}, {"fir_trail_budget", trail_budget},
                  {"fir_trail_back", trail_back}, {"fir_trail_change", trail_change},
+                 {"fir_pool_make", pool_make}, {"fir_pool_begin", pool_begin}, {"fir_pool_step", pool_step},
+                 {"fir_pool_budget", pool_budget}, {"fir_pool_run", pool_run}, {"fir_pool_change", pool_change},
+                 {"fir_pool_back", pool_back},
                  {"fir_question_text", question_text}, {"fir_answer_text", answer_text}, {"refusals", refusals}};
     size_t least;
     size_t deepest[sizeof calls / sizeof *calls] = {0};

@@ -6,7 +6,7 @@
 #include "images.h"
 
 enum {
-    QUESTIONS = 21, /* 0, accepted, to 20; and 22 and 23 */
+    QUESTIONS = 24, /* 0, accepted, to 23 */
     CODES = FIR_REFUSED + 1,
     NUMBERS = 256,
     MARGIN = 8,
@@ -71,11 +71,12 @@ static size_t report(size_t places)
 static void questions(void)
 {
     static const char *const buffer = "the result buffer has fewer than 16 places";
+    static const char *const pool = "the reserves of a pool sum to at most 64, and a run's number is at most 7";
     unsigned number;
     size_t length;
     for (number = 0; number < NUMBERS; number++) {
         length = question_text(number, FIR_QUESTION_TEXT_BYTES);
-        same("whether a number has words", length != 0, number < QUESTIONS || number == FIR_REFUSED_ROWS || number == FIR_REFUSED_JOIN);
+        same("whether a number has words", length != 0, number < QUESTIONS);
         if (length == 0)
             continue;
         same("the length with no place left", question_text(number, length), length);
@@ -83,6 +84,8 @@ static void questions(void)
     }
     same("the length of 13", question_text(FIR_REFUSED_BUFFER, FIR_QUESTION_TEXT_BYTES), strlen(buffer));
     same("the words of 13", memcmp(text + MARGIN, buffer, strlen(buffer)) != 0, 0);
+    same("the length of 21", question_text(FIR_REFUSED_POOL, FIR_QUESTION_TEXT_BYTES), strlen(pool));
+    same("the words of 21", memcmp(text + MARGIN, pool, strlen(pool)) != 0, 0);
 }
 
 static void answers(void)
@@ -93,7 +96,7 @@ static void answers(void)
         "DONE with a vector",
         "UNDEF: an operation has no result",
         "DEEP: a 33rd activation is needed",
-        "VECTORS: a 65th vector is needed",
+        "VECTORS: a 65th vector is needed, or one more than a pool gives",
         "PROMISES: a 65th promise is needed",
         "stuck: the state is none of a run of this image",
         "refused",

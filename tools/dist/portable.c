@@ -75,6 +75,17 @@ void fir_trail_budget_at(fir_answer *to, const slice *image, const slice *table,
                          const slice *buffer);
 void fir_trail_change_at(fir_entry *to, const slice *old_image, const slice *new_image, const fir_state *state, fir_trail *trail);
 void fir_trail_back_at(fir_entry *to, const slice *image, const slice *table, fir_state *state, fir_trail *trail);
+void fir_pool_make_at(fir_entry *to, const uint8_t *reserves, fir_pool *pool);
+void fir_pool_begin_at(fir_entry *to, const slice *image, const slice *table, uint64_t level, uint64_t function, uint64_t version,
+                       const slice *words, const slice *buffer, fir_state *state, fir_pool *pool, uint64_t number);
+void fir_pool_step_at(fir_turn *to, const slice *image, const slice *table, fir_state *state, fir_pool *pool, uint64_t number);
+void fir_pool_budget_at(fir_answer *to, const slice *image, const slice *table, fir_state *state, fir_pool *pool, uint64_t number,
+                        uint32_t budget, const slice *buffer);
+void fir_pool_run_at(fir_answer *to, const slice *image, const slice *table, uint64_t level, uint64_t function, uint64_t version,
+                     const slice *words, uint32_t budget, const slice *buffer, fir_state *state, fir_pool *pool, uint64_t number);
+void fir_pool_change_at(fir_entry *to, const slice *old_image, const slice *new_image, const fir_state *state, const fir_pool *pool,
+                        uint64_t number);
+void fir_pool_back_at(fir_entry *to, const fir_pool *pool, uint64_t number);
 void fir_look_at(fir_value *to, const fir_state *state, uint64_t call, uint64_t place);
 void fir_watch_at(fir_watched *to, const slice *image, const slice *table, const fir_state *state, const slice *rows);
 void fir_search_at(fir_searched *to, const slice *image, const slice *table, const fir_state *state);
@@ -328,6 +339,77 @@ fir_entry fir_trail_back(const uint8_t *image, size_t image_length, const uint8_
     const slice places = lent(table, table_length);
     fir_entry to;
     fir_trail_back_at(&to, &bytes, &places, state, trail);
+    return to;
+}
+
+fir_entry fir_pool_make(const uint8_t reserves[FIR_RUNS], fir_pool *pool)
+{
+    fir_entry to;
+    fir_pool_make_at(&to, reserves, pool);
+    return to;
+}
+
+fir_entry fir_pool_begin(const uint8_t *image, size_t image_length, const uint8_t *table, size_t table_length, size_t level,
+                         size_t function, size_t version, const int64_t *words, size_t words_length, const int64_t *buffer,
+                         size_t buffer_length, fir_state *state, fir_pool *pool, size_t number)
+{
+    const slice bytes = lent(image, image_length);
+    const slice places = lent(table, table_length);
+    const slice given = lent(words, words_length);
+    const slice there = lent(buffer, buffer_length);
+    fir_entry to;
+    fir_pool_begin_at(&to, &bytes, &places, level, function, version, &given, &there, state, pool, number);
+    return to;
+}
+
+fir_turn fir_pool_step(const uint8_t *image, size_t image_length, const uint8_t *table, size_t table_length, fir_state *state,
+                       fir_pool *pool, size_t number)
+{
+    const slice bytes = lent(image, image_length);
+    const slice places = lent(table, table_length);
+    fir_turn to;
+    fir_pool_step_at(&to, &bytes, &places, state, pool, number);
+    return to;
+}
+
+fir_answer fir_pool_budget(const uint8_t *image, size_t image_length, const uint8_t *table, size_t table_length, fir_state *state,
+                           fir_pool *pool, size_t number, uint32_t budget, int64_t *buffer, size_t buffer_length)
+{
+    const slice bytes = lent(image, image_length);
+    const slice places = lent(table, table_length);
+    const slice there = lent(buffer, buffer_length);
+    fir_answer to;
+    fir_pool_budget_at(&to, &bytes, &places, state, pool, number, budget, &there);
+    return to;
+}
+
+fir_answer fir_pool_run(const uint8_t *image, size_t image_length, const uint8_t *table, size_t table_length, size_t level,
+                        size_t function, size_t version, const int64_t *words, size_t words_length, uint32_t budget,
+                        int64_t *buffer, size_t buffer_length, fir_state *state, fir_pool *pool, size_t number)
+{
+    const slice bytes = lent(image, image_length);
+    const slice places = lent(table, table_length);
+    const slice given = lent(words, words_length);
+    const slice there = lent(buffer, buffer_length);
+    fir_answer to;
+    fir_pool_run_at(&to, &bytes, &places, level, function, version, &given, budget, &there, state, pool, number);
+    return to;
+}
+
+fir_entry fir_pool_change(const uint8_t *old_image, size_t old_length, const uint8_t *new_image, size_t new_length,
+                          const fir_state *state, const fir_pool *pool, size_t number)
+{
+    const slice before = lent(old_image, old_length);
+    const slice after = lent(new_image, new_length);
+    fir_entry to;
+    fir_pool_change_at(&to, &before, &after, state, pool, number);
+    return to;
+}
+
+fir_entry fir_pool_back(const fir_pool *pool, size_t number)
+{
+    fir_entry to;
+    fir_pool_back_at(&to, pool, number);
     return to;
 }
 

@@ -12,13 +12,16 @@
 //! | `machine/specs/Steps.antt`, `Values.antt`, `Calls.antt` | `steps`, `calls` |
 //! | `machine/specs/Runs.antt` | [`runs`] |
 //! | `machine/specs/Trails.antt` | [`trails`] |
+//! | `machine/specs/Allowed.antt`, `Pools.antt` | [`runs`], `allowed`, [`pools`] |
 //! | `machine/specs/Begin.antt` | `begin` |
 //! | `machine/specs/Searches.antt`, `whereabouts/specs/Where.antt` | [`views`] |
 
+mod allowed;
 mod begin;
 mod calls;
 mod cells;
 pub mod instruction;
+pub mod pools;
 pub mod program;
 pub mod runs;
 pub mod state;
@@ -28,6 +31,7 @@ pub mod trails;
 pub mod views;
 
 pub use instruction::Instruction;
+pub use pools::Pool;
 pub use program::{Block, Position, Program, Version};
 pub use runs::{Answer, Ran, Said};
 pub use state::{Activation, End, Frame, Halt, Opener, Promise, State, Status, Try, Value, Vector};

@@ -106,7 +106,7 @@ fn verdict_of(verdict: library::Verdict) -> Verdict {
 }
 
 /// A state that nothing was written to, under a program of no bytes.
-fn nothing_begun() -> Run<'static> {
+pub fn nothing_begun() -> Run<'static> {
     Run::resume_with_its_own_program(untouched(), Program::of_any_bytes([], []))
 }
 
@@ -268,7 +268,7 @@ pub fn run(
 }
 
 /// What a step says.
-fn said_of(said: library::Said) -> Said {
+pub fn said_of(said: library::Said) -> Said {
     match said {
         library::Said::GoesOn => Said::GoesOn,
         library::Said::Ended(how) => Said::Ended(end(how)),
@@ -277,7 +277,7 @@ fn said_of(said: library::Said) -> Said {
 }
 
 /// The answer to a budget.
-fn answer_of(answer: library::Answer) -> Answer {
+pub fn answer_of(answer: library::Answer) -> Answer {
     match answer {
         library::Answer::Steps => Answer::Steps,
         library::Answer::Ended(how) => Answer::Ended(end(how)),
@@ -299,7 +299,7 @@ fn end(end: library::End) -> End {
 }
 
 /// A refusal by a question at an offset.
-fn refusal(no: library::Refusal) -> Refusal {
+pub fn refusal(no: library::Refusal) -> Refusal {
     Refusal {
         number: no.question,
         offset: no.offset,

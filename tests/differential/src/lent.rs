@@ -6,7 +6,7 @@ use reference::Integer;
 const MARGIN: usize = 8;
 
 /// A buffer to lend, between margins, every place with a number of its own.
-#[derive(PartialEq, Eq, Debug)]
+#[derive(Clone, PartialEq, Eq, Debug)]
 pub struct Lent {
     places: usize,
     memory: Vec<Integer>,

@@ -10,6 +10,7 @@ pub mod engine;
 pub mod lent;
 pub mod paced;
 pub mod parallel;
+pub mod pooled;
 pub mod snapshot;
 #[cfg(feature = "stand_in")]
 mod stand_in;

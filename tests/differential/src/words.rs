@@ -2,7 +2,7 @@
 
 /// What a refusal by each question says, by its number; what 0 says of an image that
 /// none refuses.
-const QUESTIONS: [&str; 21] = [
+const QUESTIONS: [&str; 24] = [
     "accepted",
     "the image is empty or has more than 32768 bytes",
     "a record has no full head, a length below 4, or an end behind the image",
@@ -24,22 +24,14 @@ const QUESTIONS: [&str; 21] = [
     "a CALL goes to a version of a higher level",
     "the entry is above the level of the run",
     "no step lies behind",
+    "the reserves of a pool sum to at most 64, and a run's number is at most 7",
+    "the list of records is too short",
+    "the joined image would break a bound of the layout, or does not fit the buffer",
 ];
-
-/// What a refusal by 22 says, which follows on no number before it; nor does 23.
-const WORDS_OF_22: &str = "the list of records is too short";
-
-/// What a refusal by 23 says.
-const WORDS_OF_23: &str =
-    "the joined image would break a bound of the layout, or does not fit the buffer";
 
 /// What a refusal by a question says; nothing for a number that is no question's.
 pub fn question_words(question: u8) -> &'static str {
-    match question {
-        22 => WORDS_OF_22,
-        23 => WORDS_OF_23,
-        _ => QUESTIONS.get(usize::from(question)).copied().unwrap_or(""),
-    }
+    QUESTIONS.get(usize::from(question)).copied().unwrap_or("")
 }
 
 /// What an answer of each code says, by its number.
@@ -49,7 +41,7 @@ const ANSWERS: [&str; 9] = [
     "DONE with a vector",
     "UNDEF: an operation has no result",
     "DEEP: a 33rd activation is needed",
-    "VECTORS: a 65th vector is needed",
+    "VECTORS: a 65th vector is needed, or one more than a pool gives",
     "PROMISES: a 65th promise is needed",
     "stuck: the state is none of a run of this image",
     "refused",

@@ -1,5 +1,5 @@
-//! Deterministic images, argument words, event lists, with steps back too, and new images
-//! for runs that go on: a seed decides all of it.
+//! Deterministic images, argument words, event lists, with steps back too, new images for
+//! runs that go on, and what is asked of a pool: a seed decides all of it.
 //!
 //! Accepted images are accepted by construction: types, marks and flow are
 //! kept while a version grows. Damaged images are accepted ones with one rule
@@ -14,6 +14,7 @@ mod ends;
 mod fact;
 mod faults;
 mod grow;
+mod hoards;
 mod joins;
 mod mends;
 mod moves;
@@ -23,6 +24,7 @@ mod random;
 mod registers;
 mod run;
 mod special;
+mod stairwells;
 mod tally;
 mod theme;
 mod turns;
@@ -38,6 +40,7 @@ pub use moves::Move;
 pub use random::Random;
 pub use run::Event;
 pub use special::Special;
+pub use stairwells::{Ask, Asked, Stairwells};
 pub use tally::Tally;
 pub use theme::Theme;
 pub use turns::Turn;
@@ -242,6 +245,12 @@ pub fn events(seed: u64) -> Vec<Event> {
 /// end, several in a row, and forward again.
 pub fn turns(seed: u64) -> Vec<Turn> {
     turns::list(&mut Random::new(seed))
+}
+
+/// A block of stairwells: the reserves of a pool, and what is asked under eight numbers in
+/// turn: starts over live runs too, steps, budgets and changes, and each of them refused.
+pub fn stairwells(seed: u64) -> Stairwells {
+    stairwells::block(&mut Random::new(seed))
 }
 
 /// A list of single steps and budgets alone, some lent too short a buffer.

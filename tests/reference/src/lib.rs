@@ -20,6 +20,7 @@
 //! | Levels of staff | [`types`], [`questions`], [`begin`], [`search`], [`monitor`] |
 //! | How long at most | [`longest`] |
 //! | Step back | [`trail`] |
+//! | Eight scripts, one store | [`pool`] |
 //! | Watching a call | [`watch`] |
 
 pub mod begin;
@@ -36,6 +37,7 @@ pub mod mends;
 pub mod monitor;
 pub mod moves;
 pub mod outside;
+pub mod pool;
 pub mod position;
 pub mod program;
 pub mod questions;
@@ -58,6 +60,7 @@ pub use joins::{join, join_accepted, Unjoined};
 pub use longest::{bounds_of, Bound};
 pub use mends::{mend, Mended};
 pub use moves::{move_accepted, move_from, moved, widened};
+pub use pool::Pool;
 pub use position::Position;
 pub use program::Program;
 pub use questions::{questions_1_to_7, verdict, verdict_in, Refusal, Verdict};

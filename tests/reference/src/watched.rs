@@ -111,6 +111,19 @@ impl Watched {
         said
     }
 
+    /// Does the next step need a vector, its operands there?
+    pub fn needs_vector(&self) -> bool {
+        self.state.needs_vector(&self.program)
+    }
+
+    /// Stops the run before its next step, which a pool does not let it take: it does not
+    /// count, and changes nothing else.
+    pub fn stop(&mut self, end: End) {
+        assert!(!self.ended(), "{}: it goes on", self.origin);
+        self.tried += 1;
+        self.state.status = Status::Ended(end);
+    }
+
     /// Counts the instruction that the run stands at if it is a SKIP.
     fn count_skip(&mut self) {
         if let Some(&Instruction::Skip { a, .. }) = self.state.instruction(&self.program) {

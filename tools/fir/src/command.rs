@@ -48,6 +48,8 @@ pub enum Command {
     },
     /// `fir debug`
     Debug(Call),
+    /// `fir pool`
+    Pool(Pooling),
     /// `fir bounds`
     Bounds(Bounds),
     /// `fir lint`
@@ -133,6 +135,17 @@ pub struct Then {
     pub step: u32,
 }
 
+/// A plan of runs in a pool.
+#[derive(Clone, PartialEq, Eq, Debug)]
+pub struct Pooling {
+    /// The file of the plan.
+    pub plan: OsString,
+    /// Is the most that each had to be printed?
+    pub stats: bool,
+    /// Is JSON to be printed?
+    pub json: bool,
+}
+
 /// Images that are to be moved.
 #[derive(Clone, PartialEq, Eq, Debug)]
 pub struct Move {
@@ -216,6 +229,7 @@ fn parse_command(name: &str, words: Words) -> Result<Command, String> {
         "run" => parse_run(words),
         "trace" => parse_trace(words),
         "debug" => parse_debug(words).map(Command::Debug),
+        "pool" => parse_pool(words).map(Command::Pool),
         "bounds" => parse_bounds(words).map(Command::Bounds),
         "lint" => parse_lint(words).map(Command::Lint),
         "move" => parse_move(words).map(Command::Move),
@@ -347,8 +361,16 @@ fn ask_standard_input_once(files: &[OsString]) -> Result<(), String> {
     }
 }
 
+/// `fir pool`
+fn parse_pool(mut words: Words) -> Result<Pooling, String> {
+    let (stats, json) = (words.flag("--stats")?, words.flag("--json")?);
+    let plan = words.next().ok_or("no plan is named")?;
+    words.finish()?;
+    Ok(Pooling { plan, stats, json })
+}
+
 /// A run, with the budget that it has where the words name none.
-fn parse_call(mut words: Words, mut budget: u32) -> Result<Call, String> {
+pub fn parse_call(mut words: Words, mut budget: u32) -> Result<Call, String> {
     if let Some(text) = words.option("--budget")? {
         budget = parse_steps(&text, "budget")?;
     }
@@ -476,7 +498,11 @@ fn parse_form(words: &mut Words, option: &str) -> Result<Form, String> {
 
 /// A number of steps; `what` it is called in a message.
 fn parse_steps(text: &OsStr, what: &str) -> Result<u32, String> {
-    let text = plain(text)?;
+    plain_steps(&plain(text)?, what)
+}
+
+/// The same of a word in UTF-8.
+pub fn plain_steps(text: &str, what: &str) -> Result<u32, String> {
     let wrong = || format!("`{text}` is no {what} of 0 to {}", u32::MAX);
     text.parse().map_err(|_| wrong())
 }

@@ -10,6 +10,7 @@ use crate::joining;
 use crate::lint;
 use crate::mending;
 use crate::moving;
+use crate::pool;
 use crate::running::{self, Manner, Showing};
 use crate::source::{self, Source};
 use crate::streams::Streams;
@@ -39,6 +40,7 @@ pub fn execute(command: &Command, streams: &mut Streams) -> Result<Status, Failu
             let manner = html.as_deref().map_or(Manner::Steps, Manner::Page);
             running::run(call, showing(manner, *stats, *json), streams)
         }
+        Command::Pool(asked) => pool::all(asked, streams),
         Command::Bounds(asked) => bounds::all(asked, streams),
         Command::Debug(call) => debug::debug(call, streams),
         Command::Lint(asked) => lint::all(asked, streams),

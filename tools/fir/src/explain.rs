@@ -171,6 +171,6 @@ mod tests {
         }
         let mut numbers: Vec<u8> = headings.iter().map(|&(number, _)| number).collect();
         numbers.sort_unstable();
-        assert!(numbers.into_iter().eq((1..=20).chain([22, 23])));
+        assert!(numbers.into_iter().eq(1..=23));
     }
 }

@@ -1,7 +1,7 @@
 //! The commands with their options, and the help texts.
 
 use crate::manual::{
-    ASM, BOUNDS, CHECK, COMPLETION, DEBUG, DIS, EXPLAIN, JOIN, LINT, MEND, MOVE, RUN, TRACE,
+    ASM, BOUNDS, CHECK, COMPLETION, DEBUG, DIS, EXPLAIN, JOIN, LINT, MEND, MOVE, POOL, RUN, TRACE,
 };
 use crate::options::{Opt, Takes};
 
@@ -87,7 +87,8 @@ exit status:
 const RUN_STATUS: &str = "0 DONE, 1 refused, 2 bad usage, 3 UNDEF, 4 a stop (DEEP,
 VECTORS, PROMISES), 5 the budget is used up";
 
-const LEVEL: Opt = Opt {
+/// The level of a run.
+pub const LEVEL: Opt = Opt {
     name: "--level",
     takes: Takes::One(&["portal", "staff", "factory", "0", "1", "2"]),
     words: "the level that the run states; factory if none is named",
@@ -136,7 +137,7 @@ const FORMS: Takes = Takes::One(&["32", "64"]);
 const SHELLS: &str = "bash|zsh|fish";
 
 /// The commands.
-pub const COMMANDS: [Topic; 13] = [
+pub const COMMANDS: [Topic; 14] = [
     Topic {
         name: "check",
         given: "FILE..",
@@ -205,6 +206,21 @@ pub const COMMANDS: [Topic; 13] = [
         options: &[LEVEL, BUDGET],
         words: DEBUG,
         status: "0 the debugger was left, 1 refused, 2 bad usage",
+    },
+    Topic {
+        name: "pool",
+        given: "PLAN",
+        summary: "runs up to eight runs that share 64 vectors, in turn",
+        options: &[
+            Opt {
+                name: "--stats",
+                takes: Takes::Nothing,
+                words: "says the most vectors that each had",
+            },
+            JSON,
+        ],
+        words: POOL,
+        status: "that of the worst run: 0 DONE, 1 refused, 2 bad usage, 3 UNDEF,\n4 a stop (DEEP, VECTORS, PROMISES), 5 rounds are used up",
     },
     Topic {
         name: "bounds",

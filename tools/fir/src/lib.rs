@@ -1,5 +1,6 @@
 //! The command-line tool `fir`: it checks, mends, runs, traces, moves, joins, assembles
-//! and disassembles FIR images, and says how many steps their runs can take.
+//! and disassembles FIR images, lets eight of their runs share their vectors, and says how
+//! many steps runs can take.
 //!
 //! Verdicts, mends, bounds, runs, single steps, moved and joined images are those of the proved library. What
 //! the tool adds are words: why an image or a run is refused, and what a step did; and
@@ -25,6 +26,7 @@ mod number;
 mod options;
 mod page;
 mod place;
+mod pool;
 mod refusal;
 mod running;
 mod several;

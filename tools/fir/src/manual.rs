@@ -86,7 +86,7 @@ It prints how the run ended and after how many steps:
   UNDEF         a result is out of range, an index outside, a name unset, ..
   STEPS         the budget is used up
   DEEP          a 33rd activation is needed
-  VECTORS       a 65th vector is needed
+  VECTORS       a 65th vector is needed, or one more than a pool gives
   PROMISES      a 65th promise is needed
 and, but for DONE, where the run stands; on a text that line begins with
 FILE:LINE:COLUMN. A run that is refused gets a line that says why.
@@ -156,6 +156,33 @@ needs nothing besides itself; its keys are listed on it.
 
 A file, FILE or IMAGE, is a text or an image's bytes by what it holds, and always a
 text where its name ends in .fir; `-` is standard input.
+";
+
+/// `fir pool`
+pub const POOL: &str = "\
+Runs up to eight runs that share the places for 64 vectors, each under its number, 0 to
+7, as a block of eight stairwells does. PLAN is a text, a line for each thing; what
+follows on `#` is passed over:
+
+  reserve NUMBER COUNT   vectors that are kept for a number; 0 where no line says it
+  slice STEPS            the steps of a turn, 100 where no line says it
+  rounds N               the most rounds, 10,000 where no line says it
+  run NUMBER FILE F.V [ARGUMENT..] [--level LEVEL] [after ROUND]
+                         starts a run, before the first round or behind a later one;
+                         the run that had the number ends
+  change NUMBER FILE [after ROUND]
+                         the run goes on under the image of FILE, unless it is refused
+
+In each round every run that goes on takes at most a slice of steps, in the order of
+the numbers. A table behind it says how many vectors each reserves, has and may have. A
+run always gets vectors up to its reserve; above it, while those in use and the unused
+reserves of the others are below 64 together; else it stops with VECTORS. A start whose
+arguments need more than it may have stops so at once. Reserves above 64 in all and
+numbers above 7 are refused by 21. A refused start or change leaves the run that the
+number had.
+
+An ARGUMENT is an integer or a vector such as [1,2,3], without spaces. FILE is a text or
+an image as for `fir run`, and stands in the folder of PLAN.
 ";
 
 /// `fir debug`

@@ -194,13 +194,9 @@ impl Ending<'_> {
             ("result", Json::from(name_of(self.answer))),
             ("steps", self.steps.into()),
         ];
-        match self.answer {
-            Answer::Ended(End::Integer(integer)) => fields.push(("value", integer.into())),
-            Answer::Ended(End::Vector(length)) => {
-                let items = self.buffer[..length].iter().copied();
-                fields.push(("value", items.collect()));
-            }
-            _ => fields.extend(self.standing.iter().flat_map(Standing::json)),
+        match value_of(self.answer, self.buffer) {
+            Some(value) => fields.push(("value", value)),
+            None => fields.extend(self.standing.iter().flat_map(Standing::json)),
         }
         if !self.left.is_empty() {
             let left = self.left.iter().map(String::as_str);
@@ -223,7 +219,7 @@ pub fn status(answer: Answer) -> Status {
 }
 
 /// An answer's name.
-fn name_of(answer: Answer) -> &'static str {
+pub fn name_of(answer: Answer) -> &'static str {
     match answer {
         Answer::Ended(End::Integer(_) | End::Vector(_)) => "DONE",
         Answer::Ended(End::Undef) => "UNDEF",
@@ -233,6 +229,15 @@ fn name_of(answer: Answer) -> &'static str {
         Answer::Steps => "STEPS",
         Answer::Stuck => "STUCK",
         Answer::Refused(_) => "refused",
+    }
+}
+
+/// What the run of an answer is DONE with, if it is.
+pub fn value_of(answer: Answer, buffer: &[i64]) -> Option<Json> {
+    match answer {
+        Answer::Ended(End::Integer(integer)) => Some(integer.into()),
+        Answer::Ended(End::Vector(length)) => Some(buffer[..length].iter().copied().collect()),
+        _ => None,
     }
 }
 

@@ -18,7 +18,7 @@ fn house() -> String {
 }
 
 /// The scripts.
-const SCRIPTS: [&str; 11] = [
+const SCRIPTS: [&str; 12] = [
     "defrost.fir",
     "energy.fir",
     "heating.fir",
@@ -29,6 +29,7 @@ const SCRIPTS: [&str; 11] = [
     "riser.fir",
     "setback.fir",
     "spread.fir",
+    "stairwell.fir",
     "water.fir",
 ];
 
@@ -102,6 +103,16 @@ fn each_script_is_accepted_and_does_what_its_comments_show() {
             assert_printed(command, script);
         }
     }
+}
+
+#[test]
+fn the_plan_of_a_pool_does_what_its_comment_shows() {
+    let plan = "stairwells.plan";
+    let text = fs::read_to_string(format!("{EXAMPLES}{plan}")).expect("the plan is there");
+    let commands = shown(&text, "#   ");
+    assert_eq!(commands.len(), 1);
+    assert_printed(&commands[0], plan);
+    assert!(commands[0].output.contains("VECTORS after 58 steps"));
 }
 
 #[test]

@@ -7,14 +7,14 @@ use crate::constants::{
     FIR_STEPS, FIR_STUCK, FIR_UNDEF, FIR_VECTOR, FIR_VECTORS, FIR_VERSIONS,
 };
 use crate::raw::{
-    FirAnswer, FirEntry, FirJoined, FirLoaded, FirPosition, FirSaid, FirSearched, FirValue,
-    FirVerdict,
+    FirAnswer, FirEntry, FirJoined, FirLoaded, FirPosition, FirSaid, FirSearched, FirTurn,
+    FirValue, FirVerdict,
 };
 
 /// A no: the question, and the offset of the first record that fails.
 #[derive(Clone, Copy, PartialEq, Eq, Debug)]
 pub struct Refusal {
-    /// The question, 1 to 20, 22 or 23.
+    /// The question, 1 to 23.
     pub question: u8,
     /// The offset of the record; the image's length where records or, by 15, a
     /// version are missing.
@@ -70,7 +70,7 @@ pub enum End {
     Undef,
     /// A 33rd activation was needed.
     Deep,
-    /// A 65th vector was needed.
+    /// A 65th vector was needed, or one more than the pool gave.
     Vectors,
     /// A 65th promise was needed.
     Promises,
@@ -248,6 +248,27 @@ impl From<FirSaid> for Said {
             FIR_STUCK => Said::Stuck,
             code => Said::Ended(end(code, said.length, said.value)),
         }
+    }
+}
+
+impl From<FirTurn> for Result<Said, Refusal> {
+    fn from(turn: FirTurn) -> Result<Said, Refusal> {
+        let FirTurn {
+            value,
+            offset,
+            code,
+            length,
+            question,
+        } = turn;
+        if code == FIR_REFUSED {
+            let offset = offset.into();
+            return Err(Refusal { question, offset });
+        }
+        Ok(Said::from(FirSaid {
+            value,
+            code,
+            length,
+        }))
     }
 }
 

@@ -29,6 +29,9 @@ pub const FIR_TRAIL_NUMBERS: usize = 2_129;
 /// The bytes of a state behind its integers, as a trail keeps them.
 pub const FIR_TRAIL_BYTES: usize = 2_632;
 
+/// The numbers of runs in a pool: 0 to 7.
+pub const FIR_RUNS: usize = 8;
+
 /// No question says no.
 pub const FIR_ACCEPTED: u8 = 0;
 /// The image has 1 to 32,768 bytes.
@@ -71,6 +74,8 @@ pub const FIR_REFUSED_LITERAL: u8 = 16;
 pub const FIR_REFUSED_ROOM: u8 = 17;
 /// A step lies behind the state.
 pub const FIR_REFUSED_BACK: u8 = 20;
+/// The reserves of the pool sum to at most 64, and the number is 0 to 7.
+pub const FIR_REFUSED_POOL: u8 = 21;
 /// The list has a record for each register of the topmost call.
 pub const FIR_REFUSED_ROWS: u8 = 22;
 /// The joined image has at most 32,768 bytes, 32 functions and 64 versions and fits the
@@ -126,7 +131,7 @@ pub const FIR_VECTOR: u8 = 2;
 pub const FIR_UNDEF: u8 = 3;
 /// DEEP: a 33rd activation is needed.
 pub const FIR_DEEP: u8 = 4;
-/// VECTORS: a 65th vector is needed.
+/// VECTORS: a 65th vector is needed, or one more than the pool gives.
 pub const FIR_VECTORS: u8 = 5;
 /// PROMISES: a 65th promise is needed.
 pub const FIR_PROMISES: u8 = 6;

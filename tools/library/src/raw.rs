@@ -1,6 +1,7 @@
 //! The functions of `fir.h` and the structs that they give, as C has them.
 
 use crate::state::State;
+use crate::store::Store;
 use crate::trail::Kept;
 use crate::watching::Register;
 
@@ -54,8 +55,8 @@ pub struct FirLoaded {
     pub question: u8,
 }
 
-/// Whether a run has begun, goes on under a new image or has gone back: `FIR_ACCEPTED`,
-/// or a question and its offset.
+/// Whether a run has begun, goes on under a new image or has gone back, or a pool is made:
+/// `FIR_ACCEPTED`, or a question and its offset.
 #[repr(C)]
 pub struct FirEntry {
     /// The offset of a refusal.
@@ -73,6 +74,21 @@ pub struct FirSaid {
     pub code: u8,
     /// Of the vector that the run is DONE with.
     pub length: u8,
+}
+
+/// What a single step in a pool says.
+#[repr(C)]
+pub struct FirTurn {
+    /// The integer that the run is DONE with.
+    pub value: i64,
+    /// The offset of a refusal.
+    pub offset: u16,
+    /// `FIR_STEPS`, an end, `FIR_STUCK` or `FIR_REFUSED`.
+    pub code: u8,
+    /// Of the vector that the run is DONE with.
+    pub length: u8,
+    /// The question of a refusal.
+    pub question: u8,
 }
 
 /// The answer to a budget, and the steps taken under it.
@@ -293,6 +309,71 @@ extern "C" {
         state: *mut State,
         trail: *mut Kept,
     ) -> FirEntry;
+    pub fn fir_pool_make(reserves: *const u8, pool: *mut Store) -> FirEntry;
+    pub fn fir_pool_begin(
+        image: *const u8,
+        image_length: usize,
+        table: *const u8,
+        table_length: usize,
+        level: usize,
+        function: usize,
+        version: usize,
+        words: *const i64,
+        words_length: usize,
+        buffer: *const i64,
+        buffer_length: usize,
+        state: *mut State,
+        pool: *mut Store,
+        number: usize,
+    ) -> FirEntry;
+    pub fn fir_pool_run(
+        image: *const u8,
+        image_length: usize,
+        table: *const u8,
+        table_length: usize,
+        level: usize,
+        function: usize,
+        version: usize,
+        words: *const i64,
+        words_length: usize,
+        budget: u32,
+        buffer: *mut i64,
+        buffer_length: usize,
+        state: *mut State,
+        pool: *mut Store,
+        number: usize,
+    ) -> FirAnswer;
+    pub fn fir_pool_step(
+        image: *const u8,
+        image_length: usize,
+        table: *const u8,
+        table_length: usize,
+        state: *mut State,
+        pool: *mut Store,
+        number: usize,
+    ) -> FirTurn;
+    pub fn fir_pool_budget(
+        image: *const u8,
+        image_length: usize,
+        table: *const u8,
+        table_length: usize,
+        state: *mut State,
+        pool: *mut Store,
+        number: usize,
+        budget: u32,
+        buffer: *mut i64,
+        buffer_length: usize,
+    ) -> FirAnswer;
+    pub fn fir_pool_change(
+        old_image: *const u8,
+        old_length: usize,
+        new_image: *const u8,
+        new_length: usize,
+        state: *const State,
+        pool: *const Store,
+        number: usize,
+    ) -> FirEntry;
+    pub fn fir_pool_back(pool: *const Store, number: usize) -> FirEntry;
     pub fn fir_look(state: *const State, call: usize, place: usize) -> FirValue;
     pub fn fir_watch(
         image: *const u8,

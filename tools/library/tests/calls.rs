@@ -4,8 +4,8 @@
 use library::{
     answer_text, bounds, bounds_into, join, mend, narrow, question_text, report, report_in,
     verdict, verdict_in, version, widen, Bound, Form, Mended, Refusal, Row, Unjoined, Verdict,
-    Versions, FIR_ANSWER_TEXT_BYTES, FIR_LARGE, FIR_NONE, FIR_QUESTION_TEXT_BYTES, FIR_ROWS,
-    ROW_NUMBERS,
+    Versions, FIR_ANSWER_TEXT_BYTES, FIR_LARGE, FIR_NONE, FIR_QUESTION_TEXT_BYTES,
+    FIR_REFUSED_JOIN, FIR_ROWS, ROW_NUMBERS,
 };
 
 /// A body that makes a vector and a promise, stores, forces and gives a vector.
@@ -79,8 +79,7 @@ fn each_question_has_words_and_no_other_number() {
     assert_eq!(short, vec![7; expected.len() - 1]);
     for number in 0..=u8::MAX {
         let length = question_text(number, &mut text);
-        let is_question = number <= 20 || number == 22 || number == 23;
-        assert_eq!(length.is_some(), is_question, "{number}");
+        assert_eq!(length.is_some(), number <= FIR_REFUSED_JOIN, "{number}");
     }
 }
 

@@ -1,7 +1,7 @@
 //! The header and this crate agree: a C program says what the compiler makes of
 //! `fir.h`, number by number.
 
-use library::{Kept, State};
+use library::{Kept, State, Store};
 use std::collections::BTreeMap;
 use std::fmt::Write;
 use std::fs;
@@ -44,6 +44,7 @@ fn bounds_and_questions() -> Vec<(&'static str, usize)> {
         FIR_STRIDE,
         FIR_TRAIL_NUMBERS,
         FIR_TRAIL_BYTES,
+        FIR_RUNS,
         FIR_PORTAL,
         FIR_STAFF,
         FIR_FACTORY,
@@ -73,6 +74,7 @@ fn bounds_and_questions() -> Vec<(&'static str, usize)> {
         FIR_REFUSED_LITERAL,
         FIR_REFUSED_ROOM,
         FIR_REFUSED_BACK,
+        FIR_REFUSED_POOL,
         FIR_REFUSED_ROWS,
         FIR_REFUSED_JOIN,
     ];
@@ -214,6 +216,18 @@ fn a_trail_is_laid_out_as_c_does_it_and_begins_as_a_state() {
     }
     assert_eq!(offset_of!(Kept, bytes), offset_of!(State, tags));
     assert_eq!(offset_of!(Kept, steps), size_of::<State>());
+}
+
+#[test]
+fn a_pool_is_laid_out_as_c_does_it() {
+    let found = printed(
+        "SAY(\"reserves\", offsetof(fir_pool, reserves));\n\
+         SAY(\"has\", offsetof(fir_pool, has));\n\
+         SAY(\"size\", sizeof(fir_pool));\n",
+    );
+    assert_eq!(found["reserves"], offset_of!(Store, reserves));
+    assert_eq!(found["has"], offset_of!(Store, has));
+    assert_eq!(found["size"], size_of::<Store>());
 }
 
 #[test]

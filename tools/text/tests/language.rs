@@ -3,12 +3,13 @@
 
 use cases::exact;
 use reference::bounds::{Steps, BUFFER, MAX_IMAGE, REGISTERS};
+use reference::pool::{Start, RUNS};
 use reference::questions::QUESTIONS;
 use reference::watch::TOO_SHORT;
 use reference::watched::Watched;
 use reference::{
     bounds_of, change, join, mend, move_from, report, verdict, Answer, Bound, End, Form, Integer,
-    Mended, Program, Refusal, State, Trail, Type, Unjoined, Verdict,
+    Mended, Pool, Program, Refusal, State, Trail, Type, Unjoined, Verdict,
 };
 use std::fs;
 use std::path::{Path, PathBuf};
@@ -17,7 +18,7 @@ use std::path::{Path, PathBuf};
 const DOCUMENT: &str = include_str!("../../../docs/LANGUAGE.md");
 
 /// The questions that are not put to an image, in the order in which they are put.
-const FURTHER: [u8; 10] = [11, 19, 12, 13, 15, 16, 17, 20, 22, 23];
+const FURTHER: [u8; 11] = [11, 19, 12, 13, 15, 16, 17, 20, 21, 22, 23];
 
 /// The most steps of a run.
 const BUDGET: Steps = 1000;
@@ -77,6 +78,9 @@ enum Trial<'t> {
     /// A watch of the topmost call after so many steps of a run by these words, into a list of
     /// so many records.
     Watched(Steps, &'t str, usize),
+    /// A run by these words under a number of a pool in which the first numbers reserve so
+    /// many, and the others none.
+    Pooled(Vec<u8>, usize, &'t str),
     /// A move to 32 bits, into a buffer of so many places.
     Moved(usize),
     /// So many joins with itself, into a buffer of so many places.
@@ -117,6 +121,9 @@ fn trial(caption: &str) -> Option<(Trial<'_>, &str)> {
         let steps = steps.split(' ').next()?.parse().ok()?;
         return Some((Trial::Watched(steps, words, records), said));
     }
+    if let Some(rest) = caption.strip_prefix("In a pool of ") {
+        return pooled(rest);
+    }
     if let Some(rest) = caption.strip_prefix("Moved to 32 bits") {
         let (places, said) = places(rest, " into a buffer of ", MAX_IMAGE)?;
         return Some((Trial::Moved(places), said));
@@ -125,6 +132,17 @@ fn trial(caption: &str) -> Option<(Trial<'_>, &str)> {
     let (times, rest) = times(rest)?;
     let (places, said) = places(rest, " into a buffer of ", MAX_IMAGE)?;
     Some((Trial::Joined(times, places), said))
+}
+
+/// What a caption tries in a pool, behind its reserves: the number, the words of the run, and
+/// what comes of it.
+fn pooled(rest: &str) -> Option<(Trial<'_>, &str)> {
+    let (reserves, rest) = rest.split_once(" under ")?;
+    let (number, rest) = rest.split_once(" by `")?;
+    let (words, said) = rest.split_once("`, ")?;
+    let reserves: Result<Vec<u8>, _> = reserves.split(", ").map(str::parse).collect();
+    let (reserves, number) = (reserves.ok()?, number.parse().ok()?);
+    Some((Trial::Pooled(reserves, number, words), said))
 }
 
 /// How often a caption says that an image is joined, once where it does not say it; and
@@ -155,8 +173,10 @@ fn places<'t>(rest: &'t str, words: &str, otherwise: usize) -> Option<(usize, &'
     match rest.strip_prefix(words) {
         None => Some((otherwise, rest.strip_prefix(", ")?)),
         Some(named) => {
-            let (number, said) = named.split_once(" places, ")?;
-            Some((number.parse().ok()?, said))
+            let (number, rest) = named.split_once(' ')?;
+            let number = number.parse().ok()?;
+            let word = if number == 1 { "place, " } else { "places, " };
+            Some((number, rest.strip_prefix(word)?))
         }
     }
 }
@@ -254,12 +274,33 @@ impl Run {
         trail.back()?;
         ended(trail.run().state().clone(), &program, steps - 1)
     }
+
+    /// What comes of it under a number of a pool with these reserves.
+    fn outcome_in_pool(&self, reserves: &[u8], number: usize) -> Result<String, Refusal> {
+        let mut all = [0; RUNS];
+        all[..reserves.len()].copy_from_slice(reserves);
+        let mut pool = Pool::make(all, "a pool of the document")?;
+        let start = Start {
+            image: self.image.clone(),
+            level: self.asked.level,
+            entry: self.asked.entry,
+            words: self.asked.words.clone(),
+        };
+        let mut buffer = vec![0; self.asked.places];
+        let (answer, steps) = pool.run(number, &start, BUDGET, &mut buffer);
+        in_words(answer, steps, &buffer)
+    }
 }
 
 /// How a state ends, in words, where so many steps were taken before.
 fn ended(state: State, program: &Program, before: Steps) -> Result<String, Refusal> {
     let mut buffer = [0; BUFFER];
     let (_, answer, steps) = state.budget(program, BUDGET, &mut buffer);
+    in_words(answer, before + steps, &buffer)
+}
+
+/// An end after so many steps, in words.
+fn in_words(answer: Answer, steps: Steps, buffer: &[Integer]) -> Result<String, Refusal> {
     let end = match answer {
         Answer::Refused(refusal) => return Err(refusal),
         Answer::Ended(End::Integer(integer)) => format!("DONE {integer}"),
@@ -267,7 +308,6 @@ fn ended(state: State, program: &Program, before: Steps) -> Result<String, Refus
         Answer::Ended(other) => format!("{other:?}").to_uppercase(),
         Answer::Steps | Answer::Stuck => panic!("{answer:?}"),
     };
-    let steps = before + steps;
     let plural = if steps == 1 { "" } else { "s" };
     Ok(format!("{end} after {steps} step{plural}"))
 }
@@ -328,6 +368,10 @@ fn outcome(trial: &Trial, image: Vec<u8>, run: &mut Option<Run>) -> Result<Strin
         Trial::Changed(steps) => {
             let run = run.as_ref().expect("a run before the change");
             run.outcome_under(&image, steps)
+        }
+        Trial::Pooled(ref reserves, number, words) => {
+            let asked = asked(words, BUFFER);
+            Run { image, asked }.outcome_in_pool(reserves, number)
         }
         Trial::Watched(steps, words, records) => {
             let asked = asked(words, BUFFER);

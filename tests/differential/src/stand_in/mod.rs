@@ -3,6 +3,7 @@
 
 #![allow(unsafe_code)] // The library's functions are named and called as in C.
 
+mod pools;
 mod put;
 mod runs;
 mod trails;

@@ -78,7 +78,7 @@ fn answered((code, length, value): (u8, u8, i64), steps: u32) -> FirAnswer {
 }
 
 /// An answer that is a refusal.
-fn refused(question: u8) -> FirAnswer {
+pub fn refused(question: u8) -> FirAnswer {
     FirAnswer {
         question,
         ..answered((FIR_REFUSED, 0, 0), 0)

@@ -1,9 +1,10 @@
-//! States, tables and trails of any bytes: noise, bytes that lie near to those of runs, and
+//! States, tables, trails and pools of any bytes: noise, bytes that lie near to those of runs, and
 //! real ones with single bytes changed. Every answer, every place of the buffer and the whole
 //! state after each step, forward or back, and budget are those of the definitions, and what
 //! changes nothing changes no byte.
 
 mod both;
+mod pools;
 mod states;
 mod tables;
 mod trails;
@@ -19,6 +20,10 @@ const EACH: usize = 10;
 
 /// The fewest cases of each.
 const FEWEST: usize = 100_000;
+
+/// One case in so many is a pool too, and the fewest cases of pools.
+const EACH_POOL: usize = 3;
+const FEWEST_POOLS: usize = 30_000;
 
 /// The kinds of instructions, by their first word.
 const INSTRUCTIONS: [&str; 20] = [
@@ -187,6 +192,23 @@ fn trails_of_any_bytes_go_back_by_the_definitions() {
         assert_count(&met, &format!("start: {sort}"), fewest);
     }
     for (thing, fewest) in trails::FEWEST {
+        assert_count(&met, thing, fewest);
+    }
+}
+
+#[test]
+fn pools_of_any_bytes_are_asked_by_the_definitions() {
+    let met = in_parallel(|given, random, met| {
+        if given.case.is_multiple_of(EACH_POOL) {
+            pools::run(given, random, met);
+        }
+    });
+    println!("{met}");
+    assert_count(&met, "cases", FEWEST_POOLS);
+    for (sort, fewest) in [("noise", 3_000), ("near", 8_000), ("changed", 15_000)] {
+        assert_count(&met, &format!("state: {sort}"), fewest);
+    }
+    for (thing, fewest) in pools::FEWEST {
         assert_count(&met, thing, fewest);
     }
 }

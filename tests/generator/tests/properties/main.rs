@@ -17,6 +17,7 @@ mod round_trip;
 mod runs;
 mod searches;
 mod skips;
+mod stairwells;
 mod turns;
 mod updates;
 

@@ -10,6 +10,7 @@ mod longest;
 mod mends;
 mod mistakes;
 mod moves;
+mod pools;
 mod proved_cases;
 mod question10;
 mod question10_refill;

@@ -1,5 +1,5 @@
-//! Why an image, a run, a change of image, a step back, a move or a joining is refused, in
-//! words.
+//! Why an image, a run, a change of image, a step back, a pool, a move or a joining is
+//! refused, in words.
 //!
 //! The question and the offset are the proved library's. The words come from
 //! looking at the record there for what the question asks; where that finds
@@ -27,7 +27,7 @@ use crate::json::Json;
 use crate::number::many;
 use crate::place::{beginning, version_name, Position};
 use crate::source::Source;
-use library::{Entry, Refusal, State, FIR_REFUSED_ENTRY};
+use library::{Entry, Refusal, State, FIR_PLACES, FIR_REFUSED_ENTRY, FIR_RUNS};
 use reference::program::{Block, Program, Version};
 use reference::record::Placed;
 use reference::{Form, Instruction};
@@ -181,6 +181,27 @@ pub fn of_back(no: Refusal, changed: u32) -> Refused {
     }
 }
 
+/// Why a pool with these reserves is not made.
+pub fn of_pool(no: Refusal, reserves: [u8; FIR_RUNS]) -> Refused {
+    let sum: usize = reserves.into_iter().map(usize::from).sum();
+    let words = format!("the reserves sum to {sum}, and there are {FIR_PLACES} vectors in all");
+    Refused {
+        no,
+        position: None,
+        words,
+    }
+}
+
+/// Why a number is none of a run in a pool.
+pub fn of_number(no: Refusal, number: usize) -> Refused {
+    let last = FIR_RUNS - 1;
+    Refused {
+        no,
+        position: None,
+        words: format!("{number} is no number of a run: they are 0 to {last}"),
+    }
+}
+
 /// What the record at the refusal's offset does wrong, if it is found.
 fn diagnosis(form: Form, source: &Source, no: Refusal) -> Option<Diagnosis> {
     let (image, offset) = (&source.image[..], no.offset);
@@ -279,6 +300,7 @@ pub fn rule(question: u8) -> &'static str {
         16 => "every literal of an image that is moved fits 32 bits",
         17 => "a moved image has at most 32,768 bytes and fits the buffer",
         20 => "a step lies behind the state",
+        21 => "the reserves of a pool sum to at most 64, and a run's number is at most 7",
         22 => "a list has a record for each register of the topmost call",
         23 => "a joined image has at most 32,768 bytes, 32 functions and 64 versions and fits the buffer",
         _ => "no question has this number",
@@ -300,7 +322,7 @@ mod tests {
     fn a_refusal_that_no_diagnosis_explains_gets_the_rule() {
         let text = "version 0.0(r0: int) -> int\nlevel portal\nblock 0 quiet -> r0";
         let image = text::assemble(text).expect("a text that is well formed");
-        for question in (1..=20).chain([22, 23]) {
+        for question in 1..=23 {
             for offset in [0, 11, 16, 23, 400_000] {
                 let expected = format!("refused by {question} at {offset}: {}", rule(question));
                 assert_eq!(said(&image, question, offset), expected);
