@@ -71,7 +71,7 @@ static size_t report(size_t places)
 static void questions(void)
 {
     static const char *const buffer = "the result buffer has fewer than 16 places";
-    static const char *const pool = "the reserves of a pool sum to at most 64, and a run's number is at most 7";
+    static const char *const pool = "the reserves of a pool sum above 64, or the number of a run is above 7";
     unsigned number;
     size_t length;
     for (number = 0; number < NUMBERS; number++) {

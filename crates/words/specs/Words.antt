@@ -35,7 +35,7 @@ questionText n = choose n [] (
     (18, text "a CALL goes to a version of a higher level") ∷
     (19, text "the entry is above the level of the run") ∷
     (20, text "no step lies behind") ∷
-    (21, text "the reserves of a pool sum to at most 64, and a run's number is at most 7") ∷
+    (21, text "the reserves of a pool sum above 64, or the number of a run is above 7") ∷
     (22, text "the list of records is too short") ∷
     (23, text "the joined image would break a bound of the layout, or does not fit the buffer") ∷ [])
 

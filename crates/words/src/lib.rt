@@ -74,7 +74,7 @@ pub fn question_text(question: u8, out: &mut [u8]) -> usize
         20 => say(out, b"no step lies behind"),
         21 => say(
             out,
-            b"the reserves of a pool sum to at most 64, and a run's number is at most 7",
+            b"the reserves of a pool sum above 64, or the number of a run is above 7",
         ),
         22 => say(out, b"the list of records is too short"),
         23 => say(

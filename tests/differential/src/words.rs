@@ -24,7 +24,7 @@ const QUESTIONS: [&str; 24] = [
     "a CALL goes to a version of a higher level",
     "the entry is above the level of the run",
     "no step lies behind",
-    "the reserves of a pool sum to at most 64, and a run's number is at most 7",
+    "the reserves of a pool sum above 64, or the number of a run is above 7",
     "the list of records is too short",
     "the joined image would break a bound of the layout, or does not fit the buffer",
 ];
