@@ -3,27 +3,21 @@ use mathlib.Core.Path.{_≡_, refl, sym, ap, _∙_, subst}
 use mathlib.Core.List.{List, [], _∷_, _++_, List·Memᴰ, List·Memᴰ·head, List·Memᴰ·tail}
 use mathlib.Core.Option.{Option, none, some}
 use mathlib.Core.Bool.{Bool, true, false, cond, _||_, true≢false}
-use Prim.Native.Nat.{ℕ, zero, suc, _+_, _-_, _/_, _%_, _≤_, _<_}
+use Prim.Native.Nat.{ℕ, zero, suc, _+_, _/_, _%_, _≤_, _<_}
 use native.Mathlib.Decide.{ℕ-discrete}
 use native.Mathlib.Omega.{arith}
 use lib.ListN.{length, length-append}
-use lib.Dec.{eqb, ltb}
-use borrow.Author.Tests.{eqb-true, ltb-true, not-true}
+use borrow.Author.Tests.{eqb-true, not-true}
 use Rattle.layout.specs.Bounds.{ALL-VERSIONS}
-use Rattle.layout.specs.Kinds as kind
-use Rattle.layout.specs.Records.{Rec, _!_, records, choose}
-use Rattle.layout.specs.Scan.{scan}
-use Rattle.layout.specs.Questions.{question4, placed, inOrder, dueAfter, noneDue}
+use Rattle.layout.specs.Records.{records}
 use Rattle.layout.specs.Tests.{_and_, any, count}
-use Rattle.layout.specs.declared.Due.{Due}
-use Rattle.layout.specs.declared.Found.the-variants.{Nothing}
 use Rattle.layout.proofs.Bools.{and-both}
-use Rattle.program.specs.Program.{Version, Program, blockOf, levelOf, lineOf, nowhere, putBy, versionOf, view, viewBy}
+use Rattle.program.specs.Program.{Version, Program}
 use Rattle.program.proofs.Held.{find-numbers}
-use Rattle.program.proofs.Laid.{passed}
 use Rattle.checker.specs.Verdicts.{verdictOf}
 use Rattle.checker.specs.declared.Verdict.{Verdict}
 use Rattle.checker.proofs.Accepted.{passed as passed-all}
+use Rattle.checker.proofs.Few.{few-versions as few-in-all}
 use Rattle.machine.specs.Begin.{programOf}
 use Rattle.bounds.specs.Bounds.{Row, same, isListed, isFree, firstOf, byNumber, rowOf, listedFrom, bounded, unlisted}
 use Rattle.bounds.proofs.Listing.{first-mem, same-self}
@@ -159,40 +153,6 @@ pub total : (P : Program) → length (bounded P) + length (unlisted (bounded P) 
 unfolding bounded
 total P = total-from P (length (byNumber P)) [] (rw (unlisted-none (byNumber P)) (omega arith))
 
--- ---- an accepted image has at most 64 versions
-
-due-versions : (d : Due) (r : Rec) → eqb (r .kind) kind.VERSION ≡ false → dueAfter d r .versions ≡ d .versions
-unfolding dueAfter choose
-due-versions d r e = rw e (go (eqb (r .kind) kind.LEVEL) (eqb (r .kind) kind.BLOCK))
-  where
-    go : (a b : Bool) → cond {A = Due} a (record { versions = d .versions; levels = d .levels - 1; blocks = d .blocks; instructions = d .instructions }) (cond b (record { versions = d .versions; levels = d .levels; blocks = d .blocks - 1; instructions = r .body ! 2 }) (record { versions = d .versions; levels = d .levels; blocks = d .blocks; instructions = d .instructions - 1 })) .versions ≡ d .versions
-    go true b = refl
-    go false true = refl
-    go false false = refl
-
-due-next : (d : Due) (r : Rec) → eqb (r .kind) kind.VERSION ≡ true → inOrder d (r .kind) ≡ true → (dueAfter d r .versions ≡ d .versions + 1) × (d .versions < ALL-VERSIONS)
-unfolding dueAfter inOrder choose
-due-next d r e h = (rw e refl, ltb-true _ _ (and-both _ _ (rw e at h) .0))
-
-few-due : (end : ℕ) (d : Due) (rs : List Rec) → d .versions ≤ ALL-VERSIONS → scan placed dueAfter (noneDue end) d rs ≡ Nothing → d .versions + length (view rs .versions) ≤ ALL-VERSIONS
-unfolding scan viewBy putBy
-few-due end d [] h e = omega arith
-few-due end d (r ∷ rs) h e = go (eqb (r .size) 0) (eqb (r .kind) kind.VERSION) (eqb (r .kind) kind.BLOCK) refl (few-due end (dueAfter d r) rs)
-  where
-    p : ((ltb 0 (r .size) and placed d r) ≡ true) × (scan placed dueAfter (noneDue end) (dueAfter d r) rs ≡ Nothing)
-    p = passed _ _ _ e
-
-    order : inOrder d (r .kind) ≡ true
-    order = and-both _ _ (and-both _ _ (p .0) .1) .1
-
-    go : (z v b : Bool) → eqb (r .kind) kind.VERSION ≡ v → (dueAfter d r .versions ≤ ALL-VERSIONS → scan placed dueAfter (noneDue end) (dueAfter d r) rs ≡ Nothing → dueAfter d r .versions + length (view rs .versions) ≤ ALL-VERSIONS)
-        → d .versions + length (cond z nowhere (cond v (record { level = 0; code = []; blocks = []; versions = versionOf r (view rs .level) (view rs .blocks) ∷ view rs .versions }) (cond b (record { level = 0; code = []; blocks = blockOf r (view rs .code) ∷ view rs .blocks; versions = view rs .versions }) (record { level = levelOf r; code = lineOf r ∷ view rs .code; blocks = view rs .blocks; versions = view rs .versions }))) .versions) ≤ ALL-VERSIONS
-    go true v b ev ih = omega arith
-    go false true b ev ih = let t = due-next d r ev order in omega (arith, t .0, t .1, ih (omega (arith, t .0, t .1)) (p .1))
-    go false false true ev ih = let t = due-versions d r ev in omega (arith, t, ih (omega (arith, t, h)) (p .1))
-    go false false false ev ih = let t = due-versions d r ev in omega (arith, t, ih (omega (arith, t, h)) (p .1))
-
--- THE LAW
+-- THE LAW: an accepted image has at most 64 versions
 pub few-versions : (image : List ℕ) (k : ℕ) → verdictOf image ≡ Verdict.Accepted k → length (byNumber (programOf image)) ≤ ALL-VERSIONS
-unfolding question4
-few-versions image k e = let t = few-due (length image) _ (records image) (omega arith) (passed-all image k e .q4) in omega (arith, t, slots-few (programOf image))
+few-versions image k e = omega (arith, few-in-all (length image) (records image) (passed-all image k e .q4), slots-few (programOf image))

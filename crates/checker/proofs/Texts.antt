@@ -46,14 +46,14 @@ pub spaced-cons : (n : ℕ) (ns : List ℕ) → spaced (n ∷ ns) ≡ (text " " 
 unfolding spaced flatMap text
 spaced-cons n ns = refl
 
-spaced-length : (n : ℕ) (ns : List ℕ) → length (spaced (n ∷ ns)) ≡ 1 + length (decimal n) + length (spaced ns)
+pub spaced-length : (n : ℕ) (ns : List ℕ) → length (spaced (n ∷ ns)) ≡ 1 + length (decimal n) + length (spaced ns)
 spaced-length n ns = rw (spaced-cons n ns) (omega (arith, length-append (text " " ++ decimal n) (spaced ns), length-count n))
 
 pub spaced-nil : spaced [] ≡ []
 unfolding spaced flatMap
 spaced-nil = refl
 
-spaced-none : length (spaced []) ≡ 0
+pub spaced-none : length (spaced []) ≡ 0
 spaced-none = ap length spaced-nil
 
 spaced-four : (r w u c : ℕ) → length (spaced (r ∷ w ∷ u ∷ c ∷ [])) ≡ 4 + length (decimal r) + length (decimal w) + length (decimal u) + length (decimal c)

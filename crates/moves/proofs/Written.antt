@@ -59,7 +59,7 @@ short-enough n places e = go (leb n IMAGE and leb n places) refl e
     go true x y = let z = and-both _ _ x in (leb-true n IMAGE (z .0), leb-true n places (z .1))
     go false x y = let z : _≡_ {A = ℕ} 0 1 = cc in absurd (omega arith)
 
-asks-17 : (n places : ℕ) → n ≤ IMAGE → n ≤ places → question17 n places ≡ Nothing
+pub asks-17 : (n places : ℕ) → n ≤ IMAGE → n ≤ places → question17 n places ≡ Nothing
 unfolding question17 _and_
 asks-17 n places h l = rw (le-leb n IMAGE h, le-leb n places l) refl
 
@@ -115,6 +115,10 @@ made form s places m h =
       back = there-and-back form s (h .0) (p .q2) k r;
       returns = r;
     }
+
+-- its source is of bytes and accepted
+pub accepted-source : (form : Form) (s : List ℕ) (places m : ℕ) → Moves form s places m → ((i : ℕ) → s ! i < 256) × (n : ℕ) × (verdictIn form s ≡ Verdict.Accepted n)
+accepted-source form s places m h = let a = made form s places m h in (a .bytes, a .versions, a .accepted)
 
 -- ---- the two images
 

@@ -1,14 +1,17 @@
 -- 02, 6: what is promised of a move that was written: the statements alone.
 use mathlib.Core.Path.{_≡_}
 use mathlib.Core.Logic.{_≢_}
-use mathlib.Core.List.{List}
-use Prim.Native.Nat.{ℕ, _≤_, _<_}
+use mathlib.Core.List.{List, [], _∷_}
+use mathlib.Core.Bool.{cond}
+use Prim.Native.Nat.{ℕ, _+_, _*_, _≤_, _<_}
 use lib.IntN.{ℤ}
 use lib.ListN.{length}
+use lib.Dec.{eqb}
 use Rattle.layout.specs.Bounds.{IMAGE}
-use Rattle.layout.specs.Records.{_!_, records}
-use Rattle.layout.specs.Forms.{moved, other}
+use Rattle.layout.specs.Records.{Rec, _!_, records}
+use Rattle.layout.specs.Forms.{literalKind, moved, other}
 use Rattle.layout.specs.declared.Form.{Form}
+use Rattle.layout.specs.declared.Found.the-variants.{Nothing}
 use Rattle.program.specs.Program.{programBy}
 use Rattle.checker.specs.Verdicts.{verdictIn}
 use Rattle.checker.specs.Reports.{reportIn}
@@ -18,7 +21,7 @@ use Rattle.machine.specs.declared.Answer.{Answer}
 use Rattle.machine.specs.declared.End.{End}
 use Rattle.runs.specs.Alike.{AllAlike}
 use Rattle.runs.specs.Wider.{runBefore}
-use Rattle.moves.specs.Moves.{moveOf}
+use Rattle.moves.specs.Moves.{moveOf, question17}
 use Rattle.moves.specs.declared.Moving.the-variants.{Written}
 
 -- the image that a move writes
@@ -32,6 +35,24 @@ Moves form s places m = ((i : ℕ) → s ! i < 256) × (moveOf form s places ≡
 -- what is written is the result, of bytes, no longer than an image or the buffer
 unfoldable pub MovedWhole : Type 0
 MovedWhole = (form : Form) (s : List ℕ) (places m : ℕ) → Moves form s places m → (m ≡ length (result form s)) × (m ≤ IMAGE) × (m ≤ places) × ((i : ℕ) → result form s ! i < 256)
+
+-- how many of the records are literals of a form
+unfoldable pub literals : Form → List Rec → ℕ
+literals form [] = 0
+literals form (r ∷ rs) = cond (eqb (r .kind) (literalKind form)) 1 0 + literals form rs
+
+-- a narrowed image is 4 bytes shorter for each literal: it is no longer than its source
+unfoldable pub NarrowedLength : Type 0
+NarrowedLength = (s : List ℕ) (places m : ℕ) → Moves Form.Wide s places m → (m + 4 * literals Form.Wide (records s) ≡ length s) × (m ≤ length s)
+
+-- so 17 refuses no accepted image that is narrowed into a buffer as long as the image
+unfoldable pub NarrowedFits : Type 0
+NarrowedFits =
+    (s : List ℕ) → ((i : ℕ) → s ! i < 256) → (n : ℕ) → verdictIn Form.Wide s ≡ Verdict.Accepted n → (places : ℕ) → length s ≤ places → question17 (length (result Form.Wide s)) places ≡ Nothing
+
+-- a widened image is 4 bytes longer for each literal: it has at most 13 bytes for each 9 of its source
+unfoldable pub WidenedLength : Type 0
+WidenedLength = (s : List ℕ) (places m : ℕ) → Moves Form.Narrow s places m → (m ≡ length s + 4 * literals Form.Narrow (records s)) × (9 * m ≤ 13 * length s)
 
 -- it is accepted by the other form's questions, with as many versions
 unfoldable pub MovedAccepted : Type 0

@@ -10,3 +10,4 @@ pub mod Touches
 pub mod Walked
 pub mod Ways
 pub mod Judged
+pub mod Literals

@@ -312,10 +312,10 @@ quiet Nothing = true
 quiet (At p) = false
 
 -- a question, and one to the shapes, that say the same
-record Same (q q′ : Question) : Type 0 where
-  version : (v : Version) → q .ofVersion v ≡ q′ .ofVersion (shape v)
-  block : (v : Version) (n : ℕ) (b : Block) → q .ofBlock v n b ≡ q′ .ofBlock (shape v) n (shapeBlock b)
-  instr : (v : Version) (n : ℕ) (i : Instr) → q .ofInstr v n i ≡ q′ .ofInstr (shape v) n (blank i)
+pub record Same (q q′ : Question) : Type 0 where
+  pub version : (v : Version) → q .ofVersion v ≡ q′ .ofVersion (shape v)
+  pub block : (v : Version) (n : ℕ) (b : Block) → q .ofBlock v n b ≡ q′ .ofBlock (shape v) n (shapeBlock b)
+  pub instr : (v : Version) (n : ℕ) (i : Instr) → q .ofInstr v n i ≡ q′ .ofInstr (shape v) n (blank i)
 
 either-quiet : (b c : Bool) (x y : Found) (p p′ : ℕ) → b ≡ c → quiet x ≡ quiet y → quiet (cond b x (At p)) ≡ quiet (cond c y (At p′))
 unfolding quiet
@@ -338,27 +338,47 @@ module _ (q q′ : Question) (s : Same q q′) where
   first-quiet [] = refl
   first-quiet (v ∷ vs) = either-quiet _ _ _ _ _ _ (s .version v) (block-quiet v 0 (v .blocks) _ _ (first-quiet vs))
 
--- THE LAWS: of two programs of the same shape, both pass a question or none does
+-- THE LAWS: each question says the same of a program and of its shape
+module _ (X : Program) where
+  pub same-6 : Same question6 question6
+  unfolding versionTypes typesAllowed
+  same-6 = record { version = λ v. refl; block = λ v n b. refl; instr = λ v n i. by-blank typesAllowed (λ d z. refl) i }
+
+  pub same-7 : Same (question7 X) (question7 (map shape X))
+  same-7 = record { version = λ v. refl; block = named-shape; instr = exists-shape X }
+
+  pub same-8 : Same (question8 X) (question8 (map shape X))
+  unfolding fitsResult
+  same-8 = record { version = λ v. refl; block = λ v n b. refl; instr = fits-shape X }
+
+  pub same-18 : Same (question18 X) (question18 (map shape X))
+  same-18 = record { version = λ v. refl; block = λ v n b. refl; instr = λ v n i. stays-shape X v i }
+
+  pub same-9 : Same (question9 X) (question9 (map shape X))
+  same-9 = record { version = λ v. refl; block = λ v n b. covered-shape X v b; instr = λ v n i. refl }
+
+  pub same-10 : Same (question10 X) (question10 (map shape X))
+  same-10 = record { version = flows-shape X; block = λ v n b. refl; instr = λ v n i. refl }
+
+-- of two programs of the same shape, both pass a question or none does
 module _ (P Q : Program) (e : map shape P ≡ map shape Q) where
   both-quiet : (k : Program → Question) → ((X : Program) → Same (k X) (k (map shape X))) → quiet (first (k P) P) ≡ quiet (first (k Q) Q)
   both-quiet k s = first-quiet (k P) (k (map shape P)) (s P) P ∙ ap (λ (X : Program). quiet (first (k X) X)) e ∙ sym (first-quiet (k Q) (k (map shape Q)) (s Q) Q)
 
   pub shape-6 : quiet (first question6 P) ≡ quiet (first question6 Q)
-  unfolding versionTypes typesAllowed
-  shape-6 = both-quiet (λ X. question6) (λ X. record { version = λ v. refl; block = λ v n b. refl; instr = λ v n i. by-blank typesAllowed (λ d z. refl) i })
+  shape-6 = both-quiet (λ X. question6) same-6
 
   pub shape-7 : quiet (first (question7 P) P) ≡ quiet (first (question7 Q) Q)
-  shape-7 = both-quiet question7 (λ X. record { version = λ v. refl; block = named-shape; instr = exists-shape X })
+  shape-7 = both-quiet question7 same-7
 
   pub shape-8 : quiet (first (question8 P) P) ≡ quiet (first (question8 Q) Q)
-  unfolding fitsResult
-  shape-8 = both-quiet question8 (λ X. record { version = λ v. refl; block = λ v n b. refl; instr = fits-shape X })
+  shape-8 = both-quiet question8 same-8
 
   pub shape-18 : quiet (first (question18 P) P) ≡ quiet (first (question18 Q) Q)
-  shape-18 = both-quiet question18 (λ X. record { version = λ v. refl; block = λ v n b. refl; instr = λ v n i. stays-shape X v i })
+  shape-18 = both-quiet question18 same-18
 
   pub shape-9 : quiet (first (question9 P) P) ≡ quiet (first (question9 Q) Q)
-  shape-9 = both-quiet question9 (λ X. record { version = λ v. refl; block = λ v n b. covered-shape X v b; instr = λ v n i. refl })
+  shape-9 = both-quiet question9 same-9
 
   pub shape-10 : quiet (first (question10 P) P) ≡ quiet (first (question10 Q) Q)
-  shape-10 = both-quiet question10 (λ X. record { version = flows-shape X; block = λ v n b. refl; instr = λ v n i. refl })
+  shape-10 = both-quiet question10 same-10
