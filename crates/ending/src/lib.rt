@@ -1,5 +1,5 @@
 //! Block ends over the two arrays of a state.
-//! Its functions serve the loop of `running`; what they require, the loop keeps.
+//! Its functions serve the loop of `running`; what they require, the loop keeps, and a test would cost each step.
 ghost use Prim.Native.Nat.{_<_};
 ghost use mathlib.Core.Path.{_≡_};
 ghost use lib.ListN.{length};

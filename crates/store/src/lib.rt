@@ -2,7 +2,7 @@
 //! of live calls and activations, the status) and `numbers` (integers of cells, items, caches, the result). `counts` says how many refer to
 //! each vector and promise, how many force each promise, and how many cells of each live frame refer to one.
 //! Each function says by the machine's own definitions what it does to the state that the arrays stand for.
-//! What they require, the loop of `running` keeps; `whereabouts` and `searches` ask first.
+//! What they require, the loop of `running` keeps, and a test would cost each step; `whereabouts` and `searches` ask first.
 ghost use mathlib.Core.Path.{_≡_};
 ghost use lib.ListN.{length};
 
