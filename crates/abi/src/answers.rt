@@ -33,7 +33,7 @@ const PROMISES: u8 = 6;
 
 /// A verdict: 0 and the number of versions, or the question that refuses and the offset.
 #[repr(C)]
-#[derive(Drop)]
+#[derive(Clone, Copy)]
 pub struct FirVerdict {
     pub detail: usize,
     pub question: u8,
@@ -41,7 +41,7 @@ pub struct FirVerdict {
 
 /// What becomes of a load: 0 and the number of versions, 8 with the question that refuses and the offset, or 9 and the bytes that the table needs.
 #[repr(C)]
-#[derive(Drop)]
+#[derive(Clone, Copy)]
 pub struct FirLoaded {
     pub detail: usize,
     pub code: u8,
@@ -50,7 +50,7 @@ pub struct FirLoaded {
 
 /// What becomes of a join: 0 and the length of the joined image, or the question that refuses, the offset, and the image that it refuses: 1 the first, 2 the second, 0 neither.
 #[repr(C)]
-#[derive(Drop)]
+#[derive(Clone, Copy)]
 pub struct FirJoined {
     pub detail: usize,
     pub question: u8,
@@ -60,7 +60,7 @@ pub struct FirJoined {
 /// What can be done for an image: 0 and its number of versions, or the question that refuses it and the offset; and beside a refusal
 /// whether a register type byte mends it (1), which one and its new value, or that none does (2).
 #[repr(C)]
-#[derive(Drop)]
+#[derive(Clone, Copy)]
 pub struct FirMended {
     pub detail: usize,
     pub place: usize,
@@ -71,7 +71,7 @@ pub struct FirMended {
 
 /// Whether a run has begun, goes on under a new image, or has gone a step back: 0, or the question that refuses it and the offset.
 #[repr(C)]
-#[derive(Drop)]
+#[derive(Clone, Copy)]
 pub struct FirEntry {
     pub offset: u16,
     pub question: u8,
@@ -79,7 +79,7 @@ pub struct FirEntry {
 
 /// What a single step says.
 #[repr(C)]
-#[derive(Drop)]
+#[derive(Clone, Copy)]
 pub struct FirSaid {
     pub value: i64,
     pub code: u8,
@@ -88,7 +88,7 @@ pub struct FirSaid {
 
 /// What a single step in a pool says, or the question that refuses it and the offset.
 #[repr(C)]
-#[derive(Drop)]
+#[derive(Clone, Copy)]
 pub struct FirTurn {
     pub value: i64,
     pub offset: u16,
@@ -99,7 +99,7 @@ pub struct FirTurn {
 
 /// The answer to a budget, and the steps taken under it.
 #[repr(C)]
-#[derive(Drop)]
+#[derive(Clone, Copy)]
 pub struct FirAnswer {
     pub steps: u32,
     pub value: i64,
@@ -111,7 +111,7 @@ pub struct FirAnswer {
 
 /// What a register or a name holds.
 #[repr(C)]
-#[derive(Drop)]
+#[derive(Clone, Copy)]
 pub struct FirValue {
     pub number: i64,
     pub kind: u8,
@@ -120,7 +120,7 @@ pub struct FirValue {
 
 /// What a state at a DISPATCH looks at.
 #[repr(C)]
-#[derive(Drop)]
+#[derive(Clone, Copy)]
 pub struct FirSearched {
     pub dispatch: u8,
     pub looked: u8,
@@ -129,7 +129,7 @@ pub struct FirSearched {
 
 /// Where a state stands.
 #[repr(C)]
-#[derive(Drop)]
+#[derive(Clone, Copy)]
 pub struct FirWhere {
     pub offset: usize,
     pub kind: u8,
@@ -141,7 +141,7 @@ pub struct FirWhere {
 
 /// How many records of the topmost call were filled, or the question that refuses the list.
 #[repr(C)]
-#[derive(Drop)]
+#[derive(Clone, Copy)]
 pub struct FirWatched {
     pub filled: u8,
     pub question: u8,
@@ -149,7 +149,7 @@ pub struct FirWatched {
 
 /// The number of the interface, and that of the layout of a stored state.
 #[repr(C)]
-#[derive(Drop)]
+#[derive(Clone, Copy)]
 pub struct FirVersion {
     pub interface: u32,
     pub state: u32,

@@ -14,7 +14,7 @@ use begin::Entrance;
 use machine::Entry;
 
 /// What a run enters, at which level, and its first budget.
-#[derive(Drop)]
+#[derive(Clone, Copy)]
 pub struct Start {
     pub level: usize,
     pub function: usize,

@@ -1,4 +1,5 @@
 //! The interface in C, as include/fir.h declares it: the caller owns the state of a run and lends it to each call.
+#![tactic(auto)]
 ghost use Rattle.std.specs.Prelude.{◌≡◌, min, length};
 ghost use Rattle.layout.specs.Bounds.{IMAGE};
 ghost use Rattle.layout.specs.declared.Form.{Form};

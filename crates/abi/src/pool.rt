@@ -22,7 +22,7 @@ const BUFFER: u8 = 13;
 const BEHIND: u8 = 20;
 
 /// What a run enters, at which level, and its number.
-#[derive(Drop)]
+#[derive(Clone, Copy)]
 pub struct Room {
     pub level: usize,
     pub function: usize,
@@ -31,7 +31,7 @@ pub struct Room {
 }
 
 /// The number of a run, and its budget.
-#[derive(Drop)]
+#[derive(Clone, Copy)]
 pub struct Ask {
     pub number: usize,
     pub budget: u32,

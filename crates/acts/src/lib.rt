@@ -1,5 +1,6 @@
 //! Instructions over the state of a run in its two arrays: each is the clause of `execute` that it is named after.
 //! They serve the loop of `running`; what they require, the loop keeps, and a test would cost each step.
+#![tactic(auto)]
 ghost use Rattle.std.specs.Prelude.{◌≡◌, length};
 ghost use Rattle.program.specs.Program.{LIT, MOVE, USE, DUP, LEN, GET, SET, ARITH, SELECT, CAST, NAMED, STORE, PROM, FORCE, PEEK, POKE};
 ghost use Rattle.store.specs.Store.{Live};
@@ -13,7 +14,7 @@ use machine::{Activation, Cache, Opener};
 use store::{Did, Halt, Whole, cells, heap, stack};
 
 /// The last two operands of an ARITH or a SELECT.
-#[derive(Drop)]
+#[derive(Clone, Copy)]
 pub struct Pair {
     pub a: u8,
     pub b: u8,
@@ -295,7 +296,7 @@ pub fn force(
 }
 
 /// Whether what a register holds is of a kind within that of another, or stuck.
-#[derive(Drop)]
+#[derive(Clone, Copy)]
 pub enum Typed {
     Fits,
     Clashes,

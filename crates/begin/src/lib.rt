@@ -1,5 +1,6 @@
 //! Beginning a run of a loaded image: 11, 19, 12 and 13 of the program that image and table stand for, and the state before its first step.
 //! Any image and any table have an answer. All is asked before anything is written.
+#![tactic(auto)]
 ghost use Rattle.std.specs.Prelude.{List, ◌≡◌, ℕ, ◌+◌, ◌<◌, ◌≤◌, ◌/◌, ◌%◌, leb, drop, length, take};
 ghost use Rattle.std.proofs.Math.Option.{bind, some};
 ghost use Rattle.program.specs.Program.{parameter_types};
@@ -16,7 +17,7 @@ use machine::{Entry, Vector};
 use typing::types;
 
 /// What a run enters, and at which level.
-#[derive(Drop)]
+#[derive(Clone, Copy)]
 pub struct Entrance {
     pub level: usize,
     pub function: usize,
@@ -24,7 +25,7 @@ pub struct Entrance {
 }
 
 /// An argument: none that is allowed, an integer, or a vector with its number of items.
-#[derive(Drop)]
+#[derive(Clone, Copy)]
 enum Argument {
     Nothing,
     Integer(i64),
@@ -32,7 +33,7 @@ enum Argument {
 }
 
 /// What the questions to an entrance come to: the one that refuses it, or the number of the version that is entered.
-#[derive(Drop)]
+#[derive(Clone, Copy)]
 enum Asked {
     Refused(u8),
     Enters(u8),

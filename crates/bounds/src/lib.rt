@@ -1,4 +1,5 @@
 //! 02, 12, how long at most: which versions a version depends on, how many steps a run of it can take, and in which order they are listed.
+#![tactic(auto)]
 ghost use Rattle.std.specs.Prelude.{◌≡◌};
 ghost use Rattle.machine.specs.Begin.{program_of};
 ghost use Rattle.bounds.specs.Bounds.{report};
@@ -17,7 +18,7 @@ pub const LIMIT: u64 = 4294967296;
 pub const NONE: u64 = 4294967297;
 
 /// How far the steps of a version are counted: the offset of the record that comes next, the steps before it, and whether none lie ahead.
-#[derive(Drop)]
+#[derive(Clone, Copy)]
 pub struct Count {
     pub at: usize,
     pub steps: u64,
@@ -25,7 +26,7 @@ pub struct Count {
 }
 
 /// What becomes of an image: how many rows are filled, one for each version; or its refusal, with the question's number and the offset.
-#[derive(Drop)]
+#[derive(Clone, Copy)]
 pub enum Bounding {
     Listed(usize),
     Refused(u8, usize),

@@ -1,5 +1,6 @@
 //! Block ends over the two arrays of a state.
 //! Its functions serve the loop of `running`; what they require, the loop keeps, and a test would cost each step.
+#![tactic(auto)]
 ghost use Rattle.std.specs.Prelude.{◌<◌, ◌≡◌, length};
 ghost use Rattle.store.specs.Store.{Sized, state_in};
 ghost use Rattle.store.specs.Counts.{Ready};
@@ -13,7 +14,7 @@ use machine::{Opener, Value};
 use store::{Halt, Whole, cells, heap, stack};
 
 /// What the end of a block has done: its value went back, the run is done, or nothing, where it is stuck.
-#[derive(Drop)]
+#[derive(Clone, Copy)]
 pub enum Ended {
     Back,
     Done,

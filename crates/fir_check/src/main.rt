@@ -1,4 +1,5 @@
 //! `check`: reads an image from standard input and prints what the checker says of it.
+#![tactic(auto)]
 ghost use Rattle.std.specs.Prelude.{◌≤◌, length};
 ghost use Rattle.fir_check.specs.Inputs.{Fits};
 
@@ -17,7 +18,7 @@ const FAILURES: usize = 1000;
 const READS: usize = 18446744073709551615;
 
 /// Standard input as it was read: whole, or as much of it as there is room for, with so many bytes; or it cannot be read.
-#[derive(Drop)]
+#[derive(Clone, Copy)]
 enum Input {
     Whole(usize),
     Failed,

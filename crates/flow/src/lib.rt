@@ -1,4 +1,5 @@
 //! Flow: actions of instructions, blocks and versions, and question 10.
+#![tactic(auto)]
 
 mod actions;
 pub mod body;
@@ -8,7 +9,7 @@ mod walk;
 mod ways;
 
 /// An action: the registers read before they are assigned, assigned, emptied and captured, a mask for each.
-#[derive(Drop)]
+#[derive(Clone, Copy)]
 pub struct Action {
     pub reads: u16,
     pub assigns: u16,
@@ -17,7 +18,7 @@ pub struct Action {
 }
 
 /// What is done one after the other, or that it is not allowed.
-#[derive(Drop)]
+#[derive(Clone, Copy)]
 pub enum Flowed {
     Allowed(Action),
     Refused,

@@ -1,4 +1,5 @@
 //! The integer arithmetic of the machine's steps: results in range, UNDEF or stuck.
+#![tactic(auto)]
 ghost use Rattle.std.specs.Prelude.{◌≡◌, false, cond, pos, nat_abs, ◌+ℤ◌, ◌-ℤ◌, ◌*ℤ◌, ◌*◌, ltb, leb};
 ghost use Rattle.std.specs.Int.Signed.{mag, lt_z};
 ghost use Rattle.layout.specs.Tests.{◌and◌};
@@ -7,7 +8,7 @@ ghost use Rattle.machine.specs.Values.{RANGE, NARROW-RANGE, ranged, is_zero, flo
 ghost use Rattle.integers.specs.Computed.{computed_of, indexed_of, is_minus_one, limit_of};
 
 /// What an operation on integers comes to: an integer, UNDEF, or stuck where there is no such operation.
-#[derive(Drop)]
+#[derive(Clone, Copy)]
 pub enum Computed {
     Integer(i64),
     Undef,
@@ -15,7 +16,7 @@ pub enum Computed {
 }
 
 /// What an index into a vector comes to: the place of an item, or UNDEF.
-#[derive(Drop)]
+#[derive(Clone, Copy)]
 pub enum Indexed {
     At(u8),
     Undef,

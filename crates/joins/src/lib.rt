@@ -1,4 +1,5 @@
 //! Two images into one, the first before the second.
+#![tactic(auto)]
 ghost use Rattle.std.specs.Prelude.{◌≡◌, cond, map, ◌+◌, ◌≤◌, length};
 ghost use Rattle.layout.specs.Forms.{printed};
 ghost use Rattle.layout.specs.Records.{size_at, records};
@@ -12,7 +13,7 @@ use layout::kinds;
 
 /// What becomes of a join: the length of the joined image, which the buffer has from place 0 on; a refusal of the first image or of
 /// the second, with the question's number and the offset; or one of both together.
-#[derive(Drop)]
+#[derive(Clone, Copy)]
 pub enum Joined {
     Written(usize),
     First(u8, usize),

@@ -1,4 +1,6 @@
 //! The records of an image, and questions 1 to 5.
+#![tactic(auto)]
+
 ghost use Rattle.std.specs.Prelude.{◌≡◌, ◌<◌, eqb, length};
 ghost use Rattle.layout.specs.Tests.{◌and◌};
 ghost use Rattle.layout.specs.Records.{◌!◌, size_at, kind_at, body_at, rec_at, records};
@@ -12,7 +14,7 @@ pub mod kinds;
 pub mod ownerships;
 
 /// The offset of the first record that fails a question, or that none does.
-#[derive(Drop)]
+#[derive(Clone, Copy)]
 pub enum Found {
     Nothing,
     At(usize),
@@ -107,7 +109,7 @@ pub fn question_2(image: &[u8]) -> Found
 }
 
 /// The form of an image, by its literals: numbers of 32 bits, or of 64.
-#[derive(Drop)]
+#[derive(Clone, Copy)]
 pub enum Form {
     Narrow,
     Wide,
@@ -193,7 +195,7 @@ pub fn question_3(image: &[u8], form: Form) -> Found
 }
 
 /// What question 4 keeps: the versions so far, and the levels (one at most), blocks and instructions that are due.
-#[derive(Drop)]
+#[derive(Clone, Copy)]
 pub struct Due {
     pub versions: usize,
     pub levels: usize,
@@ -202,7 +204,7 @@ pub struct Due {
 }
 
 /// What question 4 says to a record: what is due after it, or no.
-#[derive(Drop)]
+#[derive(Clone, Copy)]
 pub enum Turn {
     Next(Due),
     Refused,

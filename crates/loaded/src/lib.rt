@@ -1,5 +1,6 @@
 //! The loaded form of an image: where its versions, blocks and instructions stand, in a table of bytes that the caller lends.
 //! Image and table stand for a program, whatever they hold: no public function here requires anything of them.
+#![tactic(auto)]
 ghost use Rattle.std.specs.Prelude.{◌≡◌, ℕ, ◌+◌, ◌*◌, ◌<◌, ◌≤◌, min, length, set};
 ghost use Rattle.layout.specs.Bounds.{IMAGE};
 ghost use Rattle.layout.specs.Records.{◌!◌, rec_at, records};
@@ -26,7 +27,7 @@ pub const RECORDS: usize = 2304;
 
 /// What became of an image: its table is filled, with its number of versions; it is refused, by the number of the question and the offset;
 /// or the table is too short, with the bytes that it needs.
-#[derive(Drop)]
+#[derive(Clone, Copy)]
 pub enum Loaded {
     Ready(usize),
     Refused(u8, usize),
@@ -34,14 +35,14 @@ pub enum Loaded {
 }
 
 /// The number under which a version stands, 4 × function + version, or that there is none.
-#[derive(Drop)]
+#[derive(Clone, Copy)]
 pub enum Number {
     Of(u8),
     Missing,
 }
 
 /// The number of a block's record, or that there is no such block.
-#[derive(Drop)]
+#[derive(Clone, Copy)]
 pub enum BlockAt {
     Entry(u16),
     Missing,
@@ -49,7 +50,7 @@ pub enum BlockAt {
 
 /// What is next in a block: the instruction of a record, the end of the block, or nothing.
 /// A record behind the last one that an entry can say has a number of more than 16 bits.
-#[derive(Drop)]
+#[derive(Clone, Copy)]
 pub enum Next {
     Line(u32),
     End,
@@ -57,7 +58,7 @@ pub enum Next {
 }
 
 /// What is to be filled next: the entry of a block of the version at hand, and the record.
-#[derive(Drop)]
+#[derive(Clone, Copy)]
 pub struct Cursor {
     pub block: usize,
     pub next: usize,

@@ -1,10 +1,11 @@
 //! The abstract machine of paper 01: the state of a run and the answers to those who drive it.
+#![tactic(auto)]
 ghost use Rattle.std.specs.Prelude.{◌≡◌};
 ghost use Rattle.machine.specs.States.{new_frame, register, named, with_register, with_name, refers, is_vector, is_promise};
 ghost use Rattle.machine.specs.Frames.{read_of, written_of, is_at, holds};
 
 /// What a register or a name holds: nothing, an integer, or the place of a vector or a promise.
-#[derive(Drop)]
+#[derive(Clone, Copy)]
 pub enum Value {
     Empty,
     Integer(i64),
@@ -13,13 +14,13 @@ pub enum Value {
 }
 
 /// A register or a name of a frame.
-#[derive(Drop)]
+#[derive(Clone, Copy)]
 pub struct Place {
     pub value: Value,
 }
 
 /// The frame of a live call: the numbers of the version entered, its registers and its names.
-#[derive(Drop)]
+#[derive(Clone, Copy)]
 pub struct Frame {
     pub function: u8,
     pub version: u8,
@@ -28,14 +29,14 @@ pub struct Frame {
 }
 
 /// What opened an activation: a call, or the force of the promise at a place.
-#[derive(Drop)]
+#[derive(Clone, Copy)]
 pub enum Opener {
     Call,
     Force(u8),
 }
 
 /// A block at work in a frame; `d` is the register, in the frame of the activation below, that waits for its result.
-#[derive(Drop)]
+#[derive(Clone, Copy)]
 pub struct Activation {
     pub opener: Opener,
     pub d: u8,
@@ -45,21 +46,21 @@ pub struct Activation {
 }
 
 /// A vector: the first `length` of the items.
-#[derive(Drop)]
+#[derive(Clone, Copy)]
 pub struct Vector {
     pub length: u8,
     pub items: [i64; 16],
 }
 
 /// What the force of a promise has left.
-#[derive(Drop)]
+#[derive(Clone, Copy)]
 pub enum Cache {
     Unforced,
     Forced(i64),
 }
 
 /// A block delayed in a frame.
-#[derive(Drop)]
+#[derive(Clone, Copy)]
 pub struct Promise {
     pub frame: u8,
     pub block: u8,
@@ -67,7 +68,7 @@ pub struct Promise {
 }
 
 /// How a run ended: DONE with an integer, DONE with a vector of that length, or a stop.
-#[derive(Drop)]
+#[derive(Clone, Copy)]
 pub enum End {
     Integer(i64),
     Vector(u8),
@@ -78,7 +79,7 @@ pub enum End {
 }
 
 /// Whether a run goes on.
-#[derive(Drop)]
+#[derive(Clone, Copy)]
 pub enum Status {
     Running,
     Ended(End),
@@ -99,7 +100,7 @@ pub struct State {
 }
 
 /// What a single step says.
-#[derive(Drop)]
+#[derive(Clone, Copy)]
 pub enum Said {
     GoesOn,
     Ended(End),
@@ -131,7 +132,7 @@ pub struct Ran {
 }
 
 /// Whether a run has begun, or a refusal's number and offset.
-#[derive(Drop)]
+#[derive(Clone, Copy)]
 pub enum Entry {
     Begun,
     Refused(u8, u16),
@@ -145,7 +146,7 @@ pub enum Changed {
 }
 
 /// Where a run stands at a DISPATCH: how many versions its search looks at, and how many the function has.
-#[derive(Drop)]
+#[derive(Clone, Copy)]
 pub enum Search {
     Elsewhere,
     Looked(u8, u8),
@@ -159,7 +160,7 @@ pub struct Begun {
 }
 
 /// 02, request 8: how many steps lie behind a state since its start or the last change of its image; past 4,294,967,295 none does any more.
-#[derive(Drop)]
+#[derive(Clone, Copy)]
 pub enum Behind {
     Steps(u32),
     Past,
@@ -189,21 +190,21 @@ pub struct Returned {
 
 /// What each of eight runs reserves of 64 vectors, and how many each has; in the layout of C.
 #[repr(C)]
-#[derive(Drop)]
+#[derive(Clone, Copy)]
 pub struct Pool {
     pub reserves: [u8; 8],
     pub has: [u8; 8],
 }
 
 /// Whether a pool is made, or a refusal's number and offset.
-#[derive(Drop)]
+#[derive(Clone, Copy)]
 pub enum Made {
     Ready,
     Refused(u8, u16),
 }
 
 /// What a single step in a pool says: a refusal's number and offset, or what a single step says.
-#[derive(Drop)]
+#[derive(Clone, Copy)]
 pub enum PoolSaid {
     Refused(u8, u16),
     GoesOn,
@@ -214,7 +215,7 @@ pub enum PoolSaid {
 /// A register of the topmost call, for a service screen: its declared type, and what it holds: 0 nothing, 1 the integer, 2 the vector's
 /// length and items, 3 the promise's mark. All other numbers are 0.
 #[repr(C)]
-#[derive(Drop)]
+#[derive(Clone, Copy)]
 pub struct Row {
     pub integer: i64,
     pub items: [i64; 16],
@@ -225,28 +226,28 @@ pub struct Row {
 }
 
 /// How many records of the topmost call were filled, or a refusal's number and offset.
-#[derive(Drop)]
+#[derive(Clone, Copy)]
 pub enum Watch {
     Filled(u8),
     Refused(u8, u16),
 }
 
 /// What reading a register or a name finds: its value, or that the frame has no such place.
-#[derive(Drop)]
+#[derive(Clone, Copy)]
 pub enum Read {
     Outside,
     Holds(Value),
 }
 
 /// What writing a register or a name leaves: the frame, as it was where it has no such place, and whether it has one.
-#[derive(Drop)]
+#[derive(Clone, Copy)]
 pub struct Written {
     pub frame: Frame,
     pub inside: bool,
 }
 
 /// What a value may refer to: the vector or the promise at a place.
-#[derive(Drop)]
+#[derive(Clone, Copy)]
 enum Referent {
     Vector(u8),
     Promise(u8),

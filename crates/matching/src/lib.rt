@@ -2,6 +2,7 @@
 //! `image` and `table` are the loaded program, `bytes` the state's bytes; no answer depends on the state's numbers.
 //! Versions are told by their numbers in the table. Kinds are numbers, 0 where there is none.
 //! What a function requires, its callers keep: the loop of `running`, and `searches`, which asks first.
+#![tactic(auto)]
 ghost use Rattle.std.specs.Prelude.{◌≡◌, ◌*◌, ◌/◌, ◌%◌, ◌<◌, ◌≤◌, min, length, take};
 ghost use Rattle.layout.specs.Records.{◌!◌, every};
 ghost use Rattle.machine.specs.Calls.{versions_of};
@@ -25,7 +26,7 @@ const KINDLESS: u32 = 65536;
 const ROWS: usize = 64;
 
 /// Whether arguments fit a version: they do, with a bit for each that goes to an owned parameter; or not.
-#[derive(Drop)]
+#[derive(Clone, Copy)]
 pub enum Fit {
     Yes(u8),
     No,
@@ -33,7 +34,7 @@ pub enum Fit {
 
 /// What a CALL or DISPATCH comes to before it opens a call: the number of the version that it calls and a bit for each argument that goes
 /// to an owned parameter; UNDEF where none fits; or stuck.
-#[derive(Drop)]
+#[derive(Clone, Copy)]
 pub enum Choice {
     Version(u8, u8),
     Undef,
@@ -41,7 +42,7 @@ pub enum Choice {
 }
 
 /// Where a CALL or DISPATCH stands: its frame, the number of its version, its place, its kind, how many registers it lists.
-#[derive(Drop)]
+#[derive(Clone, Copy)]
 pub struct Site {
     pub frame: usize,
     pub own: u8,

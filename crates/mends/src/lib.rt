@@ -1,4 +1,5 @@
 //! The smallest mend of a refused image: one register type byte, tried in a copy.
+#![tactic(auto)]
 ghost use Rattle.std.specs.Prelude.{◌≡◌, not, true, ◌+◌, ◌<◌, length};
 ghost use Rattle.layout.specs.Records.{◌!◌, records};
 ghost use Rattle.program.specs.Program.{program};
@@ -15,7 +16,7 @@ use program::{Here, lookup, pass};
 use typing::{question6, question8, question9};
 
 /// A register type byte and its new value, or that none mends.
-#[derive(Drop)]
+#[derive(Clone, Copy)]
 pub enum Change {
     To(usize, u8),
     Nowhere,
@@ -24,7 +25,7 @@ pub enum Change {
 /// What can be done for an image: nothing need be, it is accepted, with its number of versions; nothing can, it is refused by another
 /// question than 6, 8, 9 and 10, with its number and the offset; beside such a refusal the offset of the byte and its new value, or
 /// that no such byte exists.
-#[derive(Drop)]
+#[derive(Clone, Copy)]
 pub enum Mended {
     Accepted(usize),
     Refused(u8, usize),

@@ -1,4 +1,5 @@
 //! An image moved to the other form, into a lent buffer.
+#![tactic(auto)]
 ghost use Rattle.std.specs.Prelude.{◌≡◌, ◌+◌, ◌≤◌, length};
 ghost use Rattle.layout.specs.Forms.{literal_kind, moved, other, sign_byte};
 ghost use Rattle.layout.specs.Records.{◌!◌, size_at, kind_at, body_at, rec_at, records};
@@ -11,14 +12,14 @@ use checker::{Verdict, questions};
 use layout::Form;
 
 /// What becomes of a move: the length of the image in the other form, which the buffer has from place 0 on; or a refusal, with the question's number and the offset.
-#[derive(Drop)]
+#[derive(Clone, Copy)]
 pub enum Moving {
     Written(usize),
     Refused(u8, usize),
 }
 
 /// How long the image is in the other form, or the offset of the first literal that does not fit 32 bits.
-#[derive(Drop)]
+#[derive(Clone, Copy)]
 pub enum Extent {
     Long(usize),
     Unfit(usize),

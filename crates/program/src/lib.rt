@@ -1,4 +1,5 @@
 //! The program of an image: look-up and decoding of its versions, blocks and instructions, and questions 7 and 14.
+#![tactic(auto)]
 
 pub mod decode;
 pub mod lookup;
@@ -7,7 +8,7 @@ pub mod question14;
 pub mod question7;
 
 /// An instruction's fields; of a list of operands the length, while the operands stay in the image.
-#[derive(Drop)]
+#[derive(Clone, Copy)]
 pub enum Instruction {
     Lit {
         d: u8,
@@ -106,7 +107,7 @@ pub enum Instruction {
 
 /// Where a pass along the records stands: in the version whose record is at `version`, with so many of its blocks begun.
 /// Where no record is at `version`, it stands outside of all versions.
-#[derive(Drop)]
+#[derive(Clone, Copy)]
 pub struct Here {
     pub version: usize,
     pub blocks: usize,

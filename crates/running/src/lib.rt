@@ -1,5 +1,6 @@
 //! Steps of a run under a budget, over a loaded image and the two arrays of a state.
 //! `bytes` and `numbers` are the state; `counts` says what refers to its vectors and promises.
+#![tactic(auto)]
 ghost use Rattle.std.specs.Prelude.{◌≡◌, ◌<◌, ◌≤◌};
 ghost use Rattle.layout.specs.Records.{◌!◌};
 ghost use Rattle.loaded.specs.Loaded.{program_in};
@@ -17,14 +18,14 @@ use turning::{Spot, Turn};
 const VECTORS: u8 = 64;
 
 /// How many steps a run may take, and how many vectors it may have meanwhile.
-#[derive(Drop)]
+#[derive(Clone, Copy)]
 pub struct Budget {
     pub steps: u32,
     pub vectors: u8,
 }
 
 /// How a budget pauses: it is used up, the run has ended, or it is stuck.
-#[derive(Drop)]
+#[derive(Clone, Copy)]
 pub enum Pause {
     Steps,
     Ended,
@@ -32,7 +33,7 @@ pub enum Pause {
 }
 
 /// How a budget pauses, and the steps that were taken under it.
-#[derive(Drop)]
+#[derive(Clone, Copy)]
 pub struct Counted {
     pub pause: Pause,
     pub steps: u32,

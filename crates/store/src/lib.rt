@@ -3,6 +3,7 @@
 //! each vector and promise, how many force each promise, and how many cells of each live frame refer to one.
 //! Each function says by the machine's own definitions what it does to the state that the arrays stand for.
 //! What they require, the loop of `running` keeps, and a test would cost each step; `whereabouts` and `searches` ask first.
+#![tactic(auto)]
 ghost use Rattle.std.specs.Prelude.{◌≡◌, length};
 
 pub mod cells;
@@ -10,7 +11,7 @@ pub mod heap;
 pub mod stack;
 
 /// What stops a step.
-#[derive(Drop)]
+#[derive(Clone, Copy)]
 pub enum Halt {
     Undef,
     Deep,
@@ -19,7 +20,7 @@ pub enum Halt {
 }
 
 /// What a part of a step has done: its work, or nothing, where it is stuck or stopped.
-#[derive(Drop)]
+#[derive(Clone, Copy)]
 pub enum Did {
     On,
     Stuck,
@@ -27,7 +28,7 @@ pub enum Did {
 }
 
 /// An integer operand, or stuck.
-#[derive(Drop)]
+#[derive(Clone, Copy)]
 pub enum Whole {
     Is(i64),
     Stuck,

@@ -1,6 +1,7 @@
 //! One step of a run at its spot, over a loaded image and the two arrays of a state.
 //! `bytes` and `numbers` are the state; `counts` says what refers to its vectors and promises.
 //! It serves the loop of `running`; what a function requires, the loop keeps, and a test would cost each step.
+#![tactic(auto)]
 ghost use Rattle.std.specs.Prelude.{List, ◌≡◌, ℕ, ◌+◌, ◌<◌, ◌≤◌, drop, length, take};
 ghost use Rattle.layout.specs.declared.Form.{Form};
 ghost use Rattle.layout.specs.Records.{◌!◌, fields};
@@ -24,7 +25,7 @@ use store::{Did, Halt, Whole, cells, stack};
 
 /// Where a run stands: its frame, the record of its block, the record that comes next and the one behind its last instruction;
 /// `last` is 0 where it stands nowhere. The run may have `most` vectors.
-#[derive(Drop)]
+#[derive(Clone, Copy)]
 pub struct Spot {
     pub frame: usize,
     pub block: usize,
@@ -35,7 +36,7 @@ pub struct Spot {
 
 /// What a turn has done: gone on to the next instruction, or over some; gone to another activation, whose place stands in the state;
 /// ended the run; nothing but to the number of the next instruction, where it is stuck or stopped; or it is left to the rest of the loop.
-#[derive(Drop)]
+#[derive(Clone, Copy)]
 pub enum Turn {
     On,
     Over(usize),

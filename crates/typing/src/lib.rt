@@ -1,4 +1,5 @@
 //! Type bytes, and questions 6, 8, 18 and 9.
+#![tactic(auto)]
 
 mod arguments;
 mod fits;
@@ -10,7 +11,7 @@ mod registers;
 pub mod types;
 
 /// A type byte taken apart: the kind of an owned type, or that the type is not owned.
-#[derive(Drop)]
+#[derive(Clone, Copy)]
 pub enum Owned {
     Kind(usize),
     Not,
@@ -18,7 +19,7 @@ pub enum Owned {
 
 /// Where the arguments of a call stand: `n` types in the record at `place` from the field `types` on, and as many registers
 /// in the call's own record from the field `registers` on, each `step` behind the one before.
-#[derive(Drop)]
+#[derive(Clone, Copy)]
 pub struct Call {
     pub place: usize,
     pub types: usize,

@@ -1,5 +1,6 @@
 //! What is asked of a state: where it stands in its image, by the numbers of its version, its block and what is next there, and by an offset;
 //! and what a place of a live call holds.
+#![tactic(auto)]
 ghost use Rattle.std.specs.Prelude.{List, ◌≡◌, ◌-◌, ℤ};
 ghost use Rattle.loaded.specs.Loaded.{place_in, program_in};
 ghost use Rattle.machine.specs.Frames.{read_of};
@@ -29,7 +30,7 @@ const DEPTH: usize = 2625;
 
 /// Where a state stands: at an instruction or at the end of a block, with the function, the version, the block, the number of
 /// what is next in the block, and the offset of the instruction's record, or at the end of the block's own.
-#[derive(Drop)]
+#[derive(Clone, Copy)]
 pub enum Where {
     Nowhere,
     Instruction(u8, u8, u8, u8, usize),

@@ -1,4 +1,6 @@
 //! Decimal numbers and byte strings, written into a lent buffer. What does not fit is not written.
+#![tactic(auto)]
+
 ghost use Rattle.std.specs.Prelude.{◌≡◌, [], ◌∷◌, ◌+◌, ◌%◌, ◌≤◌, leb, length};
 ghost use Rattle.writer.specs.Text.{decimal, placed};
 

@@ -1,0 +1,14 @@
+-- `layout::literal_length`: one for each form.
+use Rattle.layout.specs.Forms.{literal_length}
+use mathlib.Core.Path.{refl}
+use Rattle.layout.proofs.literal_length.Goals as goal
+
+pub returns-in-Narrow : goal.returns-in-Narrow
+unfolding literal_length
+returns-in-Narrow c =
+    rw c.in-Narrow.is refl
+
+pub returns-in-Wide : goal.returns-in-Wide
+unfolding literal_length
+returns-in-Wide c =
+    rw c.in-Wide.is refl

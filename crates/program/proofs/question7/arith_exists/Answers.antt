@@ -1,0 +1,20 @@
+-- `program::question7::arith_exists`: one test for each register and name.
+use Rattle.layout.proofs.Bools.{and-on, and-off, and-true, is_below, is-above}
+use Rattle.layout.specs.Records.{body_at, choose, every}
+use Rattle.layout.specs.Tests.{all}
+use Rattle.program.proofs.Existence.{all_same}
+use Rattle.program.specs.Program.{instr_by}
+use Rattle.program.specs.Questions.{exists}
+use mathlib.Core.Path.{refl, sym, ◌∙◌}
+use Rattle.program.proofs.question7.arith_exists.Goals as goal
+
+pub returns-then-field-registers : goal.returns-then-field-registers
+unfolding exists instr_by choose all every
+returns-then-field-registers c =
+    c.all_exist.ensures ∙ all_same {n = 2} (body_at c.args.image.now c.args.p) 2 1 c.registers-registers.ensures.0 refl
+    ∙ sym (and-on _ (is_below c.field.ensures.0 c.registers-registers.ensures.0 c.if-field-registers.true) ∙ simp and-true)
+
+pub returns-else-field-registers : goal.returns-else-field-registers
+unfolding exists instr_by choose
+returns-else-field-registers c =
+    sym (and-off _ (is-above c.field.ensures.0 c.registers-registers.ensures.0 c.if-field-registers.false))
