@@ -92,6 +92,9 @@ class Function:
             return "c." + ".".join(rest)
         fits = [k for k, it in enumerate(chain) if norm(self.places[it][1][0]) == word]
         if not fits:
+            word = re.sub(r"-?\d+$", "", word)
+            fits = [k for k, it in enumerate(chain) if norm(self.places[it][1][0]) == word]
+        if not fits:
             look(self.path, f"{where}: no step {rest[0]}")
             return "c." + ".".join(rest)
         best = min(fits, key=lambda k: abs(k - depth))

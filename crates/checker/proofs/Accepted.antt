@@ -14,7 +14,7 @@ use Rattle.program.specs.Questions.{question7}
 use Rattle.program.specs.Skips.{question14}
 use Rattle.program.proofs.Held.{holds}
 use Rattle.program.specs.Held.{bounds}
-use Rattle.program.proofs.Laid.{in_bounds}
+use Rattle.program.proofs.Laid.{in_bounds_lem}
 use Rattle.rules.specs.Questions.{question6, question8, question9, question18}
 use Rattle.rules.specs.Flows.{question10}
 use Rattle.checker.specs.Verdicts.{verdict_of, verdict_in}
@@ -90,7 +90,7 @@ checked s k e f w v h =
     let P = program (records s) in
     let all = passed s k e in
     record {
-      bound = holds bounds P (in_bounds (length s) (records s) all.q4) f w v h;
+      bound = holds bounds P (in_bounds_lem (length s) (records s) all.q4) f w v h;
       types = holds question6 P all.q6 f w v h;
       exist = holds (question7 P) P all.q7 f w v h;
       fit = holds (question8 P) P all.q8 f w v h;

@@ -18,7 +18,7 @@ use Rattle.layout.proofs.Lists.{Each, each-get}
 use Rattle.sets.specs.Sets.{Set, size}
 use Rattle.program.specs.Program.{Version, Program, program}
 use Rattle.program.proofs.Held.{Helds, helds}
-use Rattle.program.proofs.Laid.{bounds, in_bounds, version_bounded}
+use Rattle.program.proofs.Laid.{bounds, in_bounds_lem, version_bounded}
 use Rattle.rules.specs.Actions.{Action, body_action}
 use Rattle.writer.specs.Text.{text, decimal}
 use Rattle.writer.proofs.Digits.{length-one, length_more}
@@ -163,7 +163,7 @@ refusals-short form s q p e =
     refusal-short q p (rw e at h) (omega (arith, refused-low form s q p e))
 
 lines_of : (form : Form) (s : List ℕ) (n : ℕ) → verdict_in form s ≡ Accepted n → Each (Short (program (records s))) (program (records s))
-lines_of form s n e = let a = all-passed s n e in each-short (program (records s)) (program (records s)) (helds bounds (program (records s)) (in_bounds (length s) (records s) a.q4))
+lines_of form s n e = let a = all-passed s n e in each-short (program (records s)) (program (records s)) (helds bounds (program (records s)) (in_bounds_lem (length s) (records s) a.q4))
 
 pub lines-few : LinesShort
 unfolding LinesShort

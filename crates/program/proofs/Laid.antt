@@ -181,6 +181,6 @@ laid end (r ∷ rs) d h = let p = passed _ _ r.at h in let t = and_both _ _ p.0 
     whole e x = rw e x
 
 -- an image that question 4 passes has a program within bounds
-pub in_bounds : (end : ℕ) (rs : List Rec) → question4 end rs ≡ Nothing → first bounds (program rs) ≡ Nothing
+pub in_bounds_lem : (end : ℕ) (rs : List Rec) → question4 end rs ≡ Nothing → first bounds (program rs) ≡ Nothing
 unfolding question4
-in_bounds end rs h = (laid end rs _ h).versions
+in_bounds_lem end rs h = (laid end rs _ h).versions

@@ -5,7 +5,7 @@ use Rattle.writer.proofs.Placed.{placed_past}
 use Rattle.writer.proofs.put_bytes.Goals as goal
 
 pub copy-requires : goal.copy-requires
-copy-requires c = leb-true _ _ (sym c.fits2.ensures ∙ c.if-fits.true)
+copy-requires c = leb-true _ _ (sym c.fits.ensures ∙ c.if-fits.true)
 
 pub returns-else-fits : goal.returns-else-fits
-returns-else-fits c = sym (placed_past _ _ _ (leb-false _ _ (sym c.fits2.ensures ∙ c.if-fits.false)))
+returns-else-fits c = sym (placed_past _ _ _ (leb-false _ _ (sym c.fits.ensures ∙ c.if-fits.false)))

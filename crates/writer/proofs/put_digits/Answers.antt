@@ -25,7 +25,7 @@ pub overflow_add-end : goal.overflow_add-end
 overflow_add-end c = omega arith
 
 pub loop-front-init : goal.loop-front-init
-loop-front-init c = (omega arith, omega arith, c.requires.1, refl, refl)
+loop-front-init c = (omega arith, omega arith, c.requires.size_in_bounds, refl, refl)
 
 pub overflow_sub-end : goal.overflow_sub-end
 overflow_sub-end c = omega (arith, length_more c.loop-front.front (omega arith) (omega arith))

@@ -6,8 +6,8 @@ use Rattle.writer.proofs.put_number.Goals as goal
 
 pub put_digits-requires : goal.put_digits-requires
 put_digits-requires c =
-    (c.digits_of-size.ensures.0, leb-true _ _ (sym c.fits2.ensures ∙ c.if-fits.true))
+    record { size_value = c.digits_of-size.ensures.0; size_in_bounds = leb-true _ _ (sym c.fits.ensures ∙ c.if-fits.true) }
 
 pub returns-else-fits : goal.returns-else-fits
 returns-else-fits c =
-    sym (placed_past _ _ _ (leb-false _ _ (rw (← c.digits_of-size.ensures.0) (sym c.fits2.ensures ∙ c.if-fits.false))))
+    sym (placed_past _ _ _ (leb-false _ _ (rw (← c.digits_of-size.ensures.0) (sym c.fits.ensures ∙ c.if-fits.false))))

@@ -14,4 +14,4 @@ unfolding number_in
 returns c =
     let u = c.word.result + 4294967296 * c.word-2.result in
     let f : Fits w64 u = record { fits = omega (arith, c.word.ensures.1, c.word-2.ensures.1) } in
-    to_z-of_z (rw c.signed_of.ensures (to_z-Fits w64 u f)) ∙ c.signed_of.ensures ∙ rw (c.word.ensures.0, c.word-2.ensures.0) refl
+    to_z-of_z {w = w64} (rw c.signed_of.ensures (to_z-Fits w64 u f)) ∙ c.signed_of.ensures ∙ rw (c.word.ensures.0, c.word-2.ensures.0) refl
