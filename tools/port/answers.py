@@ -88,6 +88,7 @@ class Function:
 
     def step(self, chain, depth, rest, where):
         word = norm(rest[0])
+        rest = [it.replace("well-formed", "well_formed") for it in rest[:1]] + rest[1:]
         if word in ("args", "requires", "ranges", "lifetimes", "well-formed", "type-inv"):
             return "c." + ".".join(rest)
         fits = [k for k, it in enumerate(chain) if norm(self.places[it][1][0]) == word]

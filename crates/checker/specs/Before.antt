@@ -1,7 +1,7 @@
 -- Filling a register again (02, 9): the verdict and the text before, and that an image which was accepted is accepted, with the same text.
 use Rattle.std.specs.Prelude.{◌≡◌, ℕ, length}
 use mathlib.Core.List.{List, [], ◌∷◌, ◌++◌, flat_map}
-use Rattle.std.proofs.Math.Option.{Option·elim}
+use Rattle.std.proofs.Math.Option.{Option-elim}
 use Rattle.layout.specs.Records.{records}
 use Rattle.layout.specs.Questions.{question1, question2, question3, question4, question5}
 use Rattle.layout.specs.declared.Form.{Form}
@@ -38,7 +38,7 @@ verdict₀ form s = ending_with form (first (question10₀ (program (records s))
 
 -- the four counts of a version before
 unfoldable pub counts₀ : Program → Version → List ℕ
-counts₀ P v = Option·elim (body_action₀ P v) [] (λ a. size a.R ∷ size a.W ∷ size a.U ∷ size a.C ∷ [])
+counts₀ P v = Option-elim (body_action₀ P v) [] (λ a. size a.R ∷ size a.W ∷ size a.U ∷ size a.C ∷ [])
 
 -- the text of an answer before
 unfoldable pub answer₀ : Program → Verdict → List ℕ

@@ -1,6 +1,6 @@
 -- Program: the bytes that `check` prints.
 use mathlib.Core.List.{List, [], ◌∷◌, ◌++◌, flat_map}
-use Rattle.std.proofs.Math.Option.{Option·elim}
+use Rattle.std.proofs.Math.Option.{Option-elim}
 use Rattle.std.specs.Prelude.{cond, ℕ, length, leb, ◌≡◌}
 use Rattle.layout.specs.Records.{records}
 use Rattle.layout.specs.declared.Form.{Form}
@@ -19,7 +19,7 @@ use Rattle.checker.specs.declared.Reported.TheVariants.{Written, Short}
 
 -- the counts of registers in each set of a version's body: R W U C
 unfoldable pub counts : Program → Version → List ℕ
-counts P v = Option·elim (body_action P v) [] (λ a. size a.R ∷ size a.W ∷ size a.U ∷ size a.C ∷ [])
+counts P v = Option-elim (body_action P v) [] (λ a. size a.R ∷ size a.W ∷ size a.U ∷ size a.C ∷ [])
 
 -- counts, each behind a space
 unfoldable pub spaced : List ℕ → List ℕ

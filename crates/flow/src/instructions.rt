@@ -1,6 +1,6 @@
 //! What each instruction does to registers.
 ghost use Rattle.std.specs.Prelude.{◌≡◌, [], ◌∷◌, ◌<◌};
-ghost use Rattle.std.proofs.Math.Option.{Option·elim};
+ghost use Rattle.std.proofs.Math.Option.{Option-elim};
 ghost use Rattle.layout.specs.Bounds.{REGISTERS};
 ghost use Rattle.layout.specs.Records.{records, body_at, every, fields, ◌!◌};
 ghost use Rattle.layout.specs.Kinds as kind;
@@ -127,7 +127,7 @@ fn promising(image: &[u8], p: usize, entered: Flowed) -> Flowed
 fn call_empties(image: &[u8], table: &[usize; 128], p: usize) -> u16
     requires { table.now ≡ table_of image.now }
     ensures { setOf REGISTERS result
-        ≡ those REGISTERS (Option·elim (find_version (program (records image.now)) (body_at image.now p ! 1) (body_at image.now p ! 2)) []
+        ≡ those REGISTERS (Option-elim (find_version (program (records image.now)) (body_at image.now p ! 1) (body_at image.now p ! 2)) []
         (λ c. emptied (given c (fields (body_at image.now p) 4 (body_at image.now p ! 3))))) }
 {
     let f = layout::field(image, p, 1);

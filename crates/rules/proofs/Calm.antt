@@ -156,7 +156,7 @@ calm-past (some n) b w h g =
 calm_walk : (skip : Instr → Option ℕ) (act : Instr → Option Action) (w : Walk) (ls : List Line) → CalmWalk w → ((i : ℕ) (l : Line) → get_elem? ls i ≡ some l → Calm (act l.does)) → CalmWalk (walk skip act w ls)
 unfolding walk
 calm_walk skip act w [] h g = h
-calm_walk skip act w (l ∷ ls) h g = calm_walk skip act _ ls (calm-past (skip l.does) (act l.does) w h (g 0 l refl)) (λ i m e. g (suc i) m e)
+calm_walk skip act w (l ∷ ls) h g = calm_walk skip act (past (skip l.does) (act l.does) w) ls (calm-past (skip l.does) (act l.does) w h (g 0 l refl)) (λ i m e. g (suc i) m e)
 
 pub blank : (k n : ℕ) → get_or {A = Option Action} (replicate k none) n none ≡ none
 blank zero n = refl

@@ -1,6 +1,6 @@
 -- Flow: actions, what an instruction does to registers, and what a block does.
 use Rattle.std.specs.Prelude.{List, [], ◌∷◌, map, Bool, cond, ◌||◌, ℕ, ◌+◌, ◌-◌, length, take, drop, get_or, set, replicate, ltb}
-use Rattle.std.proofs.Math.Option.{Option, none, some, Option·elim}
+use Rattle.std.proofs.Math.Option.{Option, none, some, Option-elim}
 use Rattle.layout.specs.Bounds.{REGISTERS, INSTRUCTIONS}
 use Rattle.sets.specs.Sets.{Set, empty, those, ◌∪◌, ◌∩◌, ◌∖◌, meets}
 use Rattle.program.specs.Program.{Argument, Instr, LIT, MOVE, USE, DUP, VEC, LEN, GET, SET, ARITH, SELECT, CAST, NAMED, STORE, PROM, FORCE, PEEK, POKE, CALL, DISPATCH, SKIP, Line}
@@ -79,7 +79,7 @@ touch P (PROM d block) = enters block assigns d ∷ []
 touch P (FORCE d a) = reads a ∷ [] empties [] assigns d ∷ []
 touch P (PEEK d a x) = reads a ∷ [] empties [] assigns d ∷ []
 touch P (POKE a x e) = reads a ∷ e ∷ [] empties [] assigns []
-touch P (CALL d f w rs) = reads rs empties (Option·elim (find_version P f w) [] (λ c. emptied (given c rs))) assigns d ∷ []
+touch P (CALL d f w rs) = reads rs empties (Option-elim (find_version P f w) [] (λ c. emptied (given c rs))) assigns d ∷ []
 touch P (DISPATCH d f mark ret pairs) = reads (map (λ (a : Argument). a.register) pairs) empties (emptied pairs) assigns d ∷ []
 touch P (SKIP a n) = reads a ∷ [] skips n
 

@@ -1,0 +1,22 @@
+-- `typing::fits::get_fits`: one test after the other.
+use Rattle.layout.proofs.Bools.{and-on, and-off}
+use Rattle.layout.specs.Records.{choose}
+use Rattle.program.specs.Program.{instr_by}
+use Rattle.rules.specs.Fits.{fits}
+use mathlib.Core.Path.{sym, ◌∙◌}
+use Rattle.typing.proofs.fits.get_fits.Goals as goal
+
+pub returns-then-is_integer : goal.returns-then-is_integer
+unfolding fits instr_by choose
+returns-then-is_integer c =
+    c.takes_plain.ensures ∙ sym (and-on _ (sym c.is_vector.ensures ∙ c.if-is_vector.true) ∙ and-on _ (sym c.is_integer.ensures ∙ c.if-is_integer.true))
+
+pub returns-else-is_integer : goal.returns-else-is_integer
+unfolding fits instr_by choose
+returns-else-is_integer c =
+    sym (and-on _ (sym c.is_vector.ensures ∙ c.if-is_vector.true) ∙ and-off _ (sym c.is_integer.ensures ∙ c.if-is_integer.false))
+
+pub returns-else-is_vector : goal.returns-else-is_vector
+unfolding fits instr_by choose
+returns-else-is_vector c =
+    sym (and-off _ (sym c.is_vector.ensures ∙ c.if-is_vector.false))

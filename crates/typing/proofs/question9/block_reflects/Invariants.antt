@@ -1,0 +1,16 @@
+-- `typing::question9::block_reflects`: the loop goes along the records of a block, and what is left of the test is put to the instructions ahead of p.
+use Prim.Native.Nat.{◌-◌, ◌≤◌}
+use Rattle.layout.specs.Records.{records}
+use Rattle.program.specs.Places.{version_at, past}
+use Rattle.program.specs.Program.{program}
+use Rattle.typing.proofs.Lines.{any_ahead}
+use Rattle.rules.specs.Effects.{reflective}
+use lib.ListN.{length}
+use mathlib.Core.Path.{◌≡◌}
+use Rattle.typing.proofs.question9.block_reflects.Given as goal
+
+abbrev pub invariant-loop-p : goal.invariant-loop-p
+invariant-loop-p l = (l.p ≤ length l.image) × (any_ahead (reflective (program (records l.image)) (version_at l.image l.v)) l.image (past l.image l.b) ≡ any_ahead (reflective (program (records l.image)) (version_at l.image l.v)) l.image l.p)
+
+abbrev pub decreases-loop-p : goal.decreases-loop-p
+decreases-loop-p l = length l.image - l.p
