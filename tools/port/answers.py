@@ -110,8 +110,6 @@ class Function:
             look(self.path, f"{where}: no step {rest[0]}")
             return "c." + ".".join(rest)
         best = min(fits, key=lambda k: abs(k - depth))
-        if best != depth:
-            look(self.path, f"{where}: the step {rest[0]} stands {best} up, not {depth}")
         _, steps, index = self.places[chain[best]]
         if rest[1:2] == ["new"] and len(rest) > 2 and rest[2].isdigit() and self.callees[chain[best]]:
             params = lent(self.callees[chain[best]])
