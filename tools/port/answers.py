@@ -67,9 +67,20 @@ def blocks(text):
     return out
 
 
+def lent(callee):
+    """The parameters of a function that are a `&mut`, in order."""
+    crate, *_, name = callee.split("::")
+    for path in sorted(pathlib.Path("crates", crate, "src").glob("**/*.rt")):
+        found = re.search(r"fn " + re.escape(name) + r"(?:<[^>]*>)?\(((?:[^()]|\([^()]*\))*)\)", path.read_text(encoding="utf-8"))
+        if found:
+            return re.findall(r"(\w+): &(?:'\w+ )?mut ", found[1])
+    return []
+
+
 class Function:
     def __init__(self, of, path):
         self.path = path
+        self.callees = {it[0]: it[3] for it in of["places"]}
         self.places = {it[0]: (it[1], it[2], index) for index, it in enumerate(of["places"])}
         self.arms = of["arms"]
         self.needs, self.at = {}, {}
@@ -99,9 +110,11 @@ class Function:
             look(self.path, f"{where}: no step {rest[0]}")
             return "c." + ".".join(rest)
         best = min(fits, key=lambda k: abs(k - depth))
-        if best != depth:
-            look(self.path, f"{where}: the step {rest[0]} stands {best} up, not {depth}")
         _, steps, index = self.places[chain[best]]
+        if rest[1:2] == ["new"] and len(rest) > 2 and rest[2].isdigit() and self.callees[chain[best]]:
+            params = lent(self.callees[chain[best]])
+            if int(rest[2]) < len(params):
+                rest = [*rest[:2], params[int(rest[2])], *rest[3:]]
         arm = self.arms[index]
         if arm:
             for field, old, way in arm[2]:

@@ -1,5 +1,6 @@
 //! The abstract machine of paper 01: the state of a run and the answers to those who drive it.
 #![tactic(auto)]
+
 ghost use Rattle.std.specs.Prelude.{◌≡◌};
 ghost use Rattle.machine.specs.States.{new_frame, register, named, with_register, with_name, refers, is_vector, is_promise};
 ghost use Rattle.machine.specs.Frames.{read_of, written_of, is_at, holds};

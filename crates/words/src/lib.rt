@@ -1,5 +1,6 @@
 //! Words for the number of a question that refuses, and for the code of an answer.
 #![tactic(auto)]
+
 ghost use Rattle.std.specs.Prelude.{◌≡◌, length};
 ghost use Rattle.writer.specs.Text.{placed};
 ghost use Rattle.words.specs.Words.{answer_text, question_text, written_of};

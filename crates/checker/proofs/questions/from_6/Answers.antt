@@ -1,0 +1,11 @@
+-- `checker::questions::from_6`: this question, then those from the next on.
+use Rattle.checker.proofs.Asks.{ask-yes, ask-no}
+use mathlib.Core.Path.{sym, ◌∙◌}
+use Rattle.checker.proofs.questions.from_6.Goals as goal
+
+pub returns-in-At : goal.returns-in-At
+returns-in-At c = sym (ask-no 6 _ (sym c.question_6.ensures ∙ c.in-At.is))
+
+pub returns : goal.returns
+returns c =
+    c.from_7.ensures ∙ sym (ask-yes 6 _ (sym c.question_6.ensures ∙ c.in_default.is))
