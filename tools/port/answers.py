@@ -77,9 +77,38 @@ def lent(callee):
     return []
 
 
+def clauses(callee):
+    """The names of a function's clauses of each kind, where they have some."""
+    crate, *_, name = callee.split("::")
+    for path in sorted(pathlib.Path("crates", crate, "src").glob("**/*.rt")):
+        found = re.search(r"fn " + re.escape(name) + r"(?:<[^>]*>)?\((?:[^()]|\([^()]*\))*\)[^{]*?\n((?:    +[^\n]*\n)+)\{", path.read_text(encoding="utf-8"))
+        if found:
+            return {kind: re.findall(r"(?m)^    " + kind + r" (\w+) \{", found[1]) for kind in ("requires", "ensures")}
+    return {}
+
+
+def parts(text):
+    """The parts of a tuple, or none."""
+    text = text.strip()
+    if not text.startswith("(") or not text.endswith(")"):
+        return []
+    out, depth, last = [], 0, 1
+    for at, it in enumerate(text):
+        depth += it in "([{"
+        depth -= it in ")]}"
+        if depth == 0 and at < len(text) - 1:
+            return []
+        if depth == 1 and it == ",":
+            out.append(text[last:at].strip())
+            last = at + 1
+    out.append(text[last:-1].strip())
+    return [it for it in out if it]
+
+
 class Function:
-    def __init__(self, of, path):
+    def __init__(self, of, path, own=""):
         self.path = path
+        self.own = clauses(own) if own else {}
         self.callees = {it[0]: it[3] for it in of["places"]}
         self.places = {it[0]: (it[1], it[2], index) for index, it in enumerate(of["places"])}
         self.arms = of["arms"]
@@ -100,6 +129,8 @@ class Function:
     def step(self, chain, depth, rest, where):
         word = norm(rest[0])
         rest = [it.replace("well-formed", "well_formed") for it in rest[:1]] + rest[1:]
+        if word == "requires" and rest[1:2] and rest[1].isdigit() and self.own.get("requires"):
+            rest = [rest[0], self.own["requires"][int(rest[1])], *rest[2:]]
         if word in ("args", "requires", "ranges", "lifetimes", "well-formed", "type-inv"):
             return "c." + ".".join(rest)
         fits = [k for k, it in enumerate(chain) if norm(self.places[it][1][0]) == word]
@@ -115,6 +146,10 @@ class Function:
             params = lent(self.callees[chain[best]])
             if int(rest[2]) < len(params):
                 rest = [*rest[:2], params[int(rest[2])], *rest[3:]]
+        if rest[1:2] == ["ensures"] and len(rest) > 2 and rest[2].isdigit() and self.callees[chain[best]]:
+            named = clauses(self.callees[chain[best]]).get("ensures")
+            if named:
+                rest = [*rest[:2], named[int(rest[2])], *rest[3:]]
         arm = self.arms[index]
         if arm:
             for field, old, way in arm[2]:
@@ -125,6 +160,11 @@ class Function:
 
     def body(self, text, need):
         chain = self.up(self.at[need])
+        alias = re.compile(r"let ([\w'-]+) = \(?(c(?:\s*\.before)*)\)? in\s*")
+        found = alias.search(text)
+        while found:
+            text = text[: found.start()] + re.sub(BEGIN + re.escape(found[1]) + END, found[2], text[found.end() :])
+            found = alias.search(text)
 
         def one(found):
             parts = [it for it in re.split(r"\s*\.", found[2]) if it]
@@ -165,7 +205,7 @@ def used(lines, text):
 
 
 def turn(path, of, crate, module):
-    function = Function(of, path)
+    function = Function(of, path, crate + "::" + module.replace(".", "::"))
     text = path.read_text(encoding="utf-8")
     uses, head, answers, invariants, others = [], [], [], [], []
     comment = []
@@ -215,7 +255,7 @@ def turn(path, of, crate, module):
             comment = []
             continue
         need = norm(re.sub(r"^Need-", "", kind))
-        need = next((it for it in (need, re.sub(r"^overflow-", "", need)) if it in function.needs), need)
+        need = next((it for it in (need, re.sub(r"^(overflow|nonzero)-", "", need), norm(name)) if it in function.needs), need)
         if need not in function.needs:
             if not re.search(r"=\s*search rules\s*$", rest):
                 look(path, f"{kind}: no such goal" + (" (settled)" if need in function.settled else "") + ": " + " ".join(rest.split())[:200])
@@ -234,6 +274,10 @@ def turn(path, of, crate, module):
         if params[:1] != ["c"]:
             look(path, f"{name}: parameters {params}")
         said = function.body(clause[2], need)
+        asks = next((it for it in of["params"] if new.startswith(it.split("::")[-1]) and "requires" in new), None)
+        named = clauses(asks).get("requires") if asks else None
+        if named and len(parts(said)) == len(named):
+            said = " record { " + "; ".join(f"{a} = {b}" for a, b in zip(named, parts(said))) + " }"
         answers.append("\n".join(comment) + ("\n" if comment else "") + f"pub {new} : goal.{new}{between}\n{new} {' '.join(params)} ={said}")
         comment = []
     folder = path.parent

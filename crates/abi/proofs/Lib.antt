@@ -1,14 +1,7 @@
-pub mod Asking
 pub mod Delivering
 pub mod Ends
-pub mod Fields
-pub mod Lent
 pub mod Pausing
-pub mod Seen
 pub mod Starting
-pub mod Structs
 pub mod Texts
-pub mod TrailLent
 pub mod Trailing
 pub mod Pooling
-pub mod PoolLent

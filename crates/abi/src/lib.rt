@@ -1,5 +1,7 @@
-//! The interface in C, as include/fir.h declares it: the caller owns the state of a run and lends it to each call.
+//! The interface in C, as include/fir.h declares it: the caller owns the state of a run and lends it to each call. The crate abi_c exports
+//! each function to C under the same contract.
 #![tactic(auto)]
+
 ghost use Rattle.std.specs.Prelude.{◌≡◌, min, length};
 ghost use Rattle.layout.specs.Bounds.{IMAGE};
 ghost use Rattle.layout.specs.declared.Form.{Form};
@@ -48,8 +50,7 @@ pub mod state;
 pub mod trail;
 
 /// The number of the interface, and that of the layout of a stored state.
-#[unsafe(no_mangle)]
-pub extern "C" fn fir_version() -> FirVersion
+pub fn fir_version() -> FirVersion
     ensures { result ≡ version_numbers }
 {
     answers::version()
@@ -57,8 +58,7 @@ pub extern "C" fn fir_version() -> FirVersion
 
 /// Writes what a refusal by a question says from the place 0 on, and gives its length; a buffer that is too short is left as it
 /// was, and the answer is 0. So it is for a number that is no question's.
-#[unsafe(no_mangle)]
-pub extern "C" fn fir_question_text(question: u8, text: &mut [u8]) -> usize
+pub fn fir_question_text(question: u8, text: &mut [u8]) -> usize
     ensures { (result ≡ written_of (question_text question) (length text.old))
         × (text.new ≡ placed text.old 0 (question_text question)) }
 {
@@ -66,8 +66,7 @@ pub extern "C" fn fir_question_text(question: u8, text: &mut [u8]) -> usize
 }
 
 /// Writes what the code of an answer to a step or a budget says, as `fir_question_text` does; 0 for a number that is no code.
-#[unsafe(no_mangle)]
-pub extern "C" fn fir_answer_text(code: u8, text: &mut [u8]) -> usize
+pub fn fir_answer_text(code: u8, text: &mut [u8]) -> usize
     ensures { (result ≡ written_of (answer_text code) (length text.old))
         × (text.new ≡ placed text.old 0 (answer_text code)) }
 {
@@ -75,24 +74,21 @@ pub extern "C" fn fir_answer_text(code: u8, text: &mut [u8]) -> usize
 }
 
 /// The size of a state in bytes.
-#[unsafe(no_mangle)]
-pub extern "C" fn fir_state_size() -> usize
+pub fn fir_state_size() -> usize
     ensures { result ≡ state_size }
 {
     19664
 }
 
 /// The alignment of a state in bytes.
-#[unsafe(no_mangle)]
-pub extern "C" fn fir_state_alignment() -> usize
+pub fn fir_state_alignment() -> usize
     ensures { result ≡ state_alignment }
 {
     8
 }
 
 /// Checks an image.
-#[unsafe(no_mangle)]
-pub extern "C" fn fir_check(image: &[u8]) -> FirVerdict
+pub fn fir_check(image: &[u8]) -> FirVerdict
     ensures { result ≡ verdict_numbers (verdict_of image.now) }
 {
     answers::verdict(questions::verdict(image))
@@ -100,8 +96,7 @@ pub extern "C" fn fir_check(image: &[u8]) -> FirVerdict
 
 /// Writes the text that `check` prints from the place 0 on, and gives its length; a buffer that is too short is left as it
 /// was, and the answer is 0.
-#[unsafe(no_mangle)]
-pub extern "C" fn fir_report(image: &[u8], text: &mut [u8]) -> usize
+pub fn fir_report(image: &[u8], text: &mut [u8]) -> usize
     ensures { (result ≡ written_of (report_text image.now) (length text.old))
         × (text.new ≡ placed text.old 0 (report_text image.now)) }
 {
@@ -112,16 +107,14 @@ pub extern "C" fn fir_report(image: &[u8], text: &mut [u8]) -> usize
 }
 
 /// Checks an image in a form: 1 names that of 32 bits, any other number that of 64.
-#[unsafe(no_mangle)]
-pub extern "C" fn fir_check_in(image: &[u8], form: u8) -> FirVerdict
+pub fn fir_check_in(image: &[u8], form: u8) -> FirVerdict
     ensures { result ≡ verdict_numbers (verdict_in (form_of form) image.now) }
 {
     answers::verdict(questions::verdict_in(image, answers::form(form)))
 }
 
 /// As `fir_report`, of an image in a form.
-#[unsafe(no_mangle)]
-pub extern "C" fn fir_report_in(image: &[u8], form: u8, text: &mut [u8]) -> usize
+pub fn fir_report_in(image: &[u8], form: u8, text: &mut [u8]) -> usize
     ensures { (result ≡ written_of (report_in (form_of form) image.now) (length text.old))
         × (text.new ≡ placed text.old 0 (report_in (form_of form) image.now)) }
 {
@@ -133,8 +126,7 @@ pub extern "C" fn fir_report_in(image: &[u8], form: u8, text: &mut [u8]) -> usiz
 
 /// Moves an image of the 32-bit form to the 64-bit form: 0 and its length there, from the place 0 of the buffer on, or the
 /// question that refuses and the offset. A refusal writes nothing.
-#[unsafe(no_mangle)]
-pub extern "C" fn fir_widen(image: &[u8], out: &mut [u8]) -> FirVerdict
+pub fn fir_widen(image: &[u8], out: &mut [u8]) -> FirVerdict
     ensures { (result ≡ moved_numbers (move_of Form.Narrow image.now (length out.old)))
         × (out.new ≡ buffer_after Form.Narrow image.now out.old) }
 {
@@ -142,8 +134,7 @@ pub extern "C" fn fir_widen(image: &[u8], out: &mut [u8]) -> FirVerdict
 }
 
 /// Moves an image of the 64-bit form to the 32-bit form, as `fir_widen`.
-#[unsafe(no_mangle)]
-pub extern "C" fn fir_narrow(image: &[u8], out: &mut [u8]) -> FirVerdict
+pub fn fir_narrow(image: &[u8], out: &mut [u8]) -> FirVerdict
     ensures { (result ≡ moved_numbers (move_of Form.Wide image.now (length out.old)))
         × (out.new ≡ buffer_after Form.Wide image.now out.old) }
 {
@@ -153,12 +144,7 @@ pub extern "C" fn fir_narrow(image: &[u8], out: &mut [u8]) -> FirVerdict
 /// Lists the versions of an image with the most steps that a run of each takes: 0 and the number of rows, or the question that
 /// refuses the image and the offset. The row `i` has the function and the version at 2 × `i` and 2 × `i` + 1 of `numbers`, and its bound at
 /// `i` of `steps`. Rows past the last stay, and a refusal writes nothing.
-#[unsafe(no_mangle)]
-pub extern "C" fn fir_bounds(
-    image: &[u8],
-    numbers: &mut [u8; 128],
-    steps: &mut [u64; 64],
-) -> FirVerdict
+pub fn fir_bounds(image: &[u8], numbers: &mut [u8; 128], steps: &mut [u64; 64]) -> FirVerdict
     ensures { (result ≡ bounding_numbers (bounds_of image.now))
         × (numbers.new ≡ unless (bounds_of image.now) numbers.old (numbers_after numbers.old 0 (report (program_of image.now))))
         × (steps.new ≡ unless (bounds_of image.now) steps.old (steps_after steps.old 0 (report (program_of image.now)))) }
@@ -168,8 +154,7 @@ pub extern "C" fn fir_bounds(
 
 /// Joins two images, the first before the second, whose functions follow the first's: 0 and the length of the joined image, which the
 /// buffer has from the place 0 on, or the question that refuses, the offset and the image that it refuses. A refusal writes nothing.
-#[unsafe(no_mangle)]
-pub extern "C" fn fir_join(first: &[u8], second: &[u8], out: &mut [u8]) -> FirJoined
+pub fn fir_join(first: &[u8], second: &[u8], out: &mut [u8]) -> FirJoined
     ensures { (result ≡ joined_numbers (join_of first.now second.now (length out.old)))
         × (out.new ≡ joined_buffer first.now second.now out.old) }
 {
@@ -177,16 +162,14 @@ pub extern "C" fn fir_join(first: &[u8], second: &[u8], out: &mut [u8]) -> FirJo
 }
 
 /// The one register type byte whose change makes a refused image accepted, beside the refusal; the image is not written.
-#[unsafe(no_mangle)]
-pub extern "C" fn fir_mend(image: &[u8]) -> FirMended
+pub fn fir_mend(image: &[u8]) -> FirMended
     ensures { result ≡ mended_numbers (mend_of image.now) }
 {
     answers::mended(mends::mend(image))
 }
 
 /// How many bytes the table of an image of so many bytes needs.
-#[unsafe(no_mangle)]
-pub extern "C" fn fir_table_size(bytes: usize) -> usize
+pub fn fir_table_size(bytes: usize) -> usize
     ensures { result ≡ bytes_for (min bytes IMAGE) }
 {
     loaded::bytes_for(bytes)
@@ -194,8 +177,7 @@ pub extern "C" fn fir_table_size(bytes: usize) -> usize
 
 /// Checks an image and fills its table: image and table stand for the image's program then. On a refusal, and where the table is
 /// too short, they stand for the program without versions.
-#[unsafe(no_mangle)]
-pub extern "C" fn fir_load(image: &[u8], table: &mut [u8]) -> FirLoaded
+pub fn fir_load(image: &[u8], table: &mut [u8]) -> FirLoaded
     ensures { Loads image.now result table.old table.new }
 {
     answers::loaded(loaded::load(image, table))
@@ -203,8 +185,7 @@ pub extern "C" fn fir_load(image: &[u8], table: &mut [u8]) -> FirLoaded
 
 /// Begins a run, at a level, of a version of a function of a loaded image: its first state is written, every byte of it. A refusal
 /// writes nothing. The buffer is asked for its length only.
-#[unsafe(no_mangle)]
-pub extern "C" fn fir_begin(
+pub fn fir_begin(
     image: &[u8],
     table: &[u8],
     level: usize,
@@ -234,8 +215,7 @@ pub extern "C" fn fir_begin(
 }
 
 /// Takes a single step. A stuck step, and one of a run that has ended, write nothing.
-#[unsafe(no_mangle)]
-pub extern "C" fn fir_step(image: &[u8], table: &[u8], state: &mut FirState) -> FirSaid
+pub fn fir_step(image: &[u8], table: &[u8], state: &mut FirState) -> FirSaid
     ensures { StepCall image.now table.now result state.old state.new }
 {
     parts::step(image, table, &mut state.bytes, &mut state.numbers)
@@ -243,8 +223,7 @@ pub extern "C" fn fir_step(image: &[u8], table: &[u8], state: &mut FirState) -> 
 
 /// Takes at most `budget` steps. A vector that the run is DONE with is written to the buffer from the place 0 on; all else in
 /// the buffer stays. A refusal writes nothing, nor do a budget whose first step is stuck and one of a run that has ended to the state.
-#[unsafe(no_mangle)]
-pub extern "C" fn fir_budget(
+pub fn fir_budget(
     image: &[u8],
     table: &[u8],
     state: &mut FirState,
@@ -265,8 +244,7 @@ pub extern "C" fn fir_budget(
 }
 
 /// Begins a run of a loaded image at a level, and takes at most `budget` steps. A refusal writes nothing.
-#[unsafe(no_mangle)]
-pub extern "C" fn fir_run(
+pub fn fir_run(
     image: &[u8],
     table: &[u8],
     level: usize,
@@ -299,16 +277,14 @@ pub extern "C" fn fir_run(
 
 /// Whether the state goes on under the new image: its questions are asked, and then 15. Nothing is written: where the answer
 /// is 0 the caller goes on with the new image, else with the old one.
-#[unsafe(no_mangle)]
-pub extern "C" fn fir_change(old: &[u8], new: &[u8], state: &FirState) -> FirEntry
+pub fn fir_change(old: &[u8], new: &[u8], state: &FirState) -> FirEntry
     ensures { ChangeCall old.now new.now result state.now }
 {
     parts::change(old, new, &state.bytes)
 }
 
 /// 02, request 8: keeps the state as the start of a trail. No step lies behind.
-#[unsafe(no_mangle)]
-pub extern "C" fn fir_trail_start(state: &FirState, trail: &mut FirTrail)
+pub fn fir_trail_start(state: &FirState, trail: &mut FirTrail)
     ensures { Started state.now trail.new }
 {
     trails::start(
@@ -322,8 +298,7 @@ pub extern "C" fn fir_trail_start(state: &FirState, trail: &mut FirTrail)
 }
 
 /// Takes a single step, as `fir_step`, and counts it in the trail. One that does not count leaves the trail as it was.
-#[unsafe(no_mangle)]
-pub extern "C" fn fir_trail_step(
+pub fn fir_trail_step(
     image: &[u8],
     table: &[u8],
     state: &mut FirState,
@@ -342,8 +317,7 @@ pub extern "C" fn fir_trail_step(
 }
 
 /// Takes at most `budget` steps, as `fir_budget`, and counts them in the trail. Where none counts the trail is left as it was.
-#[unsafe(no_mangle)]
-pub extern "C" fn fir_trail_budget(
+pub fn fir_trail_budget(
     image: &[u8],
     table: &[u8],
     state: &mut FirState,
@@ -367,13 +341,7 @@ pub extern "C" fn fir_trail_budget(
 }
 
 /// Asks whether the state goes on under the new image, as `fir_change`. Where it does, the state is a new start; a refusal writes nothing.
-#[unsafe(no_mangle)]
-pub extern "C" fn fir_trail_change(
-    old: &[u8],
-    new: &[u8],
-    state: &FirState,
-    trail: &mut FirTrail,
-) -> FirEntry
+pub fn fir_trail_change(old: &[u8], new: &[u8], state: &FirState, trail: &mut FirTrail) -> FirEntry
     ensures { ChangesOn result old.now new.now state.now trail.old trail.new }
 {
     trail::change(
@@ -389,8 +357,7 @@ pub extern "C" fn fir_trail_change(
 }
 
 /// Takes a step back: 0, and the state is the one that one step less gives from the start; or 20 where no step lies behind, and nothing is written.
-#[unsafe(no_mangle)]
-pub extern "C" fn fir_trail_back(
+pub fn fir_trail_back(
     image: &[u8],
     table: &[u8],
     state: &mut FirState,
@@ -411,8 +378,7 @@ pub extern "C" fn fir_trail_back(
 }
 
 /// 02, request 10: makes a pool of these reserves, in which no number has a run; or 21, where they sum above 64, and the pool is left as it was.
-#[unsafe(no_mangle)]
-pub extern "C" fn fir_pool_make(reserves: &[u8; 8], pool: &mut Pool) -> FirEntry
+pub fn fir_pool_make(reserves: &[u8; 8], pool: &mut Pool) -> FirEntry
     ensures { MakesIn result reserves.now pool.old pool.new }
 {
     pool::make(reserves, &mut pool.reserves, &mut pool.has)
@@ -420,8 +386,7 @@ pub extern "C" fn fir_pool_make(reserves: &[u8; 8], pool: &mut Pool) -> FirEntry
 
 /// Begins a run under a number of the pool, as `fir_begin`. One that needs more vectors than it may have has begun and ended with VECTORS.
 /// A refusal writes nothing: the run that had the number stays.
-#[unsafe(no_mangle)]
-pub extern "C" fn fir_pool_begin(
+pub fn fir_pool_begin(
     image: &[u8],
     table: &[u8],
     level: usize,
@@ -456,8 +421,7 @@ pub extern "C" fn fir_pool_begin(
 }
 
 /// Takes a single step of the run that has the number, as `fir_step`, with at most as many vectors as it may have.
-#[unsafe(no_mangle)]
-pub extern "C" fn fir_pool_step(
+pub fn fir_pool_step(
     image: &[u8],
     table: &[u8],
     state: &mut FirState,
@@ -478,8 +442,7 @@ pub extern "C" fn fir_pool_step(
 }
 
 /// Takes at most `budget` steps of the run that has the number, as `fir_budget`, with at most as many vectors as it may have.
-#[unsafe(no_mangle)]
-pub extern "C" fn fir_pool_budget(
+pub fn fir_pool_budget(
     image: &[u8],
     table: &[u8],
     state: &mut FirState,
@@ -508,8 +471,7 @@ pub extern "C" fn fir_pool_budget(
 }
 
 /// Begins a run under a number of the pool, and takes at most `budget` steps: `fir_pool_begin`, then `fir_pool_budget`.
-#[unsafe(no_mangle)]
-pub extern "C" fn fir_pool_run(
+pub fn fir_pool_run(
     image: &[u8],
     table: &[u8],
     level: usize,
@@ -546,8 +508,7 @@ pub extern "C" fn fir_pool_run(
 }
 
 /// Whether the run that has the number goes on under the new image, as `fir_change`; nothing is written, the pool neither.
-#[unsafe(no_mangle)]
-pub extern "C" fn fir_pool_change(
+pub fn fir_pool_change(
     old: &[u8],
     new: &[u8],
     state: &FirState,
@@ -560,16 +521,14 @@ pub extern "C" fn fir_pool_change(
 }
 
 /// A step back of the run that has the number: 21, or 20, since a state of a pool has no step behind it.
-#[unsafe(no_mangle)]
-pub extern "C" fn fir_pool_back(pool: &Pool, number: usize) -> FirEntry
+pub fn fir_pool_back(pool: &Pool, number: usize) -> FirEntry
     ensures { result ≡ back_numbers (pool_back pool.now number) }
 {
     pool::back(&pool.reserves, number)
 }
 
 /// What the place of a live call holds: registers are the places 0 to 15, names the places 16 to 23.
-#[unsafe(no_mangle)]
-pub extern "C" fn fir_look(state: &FirState, call: usize, place: usize) -> FirValue
+pub fn fir_look(state: &FirState, call: usize, place: usize) -> FirValue
     ensures { result ≡ read_numbers (read_of (look_of (held state.now) call place)) }
 {
     parts::look(&state.bytes, &state.numbers, call, place)
@@ -577,16 +536,14 @@ pub extern "C" fn fir_look(state: &FirState, call: usize, place: usize) -> FirVa
 
 /// How many versions the DISPATCH looks at that the state stands at, ended or not, and how many its function has; all 0 where it
 /// stands elsewhere.
-#[unsafe(no_mangle)]
-pub extern "C" fn fir_search(image: &[u8], table: &[u8], state: &FirState) -> FirSearched
+pub fn fir_search(image: &[u8], table: &[u8], state: &FirState) -> FirSearched
     ensures { result ≡ search_numbers (search_of (program_in image.now table.now) (held state.now)) }
 {
     parts::search(image, table, &state.bytes)
 }
 
 /// Where the state stands in its image, ended or not: at an instruction, at a block end, or nowhere.
-#[unsafe(no_mangle)]
-pub extern "C" fn fir_where(image: &[u8], table: &[u8], state: &FirState) -> FirWhere
+pub fn fir_where(image: &[u8], table: &[u8], state: &FirState) -> FirWhere
     ensures { result ≡ where_numbers (where_of (program_in image.now table.now) (held state.now)) }
 {
     parts::stand(image, table, &state.bytes)
@@ -594,13 +551,7 @@ pub extern "C" fn fir_where(image: &[u8], table: &[u8], state: &FirState) -> Fir
 
 /// Fills the list with a record for each register of the topmost call, which is the newest frame, in order: how many were filled, 0
 /// with no live call; or 22, where the list is too short. All other records stay.
-#[unsafe(no_mangle)]
-pub extern "C" fn fir_watch(
-    image: &[u8],
-    table: &[u8],
-    state: &FirState,
-    rows: &mut [Row],
-) -> FirWatched
+pub fn fir_watch(image: &[u8], table: &[u8], state: &FirState, rows: &mut [Row]) -> FirWatched
     ensures { WatchCall image.now table.now result state.now rows.old rows.new }
 {
     let watched = parts::watched(image, table, &state.bytes, rows.len());

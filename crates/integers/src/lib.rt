@@ -1,5 +1,6 @@
 //! The integer arithmetic of the machine's steps: results in range, UNDEF or stuck.
 #![tactic(auto)]
+
 ghost use Rattle.std.specs.Prelude.{◌≡◌, false, cond, pos, nat_abs, ◌+ℤ◌, ◌-ℤ◌, ◌*ℤ◌, ◌*◌, ltb, leb};
 ghost use Rattle.std.specs.Int.Signed.{mag, lt_z};
 ghost use Rattle.layout.specs.Tests.{◌and◌};

@@ -140,7 +140,7 @@ pub enum Entry {
 }
 
 /// Whether a state goes on under a new image, or a refusal's number and offset.
-#[derive(Drop)]
+#[derive(Clone, Copy)]
 pub enum Changed {
     Taken,
     Refused(u8, u16),

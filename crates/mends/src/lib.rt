@@ -1,5 +1,6 @@
 //! The smallest mend of a refused image: one register type byte, tried in a copy.
 #![tactic(auto)]
+
 ghost use Rattle.std.specs.Prelude.{◌≡◌, not, true, ◌+◌, ◌<◌, length};
 ghost use Rattle.layout.specs.Records.{◌!◌, records};
 ghost use Rattle.program.specs.Program.{program};

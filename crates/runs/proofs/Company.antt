@@ -271,8 +271,8 @@ module _ (p : Pool) (i : ℕ) (passes : refuses21 p i ≡ false) where
 
     begun-next : (q : Pace) (o : Option Run) → Rel pre q o → (e : Entry) → first.entry ≡ e → let y = pool_begun_as p i first e in y.begun.entry ≡ e → Next pre q a (began e) (began e) (started_run image y.begun.state o e)
     unfolding pool_begun_as started_run started_in Rel run_alone
-    begun-next (in_step y) o (oo, xx) (Entry.Refused k n) d g = record { pace = in_step (ask_alone a y).run; rel = (oo ∙ sym (begun-alone y (Entry.Refused k n) d), alone-next pre a y xx); link = λ l hs gs b. same y a (began (Entry.Refused k n)) l hs gs b }
-    begun-next (stopped r) o (oo, h, st) (Entry.Refused k n) d g = record { pace = stopped r; rel = (oo, h, grow pre a r r st (begun-alone (some r) (Entry.Refused k n) d) refl); link = λ l hs gs b. refused_start r image level f v words buffer k n l hs gs b }
+    begun-next (in_step y) o t (Entry.Refused k n) d g = record { pace = in_step (ask_alone a y).run; rel = (t.0 ∙ sym (begun-alone y (Entry.Refused k n) d), alone-next pre a y t.1); link = λ l hs gs b. same y a (began (Entry.Refused k n)) l hs gs b }
+    begun-next (stopped r) o t (Entry.Refused k n) d g = record { pace = stopped r; rel = (t.0, t.1, grow pre a r r t.2 (begun-alone (some r) (Entry.Refused k n) d) refl); link = λ l hs gs b. refused_start r image level f v words buffer k n l hs gs b }
     begun-next q o rel Entry.Begun d g = go (leb (vectors_in first.state) (allowed p i))
       where
         its : Run

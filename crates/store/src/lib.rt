@@ -4,6 +4,7 @@
 //! Each function says by the machine's own definitions what it does to the state that the arrays stand for.
 //! What they require, the loop of `running` keeps, and a test would cost each step; `whereabouts` and `searches` ask first.
 #![tactic(auto)]
+
 ghost use Rattle.std.specs.Prelude.{◌≡◌, length};
 
 pub mod cells;

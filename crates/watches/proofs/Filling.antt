@@ -1,4 +1,4 @@
--- The lent list with its first records written, for the walk of `fill`.
+-- The lent list with its first records written, for `fill`.
 use mathlib.Core.Path.{◌≡◌, refl, sym, ap, subst, ◌∙◌}
 use mathlib.Core.Bool.{Bool, true, false}
 use mathlib.Core.List.{List}
@@ -16,21 +16,6 @@ use Rattle.machine.specs.declared.State.{State}
 use Rattle.machine.specs.declared.Watch.{Watch}
 use Rattle.machine.proofs.Overlays.{over-next}
 use Rattle.watches.specs.Rows.{filled_by, row_at}
-
--- ---- numbers
-
--- a test's outcome, as `Dec`'s laws take it
-pub passed : (t : Bool) → t ≡ true → T t
-passed t e = subst T (sym e) tt
-
-pub failed : (t : Bool) → t ≡ false → T t → ⊥
-failed t e h = subst T e h
-
--- the bytes before a record are a usize
-pub bytes_fit : (i n : ℕ) → i < n → n * 144 < 2 ^ 63 → i * 144 < 2 ^ 64
-bytes_fit i n a h = omega (arith, a, h)
-
--- ---- the list
 
 module _ (P : Program) (u : State) (rows : List Row) where
   -- with its first i records written

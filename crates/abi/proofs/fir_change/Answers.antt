@@ -1,0 +1,5 @@
+-- What the callee ensures whatever the numbers of the state are, these too.
+use Rattle.abi.proofs.fir_change.Goals as goal
+
+pub returns : goal.returns
+returns c = c.change.ensures c.args.state.now.numbers

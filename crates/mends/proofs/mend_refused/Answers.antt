@@ -1,0 +1,16 @@
+-- `mends::mend_refused`: an image that is refused by 6, 8, 9 or 10 is no longer than the copy.
+use native.Mathlib.Omega.{arith}
+use lib.ListN.{length-take, length-drop, length-replicate}
+use Rattle.mends.proofs.Parts.{refused-short, beside-change, beside-nowhere}
+use Rattle.mends.proofs.mend_refused.Goals as goal
+
+pub mend_in-requires : goal.mend_in-requires
+mend_in-requires c = record { refusal = c.requires; copy_len = simp (length-take, length-drop, length-replicate) (omega (arith, refused-short c.requires)) }
+
+pub returns-in-To : goal.returns-in-To
+returns-in-To c =
+    beside-change c.args.q c.args.r c.mend_in.ensures c.in-To.is
+
+pub returns-in-Nowhere : goal.returns-in-Nowhere
+returns-in-Nowhere c =
+    beside-nowhere c.args.q c.args.r c.mend_in.ensures c.in-Nowhere.is
