@@ -9,19 +9,19 @@ use Rattle.loaded.proofs.write.Goals as goal
 pub overflow_add-at-7 : goal.overflow_add-at-7
 overflow_add-at-7 c = omega (
   arith,
-  c.pre.1,
+  c.requires.1,
 )
 
 pub overflow_add-at-8 : goal.overflow_add-at-8
 overflow_add-at-8 c = omega (
   arith,
-  c.pre.1,
+  c.requires.1,
 )
 
 pub overflow_cast-p-2 : goal.overflow_cast-p-2
 overflow_cast-p-2 c = omega (
   arith,
-  c.pre.0,
+  c.requires.0,
 )
 
 pub returns : goal.returns

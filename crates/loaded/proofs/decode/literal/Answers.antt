@@ -15,7 +15,7 @@ unfolding number_in
 returns-then-e-image c =
     let u = c.four_inside.result + 4294967296 * c.four_inside-then-e-image.result in
     let f : Fits w64 u = record { fits = omega (arith, c.four_inside.ensures.1, c.four_inside-then-e-image.ensures.1) } in
-    to_z-of_z (rw c.signed_of.ensures (to_z-Fits w64 u f)) ∙ c.signed_of.ensures ∙ rw (c.four_inside.ensures.0, c.four_inside-then-e-image.ensures.0)
+    to_z-of_z {w = w64} (rw c.signed_of.ensures (to_z-Fits w64 u f)) ∙ c.signed_of.ensures ∙ rw (c.four_inside.ensures.0, c.four_inside-then-e-image.ensures.0)
     (ap (to_z w64) (sym (literal-bytes c.args.image.now c.args.p)))
 
 pub returns : goal.returns
@@ -23,5 +23,5 @@ unfolding number_in
 returns c =
     let u = c.four.result + 4294967296 * c.four-2.result in
     let f : Fits w64 u = record { fits = omega (arith, c.four.ensures.1, c.four-2.ensures.1) } in
-    to_z-of_z (rw c.signed_of-2.ensures (to_z-Fits w64 u f)) ∙ c.signed_of-2.ensures ∙ rw (c.four.ensures.0, c.four-2.ensures.0)
+    to_z-of_z {w = w64} (rw c.signed_of-2.ensures (to_z-Fits w64 u f)) ∙ c.signed_of-2.ensures ∙ rw (c.four.ensures.0, c.four-2.ensures.0)
     (ap (to_z w64) (sym (literal-bytes c.args.image.now c.args.p)))

@@ -1,3 +1,4 @@
+use mir.Syntax.{w64}
 use Rattle.store.proofs.Recounting.{of-byte-promise, of-byte-vector}
 use Rattle.store.specs.Counts.{Byte}
 use Rattle.store.specs.Store.{cell_in, value_of}
@@ -12,7 +13,7 @@ use Rattle.store.proofs.cells.cell.Goals as goal
 pub returns-in-1 : goal.returns-in-1
 unfolding cell_in value_of Byte
 returns-in-1 c =
-    (rw c.in-1.is (ap Value.Integer (to_z-of_z (search rules))), omega arith)
+    (rw c.in-1.is (ap Value.Integer (to_z-of_z {w = w64} (search rules))), omega arith)
 
 pub returns-in-2 : goal.returns-in-2
 unfolding cell_in value_of

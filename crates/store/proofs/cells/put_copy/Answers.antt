@@ -1,3 +1,4 @@
+use mir.Syntax.{w64}
 use Rattle.store.proofs.Recounting.{puts-as, puts-integer, tagged}
 use Rattle.store.specs.Store.{cell_in}
 use mir.Facts.{to_z-of_z}
@@ -7,7 +8,7 @@ use Rattle.store.proofs.cells.put_copy.Goals as goal
 pub returns-then-t-eq1 : goal.returns-then-t-eq1
 unfolding cell_in
 returns-then-t-eq1 c =
-    (puts-integer _ _ c.put_integer.ensures.0 c.if-t-eq1.true (to_z-of_z (search rules)), c.put_integer.ensures.1)
+    (puts-integer _ _ c.put_integer.ensures.0 c.if-t-eq1.true (to_z-of_z {w = w64} (search rules)), c.put_integer.ensures.1)
 
 pub returns : goal.returns
 unfolding cell_in

@@ -1,3 +1,4 @@
+use mir.Syntax.{w64}
 use mir.Facts.{to_z-of_z}
 use mathlib.Core.Path.{refl, ap}
 use Rattle.machine.specs.Try.{got}
@@ -14,7 +15,7 @@ returns-in-Empty c =
 pub returns-in-Integer : goal.returns-in-Integer
 unfolding whole_of an_integer
 returns-in-Integer c =
-    rw c.in-Integer.is (ap got (to_z-of_z (search rules)))
+    rw c.in-Integer.is (ap got (to_z-of_z {w = w64} (search rules)))
 
 pub returns-in-Vector : goal.returns-in-Vector
 unfolding whole_of an_integer

@@ -1,3 +1,4 @@
+use mir.Syntax.{w64}
 use mir.Facts.{to_z-of_z}
 use mathlib.Core.Path.{sym, ◌∙◌}
 use native.Mathlib.Omega.{arith}
@@ -19,4 +20,4 @@ bounds-numbers-v c =
 
 pub returns : goal.returns
 returns c =
-    to_z-of_z (search rules) ∙ sym (item-at _ _ _ _ c.requires.1)
+    to_z-of_z {w = w64} (search rules) ∙ sym (item-at _ _ _ _ c.requires.1)
