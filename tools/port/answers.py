@@ -128,7 +128,7 @@ class Function:
 
     def step(self, chain, depth, rest, where):
         word = norm(rest[0])
-        rest = [it.replace("well-formed", "well_formed") for it in rest[:1]] + rest[1:]
+        rest = [{"well-formed": "well_formed", "pre": "requires"}.get(it, it) for it in rest[:1]] + rest[1:]
         if word == "requires" and rest[1:2] and rest[1].isdigit() and self.own.get("requires"):
             rest = [rest[0], self.own["requires"][int(rest[1])], *rest[2:]]
         if word in ("args", "requires", "ranges", "lifetimes", "well-formed", "type-inv"):

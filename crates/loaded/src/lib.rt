@@ -1,6 +1,7 @@
 //! The loaded form of an image: where its versions, blocks and instructions stand, in a table of bytes that the caller lends.
 //! Image and table stand for a program, whatever they hold: no public function here requires anything of them.
 #![tactic(auto)]
+
 ghost use Rattle.std.specs.Prelude.{◌≡◌, ℕ, ◌+◌, ◌*◌, ◌<◌, ◌≤◌, min, length, set};
 ghost use Rattle.layout.specs.Bounds.{IMAGE};
 ghost use Rattle.layout.specs.Records.{◌!◌, rec_at, records};
