@@ -1,6 +1,7 @@
 //! Frames and activations that open and end, over the two arrays of a state, and the counts at the start of a budget.
 //! Its functions serve the loop of `running`; what they require, the loop keeps.
 #![tactic(auto)]
+
 ghost use Rattle.std.specs.Prelude.{◌≡◌, ◌<◌, ◌≤◌, ◌-◌, length};
 ghost use Rattle.layout.specs.Records.{◌!◌};
 ghost use Rattle.machine.specs.States.{new_frame};

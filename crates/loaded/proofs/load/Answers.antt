@@ -30,5 +30,5 @@ returns-else-table-needed c =
     load-ready c.args.image.now
     c.args.table.now
     c.clear.new.table cleared.0 cleared.1 _ accepted _
-    c.bytes_for-needed.ensures c.fill.new.1.0 c.if-table-needed.false
-    c.fill.ensures (same-length-3 c)
+    c.bytes_for-needed.ensures c.fill.new.table c.if-table-needed.false
+    c.fill.ensures (c.fill.auto.table ∙ c.clear.auto.table)
