@@ -127,8 +127,9 @@ class Function:
         return out
 
     def step(self, chain, depth, rest, where):
-        word = norm(rest[0])
         rest = [{"well-formed": "well_formed", "pre": "requires"}.get(it, it) for it in rest[:1]] + rest[1:]
+        word = norm(rest[0])
+        rest = rest[:1] + [{"left": "false", "taken": "true"}.get(it, it) if rest[0].startswith(("if", "loop")) else it for it in rest[1:2]] + rest[2:]
         if word == "requires" and rest[1:2] and rest[1].isdigit() and self.own.get("requires"):
             rest = [rest[0], self.own["requires"][int(rest[1])], *rest[2:]]
         if word in ("args", "requires", "ranges", "lifetimes", "well-formed", "type-inv"):
@@ -291,6 +292,10 @@ def turn(path, of, crate, module):
         head = []
     if answers:
         said = "\n\n".join(others + answers)
+        # The width that its argument no more shows: the numbers of these crates have 64 bits.
+        said = re.sub(r"\bto_z-of_z \((?=search|rw|omega|grind)", "to_z-of_z {w = w64} (", said)
+        if "{w = w64}" in said and not re.search(r"\{[^}]*\bw64\b", "\n".join(uses)):
+            uses.append("use mir.Syntax.{w64}")
         text = "\n".join([*head, *used(uses, said), f"use Rattle.{crate}.proofs.{module}.Goals as goal"]) + "\n\n" + said + "\n"
         (folder / "Answers.antt").write_text(text, encoding="utf-8")
     path.unlink()

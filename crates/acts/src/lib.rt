@@ -1,6 +1,7 @@
 //! Instructions over the state of a run in its two arrays: each is the clause of `execute` that it is named after.
 //! They serve the loop of `running`; what they require, the loop keeps, and a test would cost each step.
 #![tactic(auto)]
+
 ghost use Rattle.std.specs.Prelude.{◌≡◌, length};
 ghost use Rattle.program.specs.Program.{LIT, MOVE, USE, DUP, LEN, GET, SET, ARITH, SELECT, CAST, NAMED, STORE, PROM, FORCE, PEEK, POKE};
 ghost use Rattle.store.specs.Store.{Live};

@@ -1,6 +1,7 @@
 //! Beginning a run of a loaded image: 11, 19, 12 and 13 of the program that image and table stand for, and the state before its first step.
 //! Any image and any table have an answer. All is asked before anything is written.
 #![tactic(auto)]
+
 ghost use Rattle.std.specs.Prelude.{List, ◌≡◌, ℕ, ◌+◌, ◌<◌, ◌≤◌, ◌/◌, ◌%◌, leb, drop, length, take};
 ghost use Rattle.std.proofs.Math.Option.{bind, some};
 ghost use Rattle.program.specs.Program.{parameter_types};

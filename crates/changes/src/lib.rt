@@ -1,5 +1,6 @@
 //! A new image for a run: its own questions, then 15, whether each version with a live frame is the same in both images.
 #![tactic(auto)]
+
 ghost use Rattle.std.specs.Prelude.{List, ◌≡◌, ◌≤◌, eqb, ℤ, length};
 ghost use Rattle.layout.specs.Tests.{◌and◌};
 ghost use Rattle.program.specs.Places.{table_of, asked};

@@ -1,6 +1,7 @@
 //! What is asked of a state: where it stands in its image, by the numbers of its version, its block and what is next there, and by an offset;
 //! and what a place of a live call holds.
 #![tactic(auto)]
+
 ghost use Rattle.std.specs.Prelude.{List, ◌≡◌, ◌-◌, ℤ};
 ghost use Rattle.loaded.specs.Loaded.{place_in, program_in};
 ghost use Rattle.machine.specs.Frames.{read_of};
