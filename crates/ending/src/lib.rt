@@ -1,6 +1,7 @@
 //! Block ends over the two arrays of a state.
 //! Its functions serve the loop of `running`; what they require, the loop keeps, and a test would cost each step.
 #![tactic(auto)]
+
 ghost use Rattle.std.specs.Prelude.{◌<◌, ◌≡◌, length};
 ghost use Rattle.store.specs.Store.{Sized, state_in};
 ghost use Rattle.store.specs.Counts.{Ready};

@@ -1,6 +1,7 @@
 //! Instructions that list registers, over the two arrays of a state: VEC, and how a CALL or DISPATCH opens its frame. `rs` are the registers that are listed.
 //! Its functions serve the loop of `running`; what they require, the loop keeps.
 #![tactic(auto)]
+
 ghost use Rattle.std.specs.Prelude.{◌≡◌, ◌<◌, length};
 ghost use Rattle.program.specs.Program.{VEC};
 ghost use Rattle.store.specs.Store.{Live};

@@ -1,6 +1,7 @@
 //! 02, request 11, watching a call: the registers of the topmost call as records, written into a lent list.
 //! Image and table stand for a program, bytes and numbers for a state, whatever they hold: no public function requires anything of them.
 #![tactic(auto)]
+
 ghost use Rattle.std.specs.Prelude.{List, ◌≡◌, ◌≤◌, ◌<◌, min, ℤ, length};
 ghost use Rattle.std.proofs.Math.ListN.{get_elem?};
 ghost use Rattle.layout.specs.Bounds.{REGISTERS};

@@ -11,9 +11,11 @@ unfolding over
 loop-i-init c = (refl, omega arith)
 
 pub loop-i-preserved : goal.loop-i-preserved
-loop-i-preserved c =
-    (ap (λ (rows : List Row). set rows c.loop-i.i c.row.result) c.loop-i.invariant.0
-        ∙ next-written _ _ _ _ _ c.loop-i-test.true (c.fills-k.ensures.0 c.args.numbers.now) c.row.ensures, omega arith)
+loop-i-preserved c = (
+  ap (λ (rows : List Row). set rows c.loop-i.i c.row.result) c.loop-i.invariant.0
+      ∙ next-written _ _ _ _ _ c.loop-i-test.true (c.fills-k.ensures.0 c.args.numbers.now) c.row.ensures,
+  omega arith,
+)
 
 pub returns : goal.returns
 returns c =

@@ -1,0 +1,19 @@
+-- `watches::topmost`: none, or by the frame below the count of live calls and its version.
+use Rattle.watches.proofs.Tops.{no_call, far_call, no-version, top-call}
+use Rattle.watches.proofs.topmost.Goals as goal
+
+pub returns-then-calls-eq0 : goal.returns-then-calls-eq0
+returns-then-calls-eq0 c =
+    no_call _ _ c.wide-calls.ensures.0 c.if-calls-eq0.true
+
+pub returns-then-calls-gt-FRAMES : goal.returns-then-calls-gt-FRAMES
+returns-then-calls-gt-FRAMES c =
+    far_call _ _ c.wide-calls.ensures.0 c.if-calls-gt-FRAMES.true
+
+pub returns-in_default : goal.returns-in_default
+returns-in_default c =
+    no-version _ _ c.wide-calls.ensures.0 c.if-calls-eq0.false c.if-calls-gt-FRAMES.false _ c.version.ensures c.in_default.is
+
+pub returns : goal.returns
+returns c =
+    top-call _ _ c.wide-calls.ensures.0 c.if-calls-eq0.false c.if-calls-gt-FRAMES.false _ c.version.ensures c.in-Of.is
