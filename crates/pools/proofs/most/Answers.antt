@@ -18,15 +18,15 @@ pub loop-j-preserved : goal.loop-j-preserved
 loop-j-preserved c =
     let l = c.loop-j in
     let a = c.args in
-    let s = shares_at a.t1 a.t2 a.i l.j 8 (search rules) (search rules) (omega arith) in
+    let s = shares_at a.reserves a.has a.i l.j 8 (search rules) (search rules) (omega arith) in
     (omega arith, omega (arith, l.invariant.1, c.share-against.ensures.1), omega (arith, s, l.invariant.2, c.share-against.ensures.0))
 
 pub returns : goal.returns
 returns c =
     let l = c.loop-j in
     let a = c.args in
-    let n : length a.t1 ≡ 8 = search rules in
-    let m : length a.t2 ≡ 8 = search rules in
-    let s = shares-done a.t1 a.t2 a.i l.j 8 n (omega arith) in
-    let k : l.against ≡ shares 0 a.i a.t1 a.t2 = omega (arith, s, l.invariant.2) in
-    c.greater.ensures ∙ ap₂ larger c.reserve.ensures (c.left.ensures ∙ ap (λ (x : ℕ). 64 - x) k) ∙ allowed-shares a.t1 a.t2 a.i (n ∙ sym m)
+    let n : length a.reserves ≡ 8 = search rules in
+    let m : length a.has ≡ 8 = search rules in
+    let s = shares-done a.reserves a.has a.i l.j 8 n (omega arith) in
+    let k : l.against ≡ shares 0 a.i a.reserves a.has = omega (arith, s, l.invariant.2) in
+    c.greater.ensures ∙ ap₂ larger c.reserve.ensures (c.left.ensures ∙ ap (λ (x : ℕ). 64 - x) k) ∙ allowed-shares a.reserves a.has a.i (n ∙ sym m)
