@@ -118,14 +118,14 @@ unfolding buffer_of over
 buffer-kept r buffer h = rw (writes-none r.state.result r.answer h) refl
 
 -- an end adds at most one step
-last_step : (e : End) → last_step e ≤ 1
+last_step_lem : (e : End) → last_step e ≤ 1
 unfolding last_step
-last_step (End.Integer z) = omega arith
-last_step (End.Vector n) = omega arith
-last_step End.Undef = omega arith
-last_step End.Deep = omega arith
-last_step End.Vectors = omega arith
-last_step End.Promises = omega arith
+last_step_lem (End.Integer z) = omega arith
+last_step_lem (End.Vector n) = omega arith
+last_step_lem End.Undef = omega arith
+last_step_lem End.Deep = omega arith
+last_step_lem End.Vectors = omega arith
+last_step_lem End.Promises = omega arith
 
 -- a run under a budget of m, behind k steps: STEPS with all of them, or an end
 record Took (k m : ℕ) (r : Ran) : Type 0 where
@@ -154,7 +154,7 @@ run-took P safe (suc m) s k inv = go (step_of P s).said refl (run-took P safe m 
   where
     go : (d : Said) → (step_of P s).said ≡ d → Took (k + 1) m (run_from P m (step_of P s).state (k + 1)) → Took k (suc m) (continued (step_of P s).state d k (λ t. run_from P m t (k + 1)))
     go Said.GoesOn e ih = took_more k m _ ih
-    go (Said.Ended x) e ih = took-end k (suc m) (k + last_step x) (step_of P s).state x (omega (arith, last_step x))
+    go (Said.Ended x) e ih = took-end k (suc m) (k + last_step x) (step_of P s).state x (omega (arith, last_step_lem x))
     go Said.Stuck e ih = absurd (step-unstuck P safe s inv e)
 
 -- ---- from the start
