@@ -20,14 +20,13 @@ use Rattle.machine.specs.Begin.{Given, arguments, refused, question11, question1
 use Rattle.machine.specs.Changes.{answer15, changed_by, change_after, change_of}
 use Rattle.machine.specs.Events.{Run, Event, single, budget, change, program_in, handle, handle_to, replies, replies_to}
 use Rattle.machine.specs.declared.Answer.{Answer}
-use Rattle.machine.specs.declared.Begun.{Begun}
 use Rattle.machine.specs.declared.End.{End}
 use Rattle.machine.specs.declared.Entry.{Entry}
 use Rattle.machine.specs.declared.Ran.{Ran}
 use Rattle.machine.specs.declared.Said.{Said}
 use Rattle.machine.specs.declared.State.{State}
 use Rattle.machine.specs.declared.Status.{Status}
-use Rattle.soundness.specs.Results.{Among, to_image, to_beginning, Refusal, of_image, of_beginning, Result, is_refused, is_steps, is_ended, Told, Results, Outcome, is_taken, is_refused_image, is_refused15, Listed, steps, gives, changes, AllListed, end, next, Replies}
+use Rattle.soundness.specs.Results.{Among, to_image, Refusal, of_image, of_beginning, Result, is_refused, is_steps, is_ended, Told, Results, Outcome, is_taken, is_refused_image, is_refused15, Listed, steps, gives, changes, AllListed, end, next, Replies}
 use Rattle.soundness.specs.Claim.{begun}
 use Rattle.soundness.proofs.Invariant.{Inv}
 use Rattle.soundness.proofs.Closing.{StepSafe, step_keeps, step-unstuck}
