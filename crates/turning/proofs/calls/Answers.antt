@@ -42,7 +42,7 @@ enters-requires c =
           c.own.ensures refl refl
           (sym c.place_at-e.ensures) _ _
           (part-all c.registers-n.result
-          c.registers-n.new.rs.1.1.0) _
+          c.registers-n.new.rs) _
           c.choose-choice.ensures.0,
     )
 
@@ -54,7 +54,7 @@ returns c = (
       c.own.ensures refl refl
       (sym c.place_at-e.ensures) _ _
       (part-all c.registers-n.result
-      c.registers-n.new.rs.1.1.0) _
+      c.registers-n.new.rs) _
       c.choose-choice.ensures.0
       c.requires.2 _ _ c.byte-d.ensures _ _ _ c.enters.ensures,
   c.choose-choice.ensures.1,

@@ -3,4 +3,4 @@ use Rattle.turning.proofs.casts.Goals as goal
 
 pub returns : goal.returns
 returns c =
-    typed_look _ _ _ _ _ _ _ _ _ _ _ _ _ c.own-v.ensures c.type_inv.ensures c.cast_typed.ensures
+    typed_look _ _ _ _ _ _ _ _ _ _ _ _ _ c.own-v.ensures c.typed-typed.ensures c.cast_typed.ensures
