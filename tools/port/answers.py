@@ -105,6 +105,22 @@ def parts(text):
     return [it for it in out if it]
 
 
+def clause(names, rest):
+    """A path that begins with the number of a clause, by its name: three clauses and more were a pair, and a pair in its second part."""
+    at = 0
+    while len(names) - at > 2 and rest[:1] == ["1"] and rest[1:2] in (["0"], ["1"]):
+        at, rest = at + 1, rest[1:]
+    return [names[at + int(rest[0])], *rest[1:]]
+
+
+def flat(text, count):
+    """The parts of a tuple of so many clauses, which was a pair in the second part of a pair."""
+    out = parts(text)
+    while 2 <= len(out) < count and parts(out[-1]):
+        out = [*out[:-1], *parts(out[-1])]
+    return out
+
+
 class Function:
     def __init__(self, of, path, own=""):
         self.path = path
@@ -131,7 +147,7 @@ class Function:
         word = norm(rest[0])
         rest = rest[:1] + [{"left": "false", "taken": "true"}.get(it, it) if rest[0].startswith(("if", "loop")) else it for it in rest[1:2]] + rest[2:]
         if word == "requires" and rest[1:2] and rest[1].isdigit() and self.own.get("requires"):
-            rest = [rest[0], self.own["requires"][int(rest[1])], *rest[2:]]
+            rest = [rest[0], *clause(self.own["requires"], rest[1:])]
         if word in ("args", "requires", "ranges", "lifetimes", "well-formed", "type-inv"):
             return "c." + ".".join(rest)
         fits = [k for k, it in enumerate(chain) if norm(self.places[it][1][0]) == word]
@@ -150,7 +166,7 @@ class Function:
         if rest[1:2] == ["ensures"] and len(rest) > 2 and rest[2].isdigit() and self.callees[chain[best]]:
             named = clauses(self.callees[chain[best]]).get("ensures")
             if named:
-                rest = [*rest[:2], named[int(rest[2])], *rest[3:]]
+                rest = [*rest[:2], *clause(named, rest[2:])]
         arm = self.arms[index]
         if arm:
             for field, old, way in arm[2]:
@@ -180,7 +196,7 @@ class Function:
 
         text = re.sub(BEGIN + r"(\(c\)|c)((?:\s*\.[\w'-]+)+)", one, text)
         # The test of `if !x` says what x is, and no more what its negation is.
-        return re.sub(r"not-(?:true|false) _ (c\.if-not-[\w'-]+\.(?:true|false))", r"\1", text)
+        return re.sub(r"not-(?:true|false) (?:_|c\.[\w.'-]+) (c\.if-not-[\w'-]+\.(?:true|false))", r"\1", text)
 
 
 def used(lines, text):
@@ -277,8 +293,8 @@ def turn(path, of, crate, module):
         said = function.body(clause[2], need)
         asks = next((it for it in of["params"] if new.startswith(it.split("::")[-1]) and "requires" in new), None)
         named = clauses(asks).get("requires") if asks else None
-        if named and len(parts(said)) == len(named):
-            said = " record { " + "; ".join(f"{a} = {b}" for a, b in zip(named, parts(said))) + " }"
+        if named and len(flat(said, len(named))) == len(named):
+            said = " record { " + "; ".join(f"{a} = {b}" for a, b in zip(named, flat(said, len(named)))) + " }"
         answers.append("\n".join(comment) + ("\n" if comment else "") + f"pub {new} : goal.{new}{between}\n{new} {' '.join(params)} ={said}")
         comment = []
     folder = path.parent

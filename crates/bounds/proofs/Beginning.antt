@@ -17,7 +17,6 @@ use Rattle.machine.specs.States.{PROMISES, is_promise, refers, held, live_frames
 use Rattle.machine.specs.Calls.{frame_for}
 use Rattle.machine.specs.Runs.{long_enough}
 use Rattle.machine.specs.Begin.{Given, integer, vector, arguments, values_of, vectors_of, first_state, run_level, refused, question11, question12, question13, question19, entered_of, begin_after, begin_of, program_of}
-use Rattle.machine.specs.declared.Begun.{Begun}
 use Rattle.machine.specs.declared.Entry.{Entry}
 use Rattle.machine.specs.declared.State.{State}
 use Rattle.runs.proofs.Lives.{refused-begun}

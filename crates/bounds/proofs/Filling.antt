@@ -33,12 +33,12 @@ use Rattle.bounds.proofs.Known.{found_at, first-free, free-is, kept-steps, set_k
 numbers_more : (out : List ℕ) (i : ℕ) (es : List Entry) (e : Entry) → numbers_after out i (es ++ (e ∷ [])) ≡ set (set (numbers_after out i es) (2 * (i + length es)) e.function) (2 * (i + length es) + 1) e.version
 unfolding numbers_after
 numbers_more out i [] e = let z : i + 0 ≡ i = omega arith in rw z refl
-numbers_more out i (x ∷ es) e = let z : i + suc (length es) ≡ i + 1 + length es = omega arith in rw z (numbers_more _ (i + 1) es e)
+numbers_more out i (x ∷ es) e = let z : i + suc (length es) ≡ i + 1 + length es = omega arith in rw z (numbers_more (set (set out (2 * i) x.function) (2 * i + 1) x.version) (i + 1) es e)
 
 steps-more : (out : List ℕ) (i : ℕ) (es : List Entry) (e : Entry) → steps_after out i (es ++ (e ∷ [])) ≡ set (steps_after out i es) (i + length es) (code_of e.bound)
 unfolding steps_after
 steps-more out i [] e = let z : i + 0 ≡ i = omega arith in rw z refl
-steps-more out i (x ∷ es) e = let z : i + suc (length es) ≡ i + 1 + length es = omega arith in rw z (steps-more _ (i + 1) es e)
+steps-more out i (x ∷ es) e = let z : i + suc (length es) ≡ i + 1 + length es = omega arith in rw z (steps-more (set out i (code_of x.bound)) (i + 1) es e)
 
 map_more : (rows : List Row) (r : Row) → map entry_of (rows ++ (r ∷ [])) ≡ map entry_of rows ++ (entry_of r ∷ [])
 map_more [] r = refl

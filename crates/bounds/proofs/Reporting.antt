@@ -2,9 +2,9 @@
 use mathlib.Core.Path.{◌≡◌, refl, sym, ap, ◌∙◌}
 use mathlib.Core.List.{List, [], ◌∷◌, ◌++◌, map}
 use mathlib.Core.Bool.{Bool, true, false, cond, not}
-use Prim.Native.Nat.{ℕ, zero, suc, ◌+◌, ◌/◌, ◌%◌, ◌≤◌, ◌<◌}
+use Prim.Native.Nat.{ℕ, zero, suc, ◌+◌, ◌*◌, ◌/◌, ◌%◌, ◌≤◌, ◌<◌}
 use native.Mathlib.Omega.{arith}
-use lib.ListN.{length, length-append}
+use lib.ListN.{length, length-append, set}
 use lib.Dec.{ltb}
 use borrow.Author.Tests.{lt-ltb, le-ltb, ltb-true, ltb-false}
 use Rattle.layout.specs.Records.{◌!◌}
@@ -17,7 +17,7 @@ use Rattle.checker.specs.declared.Verdict.{Verdict}
 use Rattle.machine.specs.Begin.{program_of}
 use Rattle.bounds.specs.Bounds.{Row, is_listed, by_number, bounded, unlisted, unbounded, Entry, entry_of, none_of, report}
 use Rattle.bounds.specs.Counts.{open_at, Stands}
-use Rattle.bounds.specs.Rows.{numbers_after, steps_after, rest_from, listing, bounds_of}
+use Rattle.bounds.specs.Rows.{code_of, numbers_after, steps_after, rest_from, listing, bounds_of}
 use Rattle.bounds.specs.declared.Bounding.{Bounding}
 use Rattle.bounds.proofs.Known.{open_is}
 use Rattle.bounds.proofs.Slots.{slots, by_slots, slot-there, slot-missing, slots-there, slots-missing}
@@ -69,12 +69,12 @@ rest-is s known rows stands (suc n) k h = go (ltb (table_of s ! k) (length s)) r
 numbers-both : (out : List ℕ) (i : ℕ) (a b : List Entry) → numbers_after out i (a ++ b) ≡ numbers_after (numbers_after out i a) (i + length a) b
 unfolding numbers_after
 numbers-both out i [] b = let z : i + 0 ≡ i = omega arith in rw z refl
-numbers-both out i (e ∷ a) b = let z : i + suc (length a) ≡ i + 1 + length a = omega arith in rw z (numbers-both _ (i + 1) a b)
+numbers-both out i (e ∷ a) b = let z : i + suc (length a) ≡ i + 1 + length a = omega arith in rw z (numbers-both (set (set out (2 * i) e.function) (2 * i + 1) e.version) (i + 1) a b)
 
 steps-both : (out : List ℕ) (i : ℕ) (a b : List Entry) → steps_after out i (a ++ b) ≡ steps_after (steps_after out i a) (i + length a) b
 unfolding steps_after
 steps-both out i [] b = let z : i + 0 ≡ i = omega arith in rw z refl
-steps-both out i (e ∷ a) b = let z : i + suc (length a) ≡ i + 1 + length a = omega arith in rw z (steps-both _ (i + 1) a b)
+steps-both out i (e ∷ a) b = let z : i + suc (length a) ≡ i + 1 + length a = omega arith in rw z (steps-both (set out i (code_of e.bound)) (i + 1) a b)
 
 map-length : {A B : Type 0} (f : A → B) (l : List A) → length (map f l) ≡ length l
 map-length f [] = refl

@@ -17,7 +17,7 @@ use Rattle.layout.specs.Tests.{any}
 use Rattle.layout.proofs.Lists.{get-some, get_in, get_drop}
 use Rattle.rules.proofs.Follows.{or-either}
 use Rattle.program.specs.Program.{Instr, Line, Version, Program}
-use Rattle.machine.specs.Try.{got, at}
+use Rattle.machine.specs.Try.{got}
 use Rattle.machine.specs.States.{PROMISES, place, is_promise, refers, held, is_force, live_activations, live_frames, pending, free, with_stack, with_promise}
 use Rattle.machine.specs.Calls.{passed}
 use Rattle.machine.specs.declared.Activation.{Activation}

@@ -10,7 +10,7 @@ use lib.ListN.{length, length-append}
 use borrow.Author.Tests.{eqb-true, not-true}
 use Rattle.layout.specs.Bounds.{ALL-VERSIONS}
 use Rattle.layout.specs.Records.{records}
-use Rattle.layout.specs.Tests.{◌and◌, any, count}
+use Rattle.layout.specs.Tests.{any, count}
 use Rattle.layout.proofs.Bools.{and_both}
 use Rattle.program.specs.Program.{Version, Program}
 use Rattle.program.proofs.Held.{find-numbers}

@@ -1,5 +1,6 @@
 //! 02, 12, how long at most: which versions a version depends on, how many steps a run of it can take, and in which order they are listed.
 #![tactic(auto)]
+
 ghost use Rattle.std.specs.Prelude.{◌≡◌};
 ghost use Rattle.machine.specs.Begin.{program_of};
 ghost use Rattle.bounds.specs.Bounds.{report};

@@ -32,7 +32,6 @@ use Rattle.checker.specs.declared.Verdict.{Verdict}
 use Rattle.checker.specs.declared.Verdict.TheVariants.{Accepted, Refused}
 use Rattle.checker.proofs.Accepted.{Passed, passed, accept}
 use Rattle.machine.specs.Begin.{begin_of, begin_after, entered_of, question11, refused, run_after, run_after_to, run_of, run_of_to, program_of}
-use Rattle.machine.specs.declared.Begun.{Begun}
 use Rattle.machine.specs.declared.Entry.{Entry}
 use Rattle.joins.specs.declared.Joined.TheVariants.{Written, Together}
 use Rattle.joins.specs.Shifted.{shift_version, shift_program}

@@ -10,7 +10,7 @@ use lib.Dec.{eqb, ltb}
 use borrow.Author.Tests.{eqb-true, eqb-false, ltb-true}
 use Rattle.layout.specs.Kinds as kind
 use Rattle.layout.specs.Tests.{◌and◌}
-use Rattle.layout.specs.Records.{Rec, ◌!◌, records, choose}
+use Rattle.layout.specs.Records.{Rec, ◌!◌, choose}
 use Rattle.layout.specs.Scan.{scan}
 use Rattle.layout.specs.Questions.{after_version, after_level, after_block, after_line, in_order, due_after, none_due, placed, start, question4}
 use Rattle.layout.specs.declared.Due.{Due}

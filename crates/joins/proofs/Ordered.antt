@@ -1,5 +1,5 @@
 -- Questions 2 to 5 and 14 put to records with raised ones behind them.
-use mathlib.Core.Path.{◌≡◌, refl, sym, ap, ◌∙◌}
+use mathlib.Core.Path.{◌≡◌, refl, sym, ap, ◌∙◌, subst}
 use mathlib.Core.Logic.{◌⊎◌, inl, inr}
 use mathlib.Core.List.{List, [], ◌∷◌, ◌++◌, map}
 use mathlib.Core.Option.{Option, none, some}
@@ -23,7 +23,7 @@ use Rattle.layout.specs.declared.Due.{Due}
 use Rattle.layout.specs.declared.Form.{Form}
 use Rattle.layout.proofs.Bools.{and_both}
 use Rattle.layout.proofs.Printed.{laid, record-long}
-use Rattle.program.specs.Program.{Program, put, program}
+use Rattle.program.specs.Program.{Program, program}
 use Rattle.program.specs.Skips.{Ends, no_ends, onward, ends_after, ends_within, question14}
 use Rattle.program.proofs.Laid.{passed}
 use Rattle.program.proofs.Programs.{no-versions, program-version, program-other}
@@ -112,14 +112,14 @@ counted (r ∷ rs) st q =
         let n = follows_next st _ _ f in
         record {
           least = rw p (omega (arith, n, c.least));
-          low = rw p (λ k. omega (arith, c.least), c.low);
+          low = subst (λ (l : Program). Low (functions_from (next_of st) l) (r ∷ rs)) (sym p) (λ k. omega (arith, c.least), c.low);
           last = rw (p, e) c.last;
         }
     go false e l f c =
         let p = program-other r rs l e in
         record {
           least = rw p c.least;
-          low = rw p (λ k. absurd (eqb-false _ _ e k), c.low);
+          low = subst (λ (l : Program). Low (functions_from (next_of st) l) (r ∷ rs)) (sym p) (λ k. absurd (eqb-false _ _ e k), c.low);
           last = rw (p, e) c.last;
         }
 

@@ -10,7 +10,6 @@ use lib.Seq.{get_or-append-add, length-take-le}
 use lib.Dec.{eqb}
 use borrow.Author.Tests.{eqb-true}
 use Rattle.layout.specs.Kinds as kind
-use Rattle.layout.specs.Tests.{◌and◌}
 use Rattle.layout.specs.Records.{Rec, ◌!◌, size_at, kind_at, body_at, rest, records, choose}
 use Rattle.layout.specs.Forms.{record_bytes, printed}
 use Rattle.layout.specs.Questions.{question2}

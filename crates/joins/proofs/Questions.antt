@@ -2,13 +2,13 @@
 use mathlib.Core.Path.{◌≡◌, refl, sym, ap, ◌∙◌, subst}
 use mathlib.Core.List.{List, [], ◌∷◌, map}
 use mathlib.Core.Option.{Option, none, some, Option-elim}
-use mathlib.Core.Bool.{Bool, not}
+use mathlib.Core.Bool.{Bool}
 use Prim.Native.Nat.{ℕ, zero, suc, ◌+◌}
 use native.Mathlib.Omega.{arith}
 use lib.ListN.{length, length-map, get_elem?, replicate, take}
 use lib.Dec.{eqb, leb}
 use Rattle.layout.specs.Bounds.{INSTRUCTIONS}
-use Rattle.layout.specs.Tests.{◌and◌, any, count, found}
+use Rattle.layout.specs.Tests.{any, count, found}
 use Rattle.program.specs.Program.{Instr, LIT, MOVE, USE, DUP, VEC, LEN, GET, SET, ARITH, SELECT, CAST, NAMED, STORE, PROM, FORCE, PEEK, POKE, CALL, DISPATCH, SKIP, Line, Block, Version, Program, find_version, mark_of, first_mark, given}
 use Rattle.program.specs.Search.{Question}
 use Rattle.program.specs.Questions.{exists, names_block, namings, block_named, question7}
@@ -246,7 +246,7 @@ module _ (k o n : ℕ) (P J : Program) (C : Carries k o n P J) where
   walk-shifted en w [] c = refl
   walk-shifted en w (l ∷ ls) c =
       ap (λ (x : Touch). walk (λ i. skip_of (touch J i)) (λ i. action_of en (touch J i)) (past (skip_of x) (action_of en x) w) (map (shift_line k o) ls)) (touch-shifted l.does (c 0 l refl))
-      ∙ walk-shifted en _ ls (λ i. c (suc i))
+      ∙ walk-shifted en (past (skip_of (touch P l.does)) (action_of en (touch P l.does)) w) ls (λ i. c (suc i))
 
   start-shifted : (ls : List Line) → start (map (shift_line k o) ls) ≡ start ls
   start-shifted ls = ap (λ (m : ℕ). record { done = reading []; ways = replicate (m + 1) none }) (taken-length (shift_line k o) INSTRUCTIONS ls)

@@ -10,8 +10,7 @@ use lib.Seq.{get_or-set_same, get_or-set_other}
 use lib.Dec.{eqb}
 use borrow.Author.Tests.{ltb-true, eqb-true, eqb-false, ne_eqb}
 use Rattle.layout.specs.Kinds as kind
-use Rattle.layout.specs.Tests.{◌and◌}
-use Rattle.layout.specs.Records.{Rec, ◌!◌, every, fields, records, choose}
+use Rattle.layout.specs.Records.{Rec, ◌!◌, every, choose}
 use Rattle.layout.specs.Forms.{literal_kind, literal_length}
 use Rattle.layout.specs.Scan.{scan}
 use Rattle.layout.specs.Questions.{length_of, plain_length, in_order, start, version_next, level_next, block_next, line_next, question3, question4}
@@ -19,7 +18,7 @@ use Rattle.layout.specs.declared.Found.TheVariants.{Nothing}
 use Rattle.layout.specs.declared.Form.{Form}
 use Rattle.layout.proofs.Bools.{and_both}
 use Rattle.layout.proofs.Rows.{Rows, choose-each}
-use Rattle.program.specs.Program.{Instr, CALL, DISPATCH, Line, Block, Version, Program, View, arguments, instr_of, instr_by, line_of, level_of, block_of, version_of, put, put_by, view, view_by, program}
+use Rattle.program.specs.Program.{Instr, Line, Block, Version, Program, View, arguments, instr_of, instr_by, line_of, level_of, block_of, version_of, put, put_by, view, view_by, program}
 use Rattle.program.proofs.Laid.{passed}
 use Rattle.program.proofs.Programs.{put-version, put-block, put-line}
 use Rattle.joins.specs.Shifted.{shift_instr, shift_line, shift_block, shift_version}

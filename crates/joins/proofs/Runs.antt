@@ -14,10 +14,9 @@ use Rattle.machine.specs.States.{over, with_end}
 use Rattle.machine.specs.Calls.{frame_for}
 use Rattle.machine.specs.Steps.{advance}
 use Rattle.machine.specs.Runs.{saying, settled, step_in, step_in_to, step_of, step_of_to, continued, run_from, run_from_to, budget_in, budget_in_to, long_enough, budget_of, budget_of_to, buffer_of}
-use Rattle.machine.specs.Events.{Event, single, budget, change, said, handle_to, after, after_to, replies, replies_to}
+use Rattle.machine.specs.Events.{Event, single, budget, change, handle_to, after, after_to, replies, replies_to}
 use Rattle.machine.specs.Begin.{Given, values_of, vectors_of, first_state, arguments, refused, question13, question12, question19, question11, run_level, entered_of, program_of}
 use Rattle.machine.specs.declared.Answer.{Answer}
-use Rattle.machine.specs.declared.Begun.{Begun}
 use Rattle.machine.specs.declared.Entry.{Entry}
 use Rattle.machine.specs.declared.Frame.{Frame}
 use Rattle.machine.specs.declared.Ran.{Ran}

@@ -9,7 +9,7 @@ use lib.ListN.{length, take, set, get_elem?}
 use lib.Dec.{ltb, leb, eqb}
 use borrow.Author.Tests.{eqb-true}
 use Rattle.layout.specs.Bounds.{INSTRUCTIONS, VERSIONS}
-use Rattle.layout.specs.Tests.{◌and◌, any, found}
+use Rattle.layout.specs.Tests.{◌and◌, found}
 use Rattle.layout.proofs.Bools.{and_both}
 use Rattle.program.specs.Program.{Argument, Instr, LIT, MOVE, USE, DUP, VEC, LEN, GET, SET, ARITH, SELECT, CAST, NAMED, STORE, PROM, FORCE, PEEK, POKE, CALL, DISPATCH, SKIP, Line, Block, Version, Program, find_version, parameter_types, first_mark}
 use Rattle.program.proofs.Held.{find-numbers}

@@ -1,5 +1,6 @@
 //! Two images into one, the first before the second.
 #![tactic(auto)]
+
 ghost use Rattle.std.specs.Prelude.{◌≡◌, cond, map, ◌+◌, ◌≤◌, length};
 ghost use Rattle.layout.specs.Forms.{printed};
 ghost use Rattle.layout.specs.Records.{size_at, records};

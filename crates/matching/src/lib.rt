@@ -3,6 +3,7 @@
 //! Versions are told by their numbers in the table. Kinds are numbers, 0 where there is none.
 //! What a function requires, its callers keep: the loop of `running`, and `searches`, which asks first.
 #![tactic(auto)]
+
 ghost use Rattle.std.specs.Prelude.{◌≡◌, ◌*◌, ◌/◌, ◌%◌, ◌<◌, ◌≤◌, min, length, take};
 ghost use Rattle.layout.specs.Records.{◌!◌, every};
 ghost use Rattle.machine.specs.Calls.{versions_of};

@@ -6,7 +6,7 @@ use mathlib.Core.Bool.{Bool, true, false, cond}
 use Prim.Native.Nat.{ℕ, zero, suc, ◌+◌, ◌-◌, ◌≤◌, ◌<◌}
 use native.Mathlib.Decide.{dec_lt}
 use native.Mathlib.Omega.{arith}
-use lib.ListN.{length, length-set, set, take, drop}
+use lib.ListN.{length, length-set, set, take, drop, get_or}
 use lib.Seq.{get_or-set_same, get_or-set_other, drop-set-lt, drop-set-add, drop-drop}
 use lib.Dec.{ltb, leb, eqb}
 use borrow.Author.Tests.{lt-ltb, le-ltb, eqb-true, eqb-false, le-leb, lt-leb}
@@ -135,10 +135,14 @@ unfolding every
 every_set b k j zero x h l = absurd (omega arith)
 every_set b k zero (suc n) x h l =
     let e : k + 0 ≡ k = omega arith in
-    rw (e, get_or-set_same b k x 0 (omega (arith, l)), every-past b k (k + 1) n x (omega arith)) refl
+    ap (λ (i : ℕ). every (set b i x) k 1 (suc n)) e
+    ∙ ap (λ (y : ℕ). y ∷ every (set b k x) (k + 1) 1 n) (get_or-set_same b k x 0 (omega (arith, l)))
+    ∙ ap (λ (r : List ℕ). x ∷ r) (every-past b k (k + 1) n x (omega arith))
 every_set b k (suc j) (suc n) x h l =
     let e : k + suc j ≡ k + 1 + j = omega arith in
-    rw (e, get_or-set_other b (k + 1 + j) k x 0 (λ z. absurd (omega (arith, z))), every_set b (k + 1) j n x (omega arith) (omega (arith, l))) refl
+    ap (λ (i : ℕ). every (set b i x) k 1 (suc n)) e
+    ∙ ap (λ (y : ℕ). y ∷ every (set b (k + 1 + j) x) (k + 1) 1 n) (get_or-set_other b (k + 1 + j) k x 0 (λ z. absurd (omega (arith, z))))
+    ∙ ap (λ (r : List ℕ). get_or b k 0 ∷ r) (every_set b (k + 1) j n x (omega arith) (omega (arith, l)))
 
 -- a whole record, and a VERSION with as many bytes as its types make
 pub record Set (r : Rec) : Type 0 where

@@ -16,7 +16,7 @@ use Rattle.checker.specs.Verdicts.{verdict_of}
 use Rattle.checker.specs.declared.Verdict.{Verdict}
 use Rattle.mends.specs.declared.Change.{Change}
 use Rattle.mends.specs.declared.Change.TheVariants.{To, Nowhere}
-use Rattle.mends.specs.declared.Mended.TheVariants.{Accepted, Refused, Byte, Unmended}
+use Rattle.mends.specs.declared.Mended.TheVariants.{Refused, Byte, Unmended}
 use Rattle.mends.specs.Mends.{places, VALUES, is_accepted, mends_by, first_value, or_else, first_place, mendable, beside, mend_after, mend_of}
 use Rattle.mends.specs.Parts.{Among}
 use Rattle.mends.specs.Claims.{MendsWell, NoneMends}

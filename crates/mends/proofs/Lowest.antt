@@ -14,7 +14,7 @@ use Rattle.layout.specs.Records.{Rec, ◌!◌, records, fields}
 use Rattle.layout.proofs.Behind.{Chain, chained}
 use Rattle.layout.proofs.Bools.{and-on}
 use Rattle.layout.proofs.Fields.{length-every}
-use Rattle.program.specs.Program.{Version, Program, version_of, view, program}
+use Rattle.program.specs.Program.{Program, version_of, view, program}
 use Rattle.program.specs.Places.{numbers}
 use Rattle.program.proofs.Programs.{no-versions, program-version, program-other}
 use Rattle.checker.specs.Verdicts.{verdict_of}

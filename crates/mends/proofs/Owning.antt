@@ -23,7 +23,7 @@ module _ (X Y : Program) (same : (i : Instr) → touch X i ≡ touch Y i) where
   unfolding walk
   walk_same en w [] = refl
   walk_same en w (l ∷ ls) =
-      ap (λ (t : Touch). walk (λ i. skip_of (touch X i)) (λ i. action_of en (touch X i)) (past (skip_of t) (action_of en t) w) ls) (same l.does) ∙ walk_same en _ ls
+      ap (λ (t : Touch). walk (λ i. skip_of (touch X i)) (λ i. action_of en (touch X i)) (past (skip_of t) (action_of en t) w) ls) (same l.does) ∙ walk_same en (past (skip_of (touch Y l.does)) (action_of en (touch Y l.does)) w) ls
 
   along-same : (en : ℕ → Option Action) (result : ℕ) (ls : List Line)
       → along (λ i. skip_of (touch X i)) (λ i. action_of en (touch X i)) result ls ≡ along (λ i. skip_of (touch Y i)) (λ i. action_of en (touch Y i)) result ls

@@ -211,7 +211,7 @@ pub among-number : (from n i : ℕ) → i < n → Among (from + i) (numbers from
 unfolding numbers Among
 among-number from zero i h = absurd (omega arith)
 among-number from (suc n) zero h = inl (omega arith)
-among-number from (suc n) (suc i) h = let e : from + suc i ≡ from + 1 + i = omega arith in rw e (inr (among-number (from + 1) n i (omega arith)))
+among-number from (suc n) (suc i) h = let e : from + suc i ≡ from + 1 + i = omega arith in inr (subst (λ (x : ℕ). Among x (numbers (from + 1) n)) (sym e) (among-number (from + 1) n i (omega arith)))
 
 pub place-owned : {s now : List ℕ} {from n i : ℕ} → Placing s now from n i → Owned s from n → i < n → Among (from + i) (places (program (records now)))
 unfolding Owned

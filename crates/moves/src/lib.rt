@@ -1,5 +1,6 @@
 //! An image moved to the other form, into a lent buffer.
 #![tactic(auto)]
+
 ghost use Rattle.std.specs.Prelude.{◌≡◌, ◌+◌, ◌≤◌, length};
 ghost use Rattle.layout.specs.Forms.{literal_kind, moved, other, sign_byte};
 ghost use Rattle.layout.specs.Records.{◌!◌, size_at, kind_at, body_at, rec_at, records};

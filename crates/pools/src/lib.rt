@@ -1,6 +1,7 @@
 //! 02, request 10: what each of eight runs reserves of 64 vectors and how many each has, and what a start, a step or a budget of one of them leaves there.
 //! `bytes` and `numbers` are the state of a run.
 #![tactic(auto)]
+
 ghost use Rattle.std.specs.Prelude.{◌||◌, ◌≡◌, ◌-◌, ◌≤◌, leb, get_or, set};
 ghost use Rattle.machine.specs.Allowed.{vectors_in};
 ghost use Rattle.machine.specs.Pools.{RUNS, allowed, larger, over_reserved};

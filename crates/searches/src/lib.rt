@@ -1,5 +1,6 @@
 //! How many versions the DISPATCH looks at that a state stands at, over a loaded image, for all images, tables and states.
 #![tactic(auto)]
+
 ghost use Rattle.std.specs.Prelude.{◌≡◌, ◌<◌, ◌≤◌};
 ghost use Rattle.loaded.specs.Loaded.{few};
 ghost use Rattle.searches.specs.Observing.{Looks, LooksAt, LooksIn, Observes};

@@ -13,7 +13,7 @@ use borrow.Author.Tests.{lt-ltb, le-ltb, ltb-true, ltb-false}
 use Rattle.layout.specs.Bounds.{REGISTERS, NAMES}
 use Rattle.layout.proofs.Lists.{get-some, get_take}
 use Rattle.machine.proofs.Tries.{at_in, at_some, put_in}
-use Rattle.machine.specs.Try.{got, ◌>>=◌, ◌>>◌, at, put}
+use Rattle.machine.specs.Try.{got, ◌>>=◌, at}
 use Rattle.machine.specs.States.{ACTIVATIONS, place, new_frame, live_frames, register, named, with_stack, with_frame, with_register, with_name, assign, store}
 use Rattle.machine.specs.declared.Frame.{Frame}
 use Rattle.machine.specs.declared.Place.{Place}

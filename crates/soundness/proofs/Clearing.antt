@@ -1,6 +1,6 @@
 -- Registers that are emptied: by USE one, by a call those of its owned parameters.
 use mathlib.Core.Path.{◌≡◌, refl, sym, ap, ◌∙◌}
-use mathlib.Core.Logic.{◌≢◌, ◌⊎◌, inl, inr}
+use mathlib.Core.Logic.{◌⊎◌, inl, inr}
 use mathlib.Core.List.{List, [], ◌∷◌}
 use mathlib.Core.Option.{some}
 use mathlib.Core.Bool.{Bool, true, false, ◌||◌, false≢true}
@@ -25,7 +25,7 @@ use Rattle.machine.specs.declared.Promise.{Promise}
 use Rattle.machine.specs.declared.State.{State}
 use Rattle.machine.specs.declared.Value.{Value}
 use Rattle.soundness.proofs.Cells.{Sized, Apart, frame_at, cell_at, write_at, wrote, at_same, at_other, at-function, at-version, write-sized, assign-is}
-use Rattle.soundness.proofs.Invariant.{version_at, type_at, is_full, Fits, Unshared, Heap, Ext, every}
+use Rattle.soundness.proofs.Invariant.{type_at, is_full, Fits, Unshared, Heap, Ext, every}
 use Rattle.soundness.proofs.Types.{clash, eqb_same}
 use Rattle.soundness.proofs.Heap.{same_version, fits-ext, known-ext}
 

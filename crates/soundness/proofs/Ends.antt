@@ -1,6 +1,6 @@
 -- Block ends: a call goes back to its caller or is DONE, a force caches its integer.
 use mathlib.Core.Path.{◌≡◌, refl, sym, ap, ◌∙◌}
-use mathlib.Core.Logic.{◌≢◌, ◌⊎◌, inl, inr}
+use mathlib.Core.Logic.{◌⊎◌, inl, inr}
 use mathlib.Core.List.{List, [], ◌∷◌}
 use mathlib.Core.Option.{Option, none, some}
 use mathlib.Core.Bool.{Bool, true, false, cond, false≢true}
@@ -18,13 +18,13 @@ use Rattle.sets.specs.Sets.{has}
 use Rattle.program.specs.Program.{Version, Program}
 use Rattle.rules.specs.Types.{kind_of, is_owned, is_borrowed, within}
 use Rattle.rules.specs.Fits.{type_of, plain, fresh, fits_return}
-use Rattle.rules.specs.Actions.{Action, reading}
+use Rattle.rules.specs.Actions.{Action}
 use Rattle.rules.proofs.Prefixes.{met-end}
 use Rattle.rules.proofs.Needs.{yielded}
 use Rattle.rules.proofs.Touches.{has-those}
 use Rattle.rules.proofs.Rules.{Yields}
 use Rattle.checker.proofs.Accepted.{Checked}
-use Rattle.machine.specs.Try.{got, ◌>>=◌, ◌>>◌, at}
+use Rattle.machine.specs.Try.{got, ◌>>=◌}
 use Rattle.machine.specs.States.{ACTIVATIONS, VECTORS, PROMISES, new_vector, an_integer, value, with_stack, with_promise, with_end}
 use Rattle.machine.specs.Calls.{back, closed, done, finish}
 use Rattle.machine.specs.declared.Activation.{Activation}

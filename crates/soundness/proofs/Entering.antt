@@ -34,7 +34,7 @@ use Rattle.soundness.proofs.Cells.{cell, cell_at, Apart, place?}
 use Rattle.soundness.proofs.Invariant.{Sure, version_at, block_at, cell_type, type_at, is_full, Fits, Unshared, Heap, Ext, every, Pend, top, waits, is_pend, Gets, Stands, Opened, below, gives, awaited, Base, Stack, stack_of, Inv}
 use Rattle.soundness.proofs.Progress.{Good, good, good-got}
 use Rattle.soundness.proofs.Types.{clash, eqb_same, register-type}
-use Rattle.soundness.proofs.Heap.{same_version, same-type, ext-less, fits-ext, stack-ext, ext-push, version-new, cell-new, heap-push, heap-keep, fits-keep, stack-keep, ext-both}
+use Rattle.soundness.proofs.Heap.{same_version, same-type, ext-less, fits-ext, ext-push, version-new, cell-new, heap-push, heap-keep, fits-keep, stack-keep, ext-both}
 use Rattle.checker.proofs.Limits.{limited}
 use Rattle.soundness.proofs.LiveCalls.{mark-is}
 use Rattle.soundness.proofs.NewFrames.{frame-function, frame-version, frame-whole, frame-cell, body-stands}

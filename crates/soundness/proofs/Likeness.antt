@@ -3,7 +3,7 @@
 use mathlib.Core.Path.{◌≡◌, refl, sym, ap, ◌∙◌}
 use mathlib.Core.List.{List, [], ◌∷◌}
 use mathlib.Core.Option.{Option, none, some}
-use mathlib.Core.Bool.{Bool, true, false, cond, not, ◌&&◌}
+use mathlib.Core.Bool.{Bool, true, false, cond, ◌&&◌}
 use Prim.Native.Nat.{ℕ, zero, suc, ◌+◌, ◌≤◌, ◌<◌}
 use native.Mathlib.Omega.{arith}
 use lib.ListN.{length, take, drop, get_or, set, get_elem?, length-drop, length-set, length-replicate}
@@ -11,7 +11,7 @@ use lib.Seq.{get_or-drop}
 use lib.Dec.{ltb}
 use borrow.Author.Tests.{ltb-true}
 use Rattle.layout.specs.Bounds.{INSTRUCTIONS}
-use Rattle.sets.specs.Sets.{has, those}
+use Rattle.sets.specs.Sets.{has}
 use Rattle.sets.proofs.Members.{has_both}
 use Rattle.program.specs.Program.{Instr, LIT, MOVE, USE, DUP, VEC, LEN, GET, SET, ARITH, SELECT, CAST, NAMED, STORE, PROM, FORCE, PEEK, POKE, CALL, DISPATCH, SKIP, Line, Block, Version, Program}
 use Rattle.rules.specs.Actions.{Action, ◌then◌, reading, Touch, reads◌empties◌assigns◌, enters◌assigns◌, reads◌skips◌, touch, action_of, skip_of, either, Walk, join, here, past, walk, start, along}

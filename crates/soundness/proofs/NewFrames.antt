@@ -10,7 +10,6 @@ use lib.ListN.{length, get_or, replicate, length-replicate, get_or-eq_default}
 use lib.Dec.{ltb}
 use borrow.Author.Tests.{ltb-false}
 use Rattle.layout.specs.Bounds.{REGISTERS, NAMES}
-use Rattle.layout.specs.Tests.{◌and◌}
 use Rattle.layout.proofs.Lists.{get-some}
 use Rattle.program.specs.Program.{Version, Program}
 use Rattle.sets.specs.Sets.{has}

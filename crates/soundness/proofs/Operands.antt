@@ -9,7 +9,6 @@ use native.Mathlib.Omega.{arith}
 use lib.IntN.{ℤ}
 use lib.ListN.{get_elem?}
 use Rattle.layout.specs.Bounds.{REGISTERS}
-use Rattle.layout.specs.Tests.{◌and◌}
 use Rattle.layout.proofs.Bools.{and_both}
 use Rattle.sets.specs.Sets.{has, those}
 use Rattle.program.specs.Program.{Instr, Line, Program}

@@ -9,7 +9,6 @@ use lib.ListN.{get_or}
 use lib.Dec.{ltb}
 use borrow.Author.Tests.{ltb-true}
 use Rattle.layout.specs.Bounds.{OPERATIONS}
-use Rattle.layout.specs.Tests.{◌and◌}
 use Rattle.layout.specs.Records.{choose}
 use Rattle.layout.proofs.Bools.{and_both}
 use Rattle.machine.proofs.Tries.{at_in}

@@ -19,7 +19,6 @@ use Rattle.machine.specs.Allowed.{step_with, budget_with}
 use Rattle.machine.specs.Pools.{allowed, refuses21, fresh, said_in_pool, PoolStepped, PoolRan, overfull, PoolBegun, pool_begun_as}
 use Rattle.machine.specs.Houses.{Ask, start, go_on, Asked, Heard, began, turned, spent, changed, nobody, heard21, started_run, go_on_in, ask_in, House, opened, serve, house_after, heard_under, asks_under, heard_as, ask_alone, heard_alone, TriedIn, history_under}
 use Rattle.machine.specs.declared.Answer.{Answer}
-use Rattle.machine.specs.declared.Begun.{Begun}
 use Rattle.machine.specs.declared.Changed.{Changed}
 use Rattle.machine.specs.declared.End.{End}
 use Rattle.machine.specs.declared.Entry.{Entry}

@@ -10,7 +10,6 @@ use native.Mathlib.Numerals.{add-one}
 use lib.ListN.{length, get_elem?, set, length-set}
 use lib.Seq.{get_or-set_same, get_or-set_other}
 use borrow.Author.Tests.{ltb-true, lt-ltb}
-use Rattle.layout.specs.Tests.{◌and◌}
 use Rattle.layout.proofs.Bools.{and_both}
 use Rattle.layout.proofs.Lists.{get-some}
 use Rattle.machine.proofs.Tries.{at_some}
@@ -27,7 +26,6 @@ use Rattle.rules.proofs.Prefixes.{at_first}
 use Rattle.rules.proofs.Touches.{Promises, promises-by}
 use Rattle.rules.proofs.Rules.{force-marked}
 use Rattle.rules.proofs.Fitted.{prom-fits, prom-touches, force-fits, force-touches}
-use Rattle.machine.specs.Try.{at}
 use Rattle.machine.specs.States.{ACTIVATIONS, PROMISES, promise_counts, free_promise, with_promise, with_stack, assign}
 use Rattle.machine.specs.Calls.{opened, force}
 use Rattle.machine.specs.Steps.{execute_to}
@@ -46,7 +44,7 @@ use Rattle.soundness.proofs.Heap.{heap-promises, lone-unless, touches-captured, 
 use Rattle.soundness.proofs.Stacks.{stack_top}
 use Rattle.soundness.proofs.Counting.{promise-free, free-ok}
 use Rattle.soundness.proofs.KindsOf.{promise-is}
-use Rattle.soundness.proofs.Standing.{At, live, there, meets, operand, kept-now, onward, writes-register, keep_on, keep-more, heap-on, under-on}
+use Rattle.soundness.proofs.Standing.{At, live, meets, operand, kept-now, onward, writes-register, keep_on, keep-more, heap-on, under-on}
 use Rattle.soundness.proofs.Operands.{only_one, fits-i, exists-i, marked-i, full_at, assigned-in, promise-got}
 use Rattle.soundness.proofs.Plain.{Stepped, gives-integer}
 use Rattle.checker.proofs.Limits.{mark-bound}

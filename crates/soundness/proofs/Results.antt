@@ -20,14 +20,13 @@ use Rattle.machine.specs.Begin.{Given, arguments, refused, question11, question1
 use Rattle.machine.specs.Changes.{answer15, changed_by, change_after, change_of}
 use Rattle.machine.specs.Events.{Run, Event, single, budget, change, program_in, handle, handle_to, replies, replies_to}
 use Rattle.machine.specs.declared.Answer.{Answer}
-use Rattle.machine.specs.declared.Begun.{Begun}
 use Rattle.machine.specs.declared.End.{End}
 use Rattle.machine.specs.declared.Entry.{Entry}
 use Rattle.machine.specs.declared.Ran.{Ran}
 use Rattle.machine.specs.declared.Said.{Said}
 use Rattle.machine.specs.declared.State.{State}
 use Rattle.machine.specs.declared.Status.{Status}
-use Rattle.soundness.specs.Results.{Among, to_image, to_beginning, Refusal, of_image, of_beginning, Result, is_refused, is_steps, is_ended, Told, Results, Outcome, is_taken, is_refused_image, is_refused15, Listed, steps, gives, changes, AllListed, end, next, Replies}
+use Rattle.soundness.specs.Results.{Among, to_image, Refusal, of_image, of_beginning, Result, is_refused, is_steps, is_ended, Told, Results, Outcome, is_taken, is_refused_image, is_refused15, Listed, steps, gives, changes, AllListed, end, next, Replies}
 use Rattle.soundness.specs.Claim.{begun}
 use Rattle.soundness.proofs.Invariant.{Inv}
 use Rattle.soundness.proofs.Closing.{StepSafe, step_keeps, step-unstuck}
@@ -118,14 +117,14 @@ unfolding buffer_of over
 buffer-kept r buffer h = rw (writes-none r.state.result r.answer h) refl
 
 -- an end adds at most one step
-last_step : (e : End) → last_step e ≤ 1
+last_step_lem : (e : End) → last_step e ≤ 1
 unfolding last_step
-last_step (End.Integer z) = omega arith
-last_step (End.Vector n) = omega arith
-last_step End.Undef = omega arith
-last_step End.Deep = omega arith
-last_step End.Vectors = omega arith
-last_step End.Promises = omega arith
+last_step_lem (End.Integer z) = omega arith
+last_step_lem (End.Vector n) = omega arith
+last_step_lem End.Undef = omega arith
+last_step_lem End.Deep = omega arith
+last_step_lem End.Vectors = omega arith
+last_step_lem End.Promises = omega arith
 
 -- a run under a budget of m, behind k steps: STEPS with all of them, or an end
 record Took (k m : ℕ) (r : Ran) : Type 0 where
@@ -154,7 +153,7 @@ run-took P safe (suc m) s k inv = go (step_of P s).said refl (run-took P safe m 
   where
     go : (d : Said) → (step_of P s).said ≡ d → Took (k + 1) m (run_from P m (step_of P s).state (k + 1)) → Took k (suc m) (continued (step_of P s).state d k (λ t. run_from P m t (k + 1)))
     go Said.GoesOn e ih = took_more k m _ ih
-    go (Said.Ended x) e ih = took-end k (suc m) (k + last_step x) (step_of P s).state x (omega (arith, last_step x))
+    go (Said.Ended x) e ih = took-end k (suc m) (k + last_step x) (step_of P s).state x (omega (arith, last_step_lem x))
     go Said.Stuck e ih = absurd (step-unstuck P safe s inv e)
 
 -- ---- from the start

@@ -1,13 +1,11 @@
 -- SKIP: the newest activation goes on at the next instruction, or behind the part that it passes over.
 use mathlib.Core.Path.{◌≡◌, refl, sym, ap, ◌∙◌, subst}
-use mathlib.Core.Logic.{inr}
 use mathlib.Core.List.{List, [], ◌∷◌}
 use mathlib.Core.Option.{some}
 use mathlib.Core.Bool.{Bool, true, false, cond}
-use Prim.Native.Nat.{ℕ, zero, suc, ◌+◌, ◌-◌, ◌≤◌, ◌<◌}
+use Prim.Native.Nat.{ℕ, zero, suc, ◌+◌, ◌-◌, ◌<◌}
 use native.Mathlib.Omega.{arith}
 use lib.ListN.{length, get_or, get_elem?, take, set, length-set}
-use lib.Dec.{leb}
 use borrow.Author.Tests.{le-leb}
 use Rattle.layout.specs.Bounds.{INSTRUCTIONS}
 use Rattle.layout.proofs.Lists.{get-some, get_take}
@@ -22,7 +20,7 @@ use Rattle.rules.proofs.Prefixes.{Lands, lands}
 use Rattle.rules.proofs.Needs.{Needed, beyond as behind-part}
 use Rattle.rules.proofs.Fitted.{skip-fits, skip-touches}
 use Rattle.checker.proofs.Limits.{code-few}
-use Rattle.machine.specs.Try.{Try, got, at}
+use Rattle.machine.specs.Try.{got}
 use Rattle.machine.specs.Values.{is_zero}
 use Rattle.machine.specs.States.{live_activations, with_stack}
 use Rattle.machine.specs.Calls.{skipped}
@@ -30,8 +28,7 @@ use Rattle.machine.specs.Steps.{execute_to}
 use Rattle.machine.specs.declared.Activation.{Activation}
 use Rattle.machine.specs.declared.State.{State}
 use Rattle.machine.proofs.Tries.{at_some}
-use Rattle.soundness.proofs.Cells.{cell_at}
-use Rattle.soundness.proofs.Invariant.{Sure, version_at, block_at, is_full, every, top, Gets, awaited, Stack, no_activation, stack_of, Inv}
+use Rattle.soundness.proofs.Invariant.{Sure, version_at, block_at, every, top, Gets, awaited, Stack, no_activation, stack_of, Inv}
 use Rattle.soundness.proofs.Progress.{Good, good, good-got, good-test}
 use Rattle.soundness.proofs.Types.{clash}
 use Rattle.soundness.proofs.Heap.{ext_same}

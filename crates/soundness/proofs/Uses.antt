@@ -8,7 +8,6 @@ use lib.ListN.{get_elem?}
 use mathlib.Core.Option.{some}
 use native.Mathlib.Omega.{arith}
 use Rattle.layout.specs.Bounds.{REGISTERS}
-use Rattle.layout.specs.Tests.{◌and◌}
 use Rattle.layout.proofs.Bools.{and_both}
 use Rattle.sets.specs.Sets.{has}
 use Rattle.program.specs.Program.{USE, Line, Version, Program}

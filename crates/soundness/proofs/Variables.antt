@@ -7,7 +7,6 @@ use Prim.Native.Nat.{ℕ, ◌+◌, ◌<◌}
 use native.Mathlib.Omega.{arith}
 use borrow.Author.Tests.{ltb-true}
 use Rattle.layout.specs.Bounds.{REGISTERS, NAMES}
-use Rattle.layout.specs.Tests.{◌and◌}
 use Rattle.layout.proofs.Bools.{and_both}
 use Rattle.program.specs.Program.{Instr, NAMED, STORE, PEEK, POKE, Line, Version, Program}
 use Rattle.program.specs.Questions.{register_exists, name_exists, exists}
@@ -15,7 +14,7 @@ use Rattle.rules.specs.Types.{is_shared}
 use Rattle.rules.specs.Fits.{value, plain}
 use Rattle.rules.specs.Actions.{touch, reads◌empties◌assigns◌}
 use Rattle.rules.proofs.Fitted.{named-fits, named-touches, store-fits, store-touches, peek-fits, peek-touches, poke-fits, poke-touches}
-use Rattle.machine.specs.Try.{◌>>=◌, at}
+use Rattle.machine.specs.Try.{◌>>=◌}
 use Rattle.machine.specs.States.{name, is_set, store}
 use Rattle.machine.specs.States as states
 use Rattle.machine.specs.Steps.{execute_to}

@@ -7,7 +7,6 @@ use Prim.Native.Nat.{ℕ, suc, ◌+◌, ◌≤◌, ◌<◌}
 use native.Mathlib.Omega.{arith}
 use lib.ListN.{length, length-set}
 use Rattle.layout.specs.Bounds.{REGISTERS}
-use Rattle.layout.specs.Tests.{◌and◌}
 use Rattle.layout.proofs.Bools.{and_both}
 use Rattle.sets.specs.Sets.{has}
 use Rattle.program.specs.Program.{Instr, DUP, VEC, SET, Line, Version, Program}
@@ -16,7 +15,7 @@ use Rattle.rules.specs.Types.{is_owned, is_borrowed}
 use Rattle.rules.specs.Fits.{type_of, integer, fresh}
 use Rattle.rules.specs.Actions.{touch, reads◌empties◌assigns◌}
 use Rattle.rules.proofs.Fitted.{dup-fits, dup-touches, vec-fits, vec-touches, set-fits, set-touches}
-use Rattle.machine.specs.Try.{got, ◌>>=◌, ◌>>◌, stuck_unless, at}
+use Rattle.machine.specs.Try.{got, ◌>>=◌, stuck_unless}
 use Rattle.machine.specs.States.{ACTIVATIONS, VECTORS, new_vector, free_vector, vector_counts, with_vector, with_stack, assign}
 use Rattle.machine.specs.Steps.{alone, execute_to}
 use Rattle.machine.specs.declared.Activation.{Activation}

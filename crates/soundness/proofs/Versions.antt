@@ -13,16 +13,13 @@ use borrow.Author.Tests.{eqb-true, ltb-true, not-true}
 use Rattle.layout.specs.Bounds.{REGISTERS}
 use Rattle.layout.specs.Tests.{◌and◌, all_from, any}
 use Rattle.layout.proofs.Bools.{and_both}
-use Rattle.sets.specs.Sets.{has}
 use Rattle.program.specs.Program.{Line, Block, Version, Program}
 use Rattle.program.specs.Questions.{register_exists, block_named}
 use Rattle.rules.specs.Types.{kind_of, ownership_of, is_shared, is_owned, is_borrowed, is_vector, parameter_type, register_type}
 use Rattle.rules.specs.Fits.{type_of, integer}
 use Rattle.rules.specs.Effects.{reflective, covered}
 use Rattle.rules.specs.Questions.{type_allowed, version_types}
-use Rattle.rules.specs.Actions.{Action}
-use Rattle.rules.specs.Walks.{block_action}
-use Rattle.rules.proofs.Follows.{or-either, not-true as not-false}
+use Rattle.rules.proofs.Follows.{or-either}
 use Rattle.rules.proofs.Rules.{return-kinds, Yields, body-yields, promise-yields}
 use Rattle.checker.proofs.Accepted.{Checked}
 use Rattle.soundness.proofs.Types.{clash, vector-kind}

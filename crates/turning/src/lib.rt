@@ -2,6 +2,7 @@
 //! `bytes` and `numbers` are the state; `counts` says what refers to its vectors and promises.
 //! It serves the loop of `running`; what a function requires, the loop keeps, and a test would cost each step.
 #![tactic(auto)]
+
 ghost use Rattle.std.specs.Prelude.{List, ◌≡◌, ℕ, ◌+◌, ◌<◌, ◌≤◌, drop, length, take};
 ghost use Rattle.layout.specs.declared.Form.{Form};
 ghost use Rattle.layout.specs.Records.{◌!◌, fields};

@@ -4,6 +4,9 @@ use lib.ListN.{length-take, length-drop, length-replicate}
 use Rattle.mends.proofs.Parts.{refused-short, beside-change, beside-nowhere}
 use Rattle.mends.proofs.mend_refused.Goals as goal
 
+pub slice_bounds-copy-end : goal.slice_bounds-copy-end
+slice_bounds-copy-end c = omega (arith, refused-short c.requires)
+
 pub mend_in-requires : goal.mend_in-requires
 mend_in-requires c = record { refusal = c.requires; copy_len = simp (length-take, length-drop, length-replicate) (omega (arith, refused-short c.requires)) }
 

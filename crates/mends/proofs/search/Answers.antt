@@ -24,7 +24,10 @@ overflow_add-p c =
 pub place_in-requires : goal.place_in-requires
 place_in-requires c =
     let m = search-whole c.loop-p.invariant c.loop-p-test.true c.size_at-n.ensures c.if-n-eq0.false c.kind_at.ensures in
-    (failing-as c.loop-p.invariant.same c.requires, owned-as (c.loop-p.p + 10) c.registers-many.result c.loop-p.invariant.same (search-owned c.loop-p.invariant m.0 m.1 c.if-kind_at-eq-VERSION.true (search-types c.loop-p.invariant c.registers-many.ensures.0)))
+    record {
+      failing = failing-as c.loop-p.invariant.same c.requires;
+      owned = owned-as (c.loop-p.p + 10) c.registers-many.result c.loop-p.invariant.same (search-owned c.loop-p.invariant m.0 m.1 c.if-kind_at-eq-VERSION.true (search-types c.loop-p.invariant c.registers-many.ensures.0));
+    }
 
 pub shape_of-image-in-To : goal.shape_of-image-in-To
 shape_of-image-in-To c =

@@ -26,7 +26,7 @@ type_byte-x-requires c =
 pub mends-requires : goal.mends-requires
 mends-requires c =
     let e = c.loop-i.invariant.same ∙ c.may_help.ensures.1 in
-    (failing-as e c.requires.failing, among-as _ e c.requires.among)
+    record { failing = failing-as e c.requires.failing; among = among-as _ e c.requires.among }
 
 pub shape_of-image-then-mends : goal.shape_of-image-then-mends
 shape_of-image-then-mends c =

@@ -1,0 +1,34 @@
+use Rattle.bounds.proofs.Writing.{entry-is, begins-none, begins-more}
+use Rattle.bounds.proofs.Filling.{begins-all}
+use Prim.Native.Nat.{ℕ}
+use lib.ListN.{length-replicate}
+use native.Mathlib.Omega.{arith}
+use Rattle.bounds.proofs.order.starts.Goals as goal
+
+pub loop-k-init : goal.loop-k-init
+loop-k-init c =
+    (omega arith, begins-none _ _ (length-replicate {A = ℕ} 128 0))
+
+pub offset_bounds-places-k : goal.offset_bounds-places-k
+offset_bounds-places-k c =
+    omega (arith, c.loop-k-test.true)
+
+pub bounds-places-k : goal.bounds-places-k
+bounds-places-k c =
+    omega (arith, c.loop-k-test.true, c.loop-k.invariant.1.placed)
+
+pub overflow_add-k : goal.overflow_add-k
+overflow_add-k c =
+    omega (arith, c.loop-k-test.true)
+
+pub loop-k-smaller : goal.loop-k-smaller
+loop-k-smaller c =
+    omega (arith, c.loop-k-test.true)
+
+pub loop-k-preserved : goal.loop-k-preserved
+loop-k-preserved c =
+    (omega (arith, c.loop-k-test.true), begins-more _ _ _ c.loop-k-test.true c.loop-k.invariant.1 (entry-is c.requires _) c.start.ensures)
+
+pub returns : goal.returns
+returns c =
+    begins-all _ _ _ c.loop-k.invariant.1 c.loop-k-test.false

@@ -1,0 +1,11 @@
+-- `moves::put_records`: the loop goes along the records, and what is still to be put is the bytes of those ahead of p.
+use Prim.Native.Nat.{◌-◌}
+use lib.ListN.{length}
+use Rattle.moves.proofs.Parts.{Moved}
+use Rattle.moves.proofs.put_records.Given as goal
+
+abbrev pub invariant-loop-p : goal.invariant-loop-p
+invariant-loop-p l = Moved l.form l.image l.initial.out l.out l.p l.at
+
+abbrev pub decreases-loop-p : goal.decreases-loop-p
+decreases-loop-p l = length l.image - l.p
