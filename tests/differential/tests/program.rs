@@ -16,7 +16,10 @@ use std::thread;
 use std::time::Duration;
 
 /// The program.
-const PROGRAM: &str = concat!(env!("CARGO_MANIFEST_DIR"), "/../../crates/fir_check/out/fir_check");
+const PROGRAM: &str = concat!(
+    env!("CARGO_MANIFEST_DIR"),
+    "/../../crates/fir_check/out/fir_check"
+);
 
 /// How many generated images of each sort the program is run on.
 const IMAGES: u64 = 250;
