@@ -2,7 +2,7 @@
 #![tactic(auto)]
 
 ghost use Rattle.std.specs.Prelude.{◌≤◌, length};
-ghost use Rattle.fir_check.specs.Inputs.{Fits};
+ghost use Rattle.fir_check.specs.Inputs.{Fits, Reads};
 
 use checker::{Reported, report};
 use std::io::{Read, Write};
@@ -41,10 +41,11 @@ fn read_on<R: Read>(input: &mut R, n: usize, space: &mut [u8]) {
 
 /// Reads on behind the `n` bytes that `image` holds, until it is full or the input has ended. A read that fails, as one that a
 /// signal interrupts, is tried again, but not without end.
-#[tactic(auto, unfolding(crate::specs::Inputs::Fits))]
+#[tactic(auto, unfolding(crate::specs::Inputs::Fits, crate::specs::Inputs::Reads))]
 fn read_to_end<R: Read>(input: &mut R, n: usize, image: &mut [u8]) -> Input
     requires { n ≤ length image.old }
-    ensures { Fits result (length image.new) }
+    ensures fits { Fits result (length image.new) }
+    ensures reads { Reads result n image.old image.new (R.remaining input.old) (R.remaining input.new) }
 {
     let mut held = n;
     let mut failures: usize = 0;

@@ -8,11 +8,11 @@ use Rattle.fir_check.proofs.main.Goals as goal
 
 pub slice_bounds-image-end : goal.slice_bounds-image-end
 unfolding Fits
-slice_bounds-image-end c = c.in-Whole.ensures
+slice_bounds-image-end c = c.in-Whole.ensures.fits
 
 pub slice_bounds-report-end : goal.slice_bounds-report-end
 unfolding Fits
-slice_bounds-report-end c = sym (length-take-le _ _ c.in-Whole.ensures)
+slice_bounds-report-end c = sym (length-take-le _ _ c.in-Whole.ensures.fits)
 
 pub slice_bounds-text-end : goal.slice_bounds-text-end
 slice_bounds-text-end c =
