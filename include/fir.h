@@ -28,7 +28,7 @@
  * rows. What calls only read they may share: an image, its table once it is loaded, and a state behind a pointer to const. One pool
  * is one writer: calls on one pool do not overlap, also under different numbers.
  *
- * Linking: the archive that `rt staticlib` makes is for x86-64 and its calling convention of System V; tools/dist makes it for
+ * Linking: the archive that tools/dist/library.sh makes is for x86-64 and its calling convention of System V; tools/dist makes it for
  * aarch64, ARMv7 and riscv64 too. It needs three functions of the C library, memcpy, memmove and memset, on ARMv7 also libgcc,
  * and nothing else.
  *

@@ -67,7 +67,7 @@ POOL_NOT_WRITTEN fir_pool_step pool.has\[[0-9]+\] is
 WORDS
 
 # The module with instructions exchanged, as a wrong back end would.
-tools=$(cd "$(dirname "$(rt doc)")/.." && pwd -P)/on/$(uname -m)/toolchain/bin
+tools=$(dirname "$(rt doc)")/toolchain/bin
 "$tools/clang" --no-default-config -S -emit-llvm -x ir "$module" -Xclang -disable-llvm-passes -o "$out/right.ll"
 while IFS='|' read -r fault from to expected; do
     sed "s/ = $from / = $to /" "$out/right.ll" >"$out/wrong.ll"

@@ -9,13 +9,13 @@ cd "$(dirname "$0")/../.."
 target=$1
 tools/dist/needs.sh "$target"
 
-# A machine in the words of clang: ARMv7 without NEON, as gcc has it there.
+# A machine in the words of clang: ARMv7 without NEON, as gcc has it there; aarch64 as the kit has it.
 case $target in
+aarch64-linux-gnu) machine=("--target=$target" -march=armv8-a -mllvm -aarch64-load-store-renaming=false) ;;
 arm-linux-gnueabihf) machine=(--target=armv7-linux-gnueabihf -march=armv7-a -mfpu=vfpv3-d16) ;;
 *) machine=("--target=$target") ;;
 esac
-kit=$(cd "$(dirname "$(rt doc)")/.." && pwd -P)
-clang=$kit/on/$(uname -m)/toolchain/bin/clang
+clang=$(dirname "$(rt doc)")/toolchain/bin/clang
 out=target/$target
 module=target/staticlib/abi.bc
 [ -x "$clang" ] || { echo "dist: the kit has no $clang" >&2; exit 2; }
@@ -27,7 +27,8 @@ fi
 
 # The same flags as the kit's for x86-64, but for the machine; and those of portable.c.
 module_flags=("${machine[@]}" --no-default-config -Werror -Wno-override-module -O3 -fPIC -ffunction-sections -fdata-sections
-    -mllvm -trap-unreachable -mllvm -no-trap-after-noreturn)
+    -mllvm -trap-unreachable -mllvm -no-trap-after-noreturn -mllvm -disable-machine-licm -mllvm -disable-postra-machine-licm
+    -mllvm -sink-common-insts=false)
 portable_flags=(-std=c99 -Wall -Wextra -Werror -pedantic -O2 -Iinclude -fPIC -ffunction-sections)
 
 mkdir -p "$out"

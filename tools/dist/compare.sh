@@ -64,7 +64,7 @@ for library in "$folder"/lib/*/libfir.a; do
     same "compilers and flags for $target" has_lines "target/$target/MADE-BY"
     same "library for $target" cmp "target/$target/libfir.a" "$library"
 done
-if build rt check fir_check; then same "program fir_check" cmp target/bin/fir_check "$folder/bin/fir_check"; fi
+if build tools/dist/program.sh; then same "program fir_check" cmp crates/fir_check/out/fir_check "$folder/bin/fir_check"; fi
 if build tools/dist/fir.sh; then
     same "compilers and flags of fir" has_lines target/cargo/MADE-BY
     same "program fir" cmp target/cargo/release/fir "$folder/bin/fir"

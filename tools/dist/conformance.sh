@@ -8,7 +8,7 @@ cd "$(dirname "$0")/../.."
 
 out=target/conformance
 library=target/staticlib/libabi.a
-[ -f "$library" ] || { echo "dist: $library is missing; run rt staticlib abi" >&2; exit 2; }
+[ -f "$library" ] || { echo "dist: $library is missing; run tools/dist/library.sh" >&2; exit 2; }
 rm -rf "$out"
 mkdir -p "$out"
 

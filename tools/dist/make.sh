@@ -37,7 +37,7 @@ made_from() {
 tools/dist/module.sh
 tools/dist/conformance.sh
 for target in "$@"; do tools/dist/target.sh "$target"; done
-rt check fir_check
+tools/dist/program.sh
 tools/dist/fir.sh
 
 rm -rf "$out"
@@ -51,7 +51,7 @@ for target in "$@"; do
     cp "target/$target/libfir.a" "$out/lib/$target/libfir.a"
     sed -e "s/@VERSION@/$version/" -e 's|^prefix=.*|&/..|' -e "s|^libdir=.*|&/$target|" tools/dist/fir.pc >"$out/lib/$target/pkgconfig/fir.pc"
 done
-cp check target/bin/fir_check target/cargo/release/fir "$out/bin"
+cp check crates/fir_check/out/fir_check target/cargo/release/fir "$out/bin"
 cp target/conformance/README.md target/conformance/replay.c target/conformance/cases.bin "$out/conformance"
 cp -r examples "$out/examples"
 cp tools/dist/README.md "$out/README.md"

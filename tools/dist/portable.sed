@@ -3,7 +3,7 @@
 # answers behind pointers; those that follow the calling convention of x86-64 are kept from outside. portable.c has them again.
 /^target datalayout = /d
 /^target triple = /d
-/^attributes /s/ "target-cpu"="x86-64"//
-/^define internal .*@"abi::fir_/s/^define internal /define /
+/^attributes /s/ "target-cpu"="[^"]*"//
+/^define internal .*@"abi_c::fir_/s/^define internal /define /
 /^define [^"]*@fir_[a-z_]*(/s/^define /define internal /
-s/@"abi::\(fir_[a-z_]*\)"/@\1_at/g
+s/@"abi_c::\(fir_[a-z_]*\)"/@\1_at/g

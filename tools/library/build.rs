@@ -13,7 +13,7 @@ fn main() {
     println!("cargo:rerun-if-changed={}", library.display());
     if !library.exists() {
         panic!(
-            "the proved library is not there: {} is missing; run `rt staticlib abi`",
+            "the proved library is not there: {} is missing; run tools/dist/library.sh",
             library.display()
         );
     }

@@ -1,9 +1,11 @@
 //! `check`: reads an image from standard input and prints what the checker says of it.
 #![tactic(auto)]
+
 ghost use Rattle.std.specs.Prelude.{◌≤◌, length};
-ghost use Rattle.fir_check.specs.Inputs.{Fits};
+ghost use Rattle.fir_check.specs.Inputs.{Fits, Reads};
 
 use checker::{Reported, report};
+use std::io::{Read, Write};
 
 /// One byte more than an image may have, so that a longer input is refused by question 1.
 const ROOM: usize = 32769;
@@ -25,60 +27,60 @@ enum Input {
 }
 
 /// Where `space` is full with the `n` bytes read, reads standard input to its end by way of it, so that whoever writes can end.
-fn read_on(n: usize, space: &mut [u8]) {
+fn read_on<R: Read>(input: &mut R, n: usize, space: &mut [u8]) {
     if n < space.len() {
         return;
     }
-    let mut reads: usize = 0;
-    while reads < READS {
-        let more = io::read_full(0, space);
-        if more == 0 {
-            return;
+    for _ in 0..READS {
+        match read_to_end(input, 0, space) {
+            Input::Whole(more) if more > 0 => {}
+            _ => return,
         }
-        reads += 1;
     }
 }
 
-/// Reads on behind the `n` bytes that `image` holds, until it is full or standard input has ended. A read that fails, as one that a
+/// Reads on behind the `n` bytes that `image` holds, until it is full or the input has ended. A read that fails, as one that a
 /// signal interrupts, is tried again, but not without end.
-fn read_to_end(n: usize, image: &mut [u8]) -> Input
+#[tactic(auto, unfolding(crate::specs::Inputs::Fits, crate::specs::Inputs::Reads))]
+fn read_to_end<R: Read>(input: &mut R, n: usize, image: &mut [u8]) -> Input
     requires { n ≤ length image.old }
-    ensures { Fits result (length image.new) }
+    ensures fits { Fits result (length image.new) }
+    ensures reads { Reads result n image.old image.new (R.remaining input.old) (R.remaining input.new) }
 {
     let mut held = n;
     let mut failures: usize = 0;
-    let mut next = [0u8; 1];
     while held < image.len() {
-        let got = libc::read(0, &mut next);
-        if got == 0 {
-            return Input::Whole(held);
-        }
-        if got > 0 {
-            image[held] = next[0];
-            held += 1;
-        } else {
-            if failures == FAILURES {
-                return Input::Failed;
+        match input.read(&mut image[held..]) {
+            Ok(0) => return Input::Whole(held),
+            Ok(got) => held += got,
+            Err(_) => {
+                if failures == FAILURES {
+                    return Input::Failed;
+                }
+                failures += 1;
             }
-            failures += 1;
         }
     }
     Input::Whole(held)
 }
 
-fn main() {
+fn main(rt: HostRuntime) {
     let mut image = [0u8; ROOM];
-    let first = io::read_full(0, &mut image);
-    let Input::Whole(n) = read_to_end(first, &mut image) else {
-        io::write_all(2, b"check: standard input cannot be read\n");
+    let mut input = rt.stdin();
+    let Input::Whole(n) = read_to_end(&mut input, 0, &mut image) else {
+        let _ = rt
+            .stderr()
+            .write_all(b"check: standard input cannot be read\n");
         return;
     };
     let mut text = [0u8; TEXT];
     match report::report(&image[..n], &mut text) {
         Reported::Written(size) => {
-            read_on(n, &mut image);
-            if !io::write_all(1, &text[..size]) {
-                io::write_all(2, b"check: standard output cannot be written\n");
+            read_on(&mut input, n, &mut image);
+            if rt.stdout().write_all(&text[..size]).is_err() {
+                let _ = rt
+                    .stderr()
+                    .write_all(b"check: standard output cannot be written\n");
             }
         }
         Reported::Short => {}

@@ -1,6 +1,7 @@
 //! Steps of a run under a budget, over a loaded image and the two arrays of a state.
 //! `bytes` and `numbers` are the state; `counts` says what refers to its vectors and promises.
 #![tactic(auto)]
+
 ghost use Rattle.std.specs.Prelude.{◌≡◌, ◌<◌, ◌≤◌};
 ghost use Rattle.layout.specs.Records.{◌!◌};
 ghost use Rattle.loaded.specs.Loaded.{program_in};

@@ -1,6 +1,7 @@
 //! 02, request 8: a state with its start kept. `bytes` and `numbers` are the state, `bytes0` and `numbers0` the start; `steps` lie behind,
 //! or none any more where `past` is not 0. A step back goes to the start and takes one step less.
 #![tactic(auto)]
+
 ghost use Rattle.std.specs.Prelude.{◌≡◌, ◌+◌};
 ghost use Rattle.loaded.specs.Loaded.{program_in};
 ghost use Rattle.running.specs.Budgets.{Resumes, Steps};

@@ -16,7 +16,10 @@ use std::thread;
 use std::time::Duration;
 
 /// The program.
-const PROGRAM: &str = concat!(env!("CARGO_MANIFEST_DIR"), "/../../target/bin/fir_check");
+const PROGRAM: &str = concat!(
+    env!("CARGO_MANIFEST_DIR"),
+    "/../../crates/fir_check/out/fir_check"
+);
 
 /// How many generated images of each sort the program is run on.
 const IMAGES: u64 = 250;
@@ -25,7 +28,7 @@ const IMAGES: u64 = 250;
 fn start(input: Stdio) -> Child {
     assert!(
         Path::new(PROGRAM).exists(),
-        "the program is not there: {PROGRAM} is missing; run `rt check fir_check`"
+        "the program is not there: {PROGRAM} is missing; run tools/dist/program.sh"
     );
     Command::new(PROGRAM)
         .stdin(input)

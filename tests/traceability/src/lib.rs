@@ -6,9 +6,10 @@
 //! ```text
 //! section 01, Values and types            what the rules below belong to
 //! rule type.byte a type byte is ..        a rule: its name, and its words
-//! definition rules/specs/Types.antt kindOf ownershipOf
+//! definition rules/specs/Types.antt kind_of ownership_of
 //! code typing/src/types.rt owned_kind
 //! proof typing/proofs/types
+//! found typing/src/types.rt owned_kind    functions whose contracts the check proves with no folder of proofs
 //! test types.rs type_byte_is_kind_and_16_times_ownership
 //! edit typing borrowed_register
 //! borrows USE a register is taken fresh   a rule of another paper: its name, and its words

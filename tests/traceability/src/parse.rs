@@ -1,7 +1,10 @@
 //! The rules of a text.
 
-use crate::place::{Place, COLUMNS};
+use crate::place::{Column, Place, COLUMNS};
 use crate::{Borrowed, Rule, Section};
+
+/// The word that opens a line of functions whose proofs the check finds.
+const FOUND: &str = "found";
 
 /// The sections of a text, or what is wrong with the first line that is.
 pub fn parse(text: &str) -> Result<Vec<Section>, String> {
@@ -36,10 +39,17 @@ fn read(line: &str, sections: &mut Vec<Section>) -> Result<(), String> {
             borrowed.rules.extend(words(rest));
         }
         _ => {
-            let column = COLUMNS.into_iter().find(|column| column.word() == word);
+            let column = match word {
+                FOUND => Some(Column::Proof),
+                _ => COLUMNS.into_iter().find(|column| column.word() == word),
+            };
             let column = column.ok_or("its word is unknown")?;
             let rule = section.rules.last_mut().ok_or("no rule is open")?;
-            rule.places.push(place(column, rest)?);
+            let place = place(column, rest)?;
+            if place.is_found() != (word == FOUND) {
+                return Err("a proof that is found is that of a function".to_string());
+            }
+            rule.places.push(place);
         }
     }
     Ok(())
@@ -75,7 +85,7 @@ fn borrowed(rest: &str) -> Result<Borrowed, String> {
 }
 
 /// A place of a column.
-fn place(column: crate::Column, rest: &str) -> Result<Place, String> {
+fn place(column: Column, rest: &str) -> Result<Place, String> {
     let mut words = words(rest);
     let path = words.next().ok_or("no file is named")?;
     let names = words.collect();

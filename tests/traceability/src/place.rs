@@ -90,6 +90,20 @@ impl Place {
         }
     }
 
+    /// Is it the functions of a file of code, whose proofs the check finds, and no folder of proofs?
+    pub fn is_found(&self) -> bool {
+        self.column == Column::Proof && self.path.ends_with(".rt")
+    }
+
+    /// The folder of proofs that a function of the file would have, from the repository's root on.
+    fn folder(&self, name: &str) -> String {
+        let file = self.file().replacen("/src/", "/proofs/", 1);
+        let module = file.trim_end_matches(".rt");
+        let module = module.strip_suffix("/lib").unwrap_or(module);
+        let module = module.strip_suffix("/main").unwrap_or(module);
+        format!("{module}/{name}")
+    }
+
     /// What of it is not in the tree.
     pub fn missing(&self, root: &Path) -> Vec<String> {
         let file = root.join(self.file());
@@ -99,6 +113,10 @@ impl Place {
         let there = |name: &&String| match self.column {
             Column::Edit => file.join(format!("{name}.edit")).is_file(),
             _ if file.is_dir() => file.join(name).exists(),
+            _ if self.is_found() => {
+                fs::read_to_string(&file).is_ok_and(|text| promises(&text, name))
+                    && !root.join(self.folder(name)).exists()
+            }
             _ => fs::read_to_string(&file).is_ok_and(|text| declares(&text, name)),
         };
         let missing = self.names.iter().filter(|name| !there(name));
@@ -117,6 +135,18 @@ fn declares(text: &str, name: &str) -> bool {
         let typed = typed.is_some_and(|first| words[first..].starts_with(&[name, ":"]));
         typed || pairs.any(|pair| KEYWORDS.contains(&pair[0]) && is_name(pair[1], name))
     })
+}
+
+/// Does a function of the text say what it ensures? Its clauses stand before its body, and the line of its body's
+/// bracket ends with that.
+fn promises(text: &str, name: &str) -> bool {
+    let lines = text.lines().skip_while(|line| {
+        let words: Vec<&str> = line.split_whitespace().collect();
+        let mut pairs = words.windows(2);
+        !pairs.any(|pair| pair[0] == "fn" && is_name(pair[1], name))
+    });
+    let mut clauses = lines.take_while(|line| !line.ends_with('{'));
+    clauses.any(|line| line.trim_start().starts_with("ensures"))
 }
 
 /// Is the word the name, or the name and what follows it at once, as parameters?

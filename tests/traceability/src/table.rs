@@ -14,8 +14,9 @@ and that each question and each instruction has one. What a rule does not have r
 A definition is the rule as the proofs know it; the code does it; the proof shows that the code equals the definition, or what
 safety rests on; the tests are those of the reference, which was written from the papers alone, unless a folder is named; a
 must-fail edit is a wrong rule or wrong code that the prover refuses. Definitions, code and proofs stand in `crates/`, tests
-without a folder in `tests/reference/tests/rules/`. A folder of proofs bears the name of the function that it is about; code
-without a proof of its own is proved where it is called, or by itself.
+without a folder in `tests/reference/tests/rules/`. A folder of proofs bears the name of the function that it is about; \"found\"
+are the proofs of functions whose contracts the check proves with no such folder. Code that no proof is named for is proved in the
+same way, or where it is called.
 ";
 
 /// What a cell without a place says.
@@ -76,10 +77,11 @@ fn rule_row(rule: &Rule) -> String {
 
 /// A place in a cell.
 fn cell(place: &Place) -> String {
+    let found = if place.is_found() { "found: " } else { "" };
     let names: Vec<String> = place.names.iter().map(|name| format!("`{name}`")).collect();
     match place.names.is_empty() {
-        true => format!("`{}`", place.path),
-        false => format!("`{}`: {}", place.path, names.join(", ")),
+        true => format!("{found}`{}`", place.path),
+        false => format!("{found}`{}`: {}", place.path, names.join(", ")),
     }
 }
 

@@ -185,6 +185,16 @@ fn names_that_are_not_there_are_missing() {
 }
 
 #[test]
+fn a_proof_is_found_where_the_function_has_a_contract_and_no_folder() {
+    let found = |path, name| missing(Column::Proof, path, name);
+    // `read_to_end` has a folder of proofs, and `read_on` no contract.
+    assert_eq!(found("fir_check/src/main.rt", "read_to_end"), 1);
+    assert_eq!(found("fir_check/src/main.rt", "read_on"), 1);
+    assert_eq!(found("fir_check/src/main.rt", "read"), 1);
+    assert_eq!(found("abi/src/lib.rt", "fir_step"), 0);
+}
+
+#[test]
 fn a_rule_without_a_place_shows() {
     let text = "section S\nrule a.b says so\ndefinition rules/specs/Types.antt within\n";
     let table = table(&parse(text).expect("rules"));
@@ -200,6 +210,8 @@ fn lines_that_are_no_rules_are_named() {
         ("section S\ncode a b", "no rule is open"),
         ("section S\nis a", "no rule is borrowed"),
         ("section S\nrule a b\nproofs a", "its word is unknown"),
+        ("section S\nrule a b\nfound a/proofs/b", "that is found"),
+        ("section S\nrule a b\nproof a/src/b.rt c", "that is found"),
         ("section", "nothing follows its word"),
         ("section S\nrule a", "a name without words"),
     ] {

@@ -25,10 +25,6 @@ pub loop-p-preserved : goal.loop-p-preserved
 loop-p-preserved c =
     raise-next c.requires.ready c.loop-p.invariant c.loop-p-test.true c.requires.image_in_bounds c.size_at-n.ensures c.put_record-at.ensures.0 c.put_record-at.ensures.1
 
-pub shape_of-out : goal.shape_of-out
-shape_of-out c =
-    c.loop-p.invariant.same-room
-
 pub returns : goal.returns
 returns c =
     raise-last c.requires.ready c.loop-p.invariant c.loop-p-test.false

@@ -3,10 +3,6 @@ use mathlib.Core.Path.{sym, ◌∙◌}
 use Rattle.mends.proofs.Parts.{fails-first, is-accepted, is-refused}
 use Rattle.mends.proofs.accepts.Goals as goal
 
-pub passes-requires : goal.passes-requires
-passes-requires c =
-    c.requires.table_value
-
 pub returns-in-Accepted : goal.returns-in-Accepted
 returns-in-Accepted c =
     is-accepted c.args.image.now (sym c.verdict.ensures ∙ c.in-Accepted.is)

@@ -1,6 +1,6 @@
 -- `mends::mend_refused`: an image that is refused by 6, 8, 9 or 10 is no longer than the copy.
 use native.Mathlib.Omega.{arith}
-use lib.ListN.{length-take, length-drop, length-replicate}
+use lib.ListN.{length-take, length-drop}
 use Rattle.mends.proofs.Parts.{refused-short, beside-change, beside-nowhere}
 use Rattle.mends.proofs.mend_refused.Goals as goal
 
@@ -8,7 +8,7 @@ pub slice_bounds-copy-end : goal.slice_bounds-copy-end
 slice_bounds-copy-end c = omega (arith, refused-short c.requires)
 
 pub mend_in-requires : goal.mend_in-requires
-mend_in-requires c = record { refusal = c.requires; copy_len = simp (length-take, length-drop, length-replicate) (omega (arith, refused-short c.requires)) }
+mend_in-requires c = record { refusal = c.requires; copy_len = simp (length-take, length-drop) (omega (arith, refused-short c.requires)) }
 
 pub returns-in-To : goal.returns-in-To
 returns-in-To c =

@@ -23,14 +23,6 @@ pub returns-in-To : goal.returns-in-To
 returns-in-To c =
     place-hit c.loop-i.invariant c.loop-i-test.true c.value_at.ensures.0 c.in-To.is c.value_at.ensures.1
 
-pub overflow_add-i : goal.overflow_add-i
-overflow_add-i c =
-    omega (arith, c.loop-i-test.true)
-
-pub loop-i-smaller : goal.loop-i-smaller
-loop-i-smaller c =
-    omega (arith, c.loop-i-test.true)
-
 pub loop-i-preserved : goal.loop-i-preserved
 loop-i-preserved c =
     place-next c.loop-i.invariant c.loop-i-test.true c.value_at.ensures.0 c.in_default.is c.value_at.ensures.1

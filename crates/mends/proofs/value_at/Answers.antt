@@ -1,11 +1,7 @@
-use native.Mathlib.Omega.{arith}
 use lib.ListN.{length}
 use mathlib.Core.Path.{ap, ◌∙◌}
 use Rattle.mends.proofs.Parts.{value-first, valued_as, value-hit, value-next, value-last, failing-as, among-as, helpless}
 use Rattle.mends.proofs.value_at.Goals as goal
-
-pub may_help-requires : goal.may_help-requires
-may_help-requires c = record { failing = c.requires.failing; among = c.requires.among }
 
 pub shape_of-image-then-not-may_help : goal.shape_of-image-then-not-may_help
 shape_of-image-then-not-may_help c =
@@ -19,10 +15,6 @@ pub loop-i-init : goal.loop-i-init
 loop-i-init c =
     value-first _ _
 
-pub type_byte-x-requires : goal.type_byte-x-requires
-type_byte-x-requires c =
-    c.loop-i-test.true
-
 pub mends-requires : goal.mends-requires
 mends-requires c =
     let e = c.loop-i.invariant.same ∙ c.may_help.ensures.1 in
@@ -35,14 +27,6 @@ shape_of-image-then-mends c =
 pub returns-then-mends : goal.returns-then-mends
 returns-then-mends c =
     valued_as _ c.may_help.ensures.1 (value-hit c.loop-i.invariant c.loop-i-test.true c.type_byte-x.ensures c.mends.ensures.0 c.if-mends.true c.mends.ensures.1)
-
-pub overflow_add-i : goal.overflow_add-i
-overflow_add-i c =
-    omega (arith, c.loop-i-test.true)
-
-pub loop-i-smaller : goal.loop-i-smaller
-loop-i-smaller c =
-    omega (arith, c.loop-i-test.true)
 
 pub loop-i-preserved : goal.loop-i-preserved
 loop-i-preserved c =

@@ -16,10 +16,6 @@ put_literal-requires c =
       p_in_bounds = c.requires.p_in_bounds;
     }
 
-pub returns-then-kind_at-literal_kind : goal.returns-then-kind_at-literal_kind
-returns-then-kind_at-literal_kind c =
-    c.put_literal.ensures
-
 pub overflow_add-p : goal.overflow_add-p
 overflow_add-p c =
     omega (arith, size_in _ _ c.size_at-n.ensures (λ z. c.requires.stands.whole (sym c.size_at-n.ensures ∙ z)))

@@ -13,14 +13,6 @@ returns-then-n-eq0 c =
     ∙ from-open _ _ _ _ _ _ c.loop-w-test.true _ (found_at _ c.requires _ _ c.listed.ensures _ c.in-At.is)
     (sym c.allows.ensures ∙ c.if-allows.true) c.kept-n.ensures c.if-n-eq0.true)
 
-pub overflow_add-w : goal.overflow_add-w
-overflow_add-w c =
-    omega (arith, c.loop-w-test.true)
-
-pub loop-w-smaller-then-allows : goal.loop-w-smaller-then-allows
-loop-w-smaller-then-allows c =
-    omega (arith, c.loop-w-test.true)
-
 pub loop-w-preserved-then-allows : goal.loop-w-preserved-then-allows
 loop-w-preserved-then-allows c = (
   omega (arith, c.loop-w-test.true),
@@ -31,14 +23,6 @@ loop-w-preserved-then-allows c = (
       c.kept-n.ensures c.if-n-eq0.false c.larger-greatest.ensures,
 )
 
-pub overflow_add-w-else-allows : goal.overflow_add-w-else-allows
-overflow_add-w-else-allows c =
-    omega (arith, c.loop-w-test.true)
-
-pub loop-w-smaller-else-allows : goal.loop-w-smaller-else-allows
-loop-w-smaller-else-allows c =
-    omega (arith, c.loop-w-test.true)
-
 pub loop-w-preserved-else-allows : goal.loop-w-preserved-else-allows
 loop-w-preserved-else-allows c = (
   omega (arith, c.loop-w-test.true),
@@ -46,14 +30,6 @@ loop-w-preserved-else-allows c = (
   c.loop-w.invariant.2
       ∙ from-passed _ _ _ _ _ _ c.loop-w-test.true _ (found_at _ c.requires _ _ c.listed.ensures _ c.in-At.is) (sym c.allows.ensures ∙ c.if-allows.false),
 )
-
-pub overflow_add-w-in-Nothing : goal.overflow_add-w-in-Nothing
-overflow_add-w-in-Nothing c =
-    omega (arith, c.loop-w-test.true)
-
-pub loop-w-smaller : goal.loop-w-smaller
-loop-w-smaller c =
-    omega (arith, c.loop-w-test.true)
 
 pub loop-w-preserved : goal.loop-w-preserved
 loop-w-preserved c =

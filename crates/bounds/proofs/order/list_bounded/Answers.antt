@@ -59,14 +59,6 @@ bounds-known-k c =
           c.next_free.ensures.1 c.next_free.ensures.2,
     )
 
-pub overflow_add-row : goal.overflow_add-row
-overflow_add-row c =
-    omega (arith, c.loop-row-test.true)
-
-pub loop-row-smaller : goal.loop-row-smaller
-loop-row-smaller c =
-    omega (arith, c.loop-row-test.true)
-
 pub loop-row-preserved : goal.loop-row-preserved
 loop-row-preserved c =
     filled_more c.loop-row.invariant c.loop-row-test.true c.next_free.ensures.0 _ c.in-At.is

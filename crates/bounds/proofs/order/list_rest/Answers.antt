@@ -15,25 +15,9 @@ pub overflow_add-row : goal.overflow_add-row
 overflow_add-row c =
     omega (arith, rest-room _ _ _ _ _ _ _ _ _ c.loop-k.invariant c.loop-k-test.true (sym c.is_open.ensures ∙ c.if-is_open.true) c.requires.1)
 
-pub overflow_add-k : goal.overflow_add-k
-overflow_add-k c =
-    omega (arith, c.loop-k-test.true)
-
-pub loop-k-smaller-then-is_open : goal.loop-k-smaller-then-is_open
-loop-k-smaller-then-is_open c =
-    omega (arith, c.loop-k-test.true)
-
 pub loop-k-preserved-then-is_open : goal.loop-k-preserved-then-is_open
 loop-k-preserved-then-is_open c =
     rest-next _ _ _ _ _ _ _ _ _ c.loop-k.invariant c.loop-k-test.true (sym c.is_open.ensures ∙ c.if-is_open.true) c.put_row.ensures
-
-pub overflow_add-k-else-is_open : goal.overflow_add-k-else-is_open
-overflow_add-k-else-is_open c =
-    omega (arith, c.loop-k-test.true)
-
-pub loop-k-smaller : goal.loop-k-smaller
-loop-k-smaller c =
-    omega (arith, c.loop-k-test.true)
 
 pub loop-k-preserved : goal.loop-k-preserved
 loop-k-preserved c =

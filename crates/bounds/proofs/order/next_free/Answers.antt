@@ -20,14 +20,6 @@ returns-then-c c = (
       c.loop-k-test.true (sym c.is_open.ensures ∙ c.if-is_open.true) (entry-is c.requires.table_value _) c.count-c.ensures c.if-c.true,
 )
 
-pub overflow_add-k : goal.overflow_add-k
-overflow_add-k c =
-    omega (arith, c.loop-k-test.true)
-
-pub loop-k-smaller-then-is_open : goal.loop-k-smaller-then-is_open
-loop-k-smaller-then-is_open c =
-    omega (arith, c.loop-k-test.true)
-
 pub loop-k-preserved-then-is_open : goal.loop-k-preserved-then-is_open
 loop-k-preserved-then-is_open c = (
   omega (arith, c.loop-k-test.true),
@@ -38,14 +30,6 @@ loop-k-preserved-then-is_open c = (
       (free-no _ _ _ _ c.loop-k.invariant.1 _ c.loop-k-test.true (sym c.is_open.ensures ∙ c.if-is_open.true)
       (entry-is c.requires.table_value _) c.count-c.ensures c.if-c.false),
 )
-
-pub overflow_add-k-else-is_open : goal.overflow_add-k-else-is_open
-overflow_add-k-else-is_open c =
-    omega (arith, c.loop-k-test.true)
-
-pub loop-k-smaller : goal.loop-k-smaller
-loop-k-smaller c =
-    omega (arith, c.loop-k-test.true)
 
 pub loop-k-preserved : goal.loop-k-preserved
 loop-k-preserved c =

@@ -9,21 +9,9 @@ pub loop-k-init : goal.loop-k-init
 loop-k-init c =
     (omega arith, begins-none _ _ (length-replicate {A = ℕ} 128 0))
 
-pub offset_bounds-places-k : goal.offset_bounds-places-k
-offset_bounds-places-k c =
-    omega (arith, c.loop-k-test.true)
-
 pub bounds-places-k : goal.bounds-places-k
 bounds-places-k c =
     omega (arith, c.loop-k-test.true, c.loop-k.invariant.1.placed)
-
-pub overflow_add-k : goal.overflow_add-k
-overflow_add-k c =
-    omega (arith, c.loop-k-test.true)
-
-pub loop-k-smaller : goal.loop-k-smaller
-loop-k-smaller c =
-    omega (arith, c.loop-k-test.true)
 
 pub loop-k-preserved : goal.loop-k-preserved
 loop-k-preserved c =
