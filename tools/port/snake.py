@@ -20,6 +20,7 @@ LEMMAS = {
     "joins/proofs/Runs.antt": "step_in",
     "joins/proofs/Joining.antt": "in_bounds",
     "turning/proofs/Locating.antt": "version_of",
+    "running/proofs/Locating.antt": "version_of",  # where it stood before there was a crate turning
     "runs/proofs/History.antt": "last_step",
     "moves/proofs/Numbers.antt": "all_are",
 }
@@ -70,6 +71,8 @@ def main():
         return
     for path, lemma in LEMMAS.items():
         path = top / "crates" / path
+        if not path.exists():
+            continue
         path.write_text(re.sub(r"(?<![\w'.-])" + lemma + r"(?![\w'-])", lemma + "_lem", path.read_text(encoding="utf-8")), encoding="utf-8")
     own = [(path, path.read_text(encoding="utf-8")) for path, _ in own]
     turn = re.compile(r"(?<![\w'₀-₉])(" + "|".join(sorted(map(re.escape, table), key=len, reverse=True)) + r")(?![\w'₀-₉])")

@@ -1,5 +1,6 @@
 //! Register sets as 16-bit masks: register r is in the set when digit r of the mask is 1.
 #![tactic(auto)]
+
 ghost use Rattle.std.specs.Prelude.{◌≡◌};
 ghost use Rattle.sets.specs.Sets.{setOf, ◌∪◌, ◌∩◌, ◌∖◌, meets, below, only, has, size};
 
