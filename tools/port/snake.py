@@ -24,6 +24,15 @@ LEMMAS = {
     "runs/proofs/History.antt": "last_step",
     "moves/proofs/Numbers.antt": "all_are",
 }
+# Words that the kit has too, and that are the repository's own here; and lemmas that name words of the kit in its older spelling.
+OURS = {
+    "setOf": "set_of",
+    "countOn": "count_on",
+    "getD-from": "get_or-from",
+    "getD-none": "get_or-none",
+    "getD-up_to": "get_or-up_to",
+    "getElem?-up_to": "get_elem?-up_to",
+}
 WORD = re.compile(r"[^\s(){}.;,@\"«»\[\]\\`|/:*<>&!?=]+")
 PART = re.compile(r"[a-z][a-z0-9_]*[A-Z][A-Za-z0-9_₀-₉']*")
 
@@ -75,10 +84,12 @@ def main():
             continue
         path.write_text(re.sub(r"(?<![\w'.-])" + lemma + r"(?![\w'-])", lemma + "_lem", path.read_text(encoding="utf-8")), encoding="utf-8")
     own = [(path, path.read_text(encoding="utf-8")) for path, _ in own]
+    ours = re.compile(r"(?<![\w'₀-₉])(" + "|".join(map(re.escape, OURS)) + r")(?![\w'₀-₉])")
     turn = re.compile(r"(?<![\w'₀-₉])(" + "|".join(sorted(map(re.escape, table), key=len, reverse=True)) + r")(?![\w'₀-₉])")
     pages = [it for below in ("crates/*/must-fail/*.edit", "docs/*.md", "*.md", "tests/traceability/rules/*.txt") for it in texts(top, below)]
     for path, text in own + pages:
-        new = turn.sub(lambda it: table[it[1]], text)
+        new = turn.sub(lambda it: table[it[1]], text) if table else text
+        new = ours.sub(lambda it: OURS[it[1]], new)
         if new != text:
             path.write_text(new, encoding="utf-8")
 

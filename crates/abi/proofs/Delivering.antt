@@ -21,7 +21,7 @@ use Rattle.machine.specs.declared.End.{End}
 use Rattle.machine.specs.declared.Status.{Status}
 use Rattle.machine.proofs.Overlays.{over-next}
 use Rattle.store.specs.Store.{ENDING, STATUS, RESULT, ◌#◌, state_in, status_of}
-use Rattle.store.proofs.Lists.{getD-from, length_from}
+use Rattle.store.proofs.Lists.{get_or-from, length_from}
 use Rattle.abi.specs.Exits.{ended_by, items_in, result_in}
 
 -- ---- a list laid over another
@@ -54,7 +54,7 @@ result-length numbers = length_from (λ i. numbers # (RESULT + i)) 0 16
 
 result-item : (numbers : List ℤ) (j : ℕ) → j < 16 → numbers # (RESULT + j) ≡ get_or (result_in numbers) j (pos 0)
 unfolding result_in
-result-item numbers j h = let e : 0 + j ≡ j = omega arith in sym (getD-from (λ i. numbers # (RESULT + i)) 0 16 j (pos 0) h ∙ ap (λ m. numbers # (RESULT + m)) e)
+result-item numbers j h = let e : 0 + j ≡ j = omega arith in sym (get_or-from (λ i. numbers # (RESULT + i)) 0 16 j (pos 0) h ∙ ap (λ m. numbers # (RESULT + m)) e)
 
 module _ (numbers ys buffer : List ℤ) (j : ℕ) (there : buffer ≡ over (take j (result_in numbers)) ys) where
   -- the next one, as it is read

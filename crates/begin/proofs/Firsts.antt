@@ -30,7 +30,7 @@ use Rattle.store.proofs.Kept.{by_parts, cell_same, delays-kept, frame_same, new-
 use Rattle.store.proofs.Lists.{set-up_to-by, up_to-same}
 use Rattle.store.proofs.Puts.{put-integer, put-place}
 use Rattle.begin.specs.Arrays.{blank_bytes, blank_numbers, bytes_with, first_bytes, first_numbers, integer_bytes, integer_numbers, item_numbers, length_bytes, numbers_with, open_bytes, vector_bytes}
-use Rattle.begin.proofs.Stores.{getD-none, item-stored, over-up_to, sets_over, stored_other, take-few}
+use Rattle.begin.proofs.Stores.{get_or-none, item-stored, over-up_to, sets_over, stored_other, take-few}
 
 -- ---- a run of the version w of the function f
 
@@ -245,5 +245,5 @@ module _ (f w : ℕ) where
 pub first-state : (W : Version) (xs : List Given) → state_in (first_bytes W.function W.version xs) (first_numbers xs) ≡ first_state (frame_for W (values_of xs 0) ∷ []) (vectors_of xs)
 unfolding first_bytes first_numbers blank_bytes blank_numbers first_state frame_for over
 first-state W xs =
-    all-stand W.function W.version xs 0 0 _ _ _ _ (open-stands W.function W.version blank_bytes blank_numbers (length-replicate {A = ℕ} 2632 0) (length-replicate 2129 (pos 0)) (λ i. getD-none {A = ℕ} 2632 i 0) (λ i. getD-none 2129 i (pos 0)))
+    all-stand W.function W.version xs 0 0 _ _ _ _ (open-stands W.function W.version blank_bytes blank_numbers (length-replicate {A = ℕ} 2632 0) (length-replicate 2129 (pos 0)) (λ i. get_or-none {A = ℕ} 2632 i 0) (λ i. get_or-none 2129 i (pos 0)))
     ∙ rw (sets_over (map place (values_of xs 0)) (replicate REGISTERS (place Value.Empty)), sets_over (vectors_of xs) (replicate VECTORS (new_vector []))) refl

@@ -49,10 +49,10 @@ stored_at (x ∷ xs) l i (suc k) d h r =
     let n = length-set l i x in
     ap (λ (j : ℕ). get_or (sets (set l i x) (suc i) xs) j d) e ∙ stored_at xs (set l i x) (suc i) k d (le_of_suc-le-suc h) (omega arith)
 
-pub getD-none : {A : Type 0} (n i : ℕ) (d : A) → get_or (replicate n d) i d ≡ d
-getD-none zero i d = refl
-getD-none (suc n) zero d = refl
-getD-none (suc n) (suc i) d = getD-none n i d
+pub get_or-none : {A : Type 0} (n i : ℕ) (d : A) → get_or (replicate n d) i d ≡ d
+get_or-none zero i d = refl
+get_or-none (suc n) zero d = refl
+get_or-none (suc n) (suc i) d = get_or-none n i d
 
 missing : {A : Type 0} (xs : List A) (i : ℕ) (d : A) → length xs ≤ i → get_or xs i d ≡ d
 missing [] i d h = refl

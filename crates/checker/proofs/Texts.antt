@@ -7,7 +7,7 @@ use native.Mathlib.Omega.{arith}
 use lib.ListN.{length, length-append}
 use Rattle.layout.specs.Kinds as kind
 use Rattle.layout.specs.Records.{records}
-use Rattle.sets.specs.Sets.{size, setOf}
+use Rattle.sets.specs.Sets.{size, set_of}
 use Rattle.program.specs.Program.{Version, Program, nowhere}
 use Rattle.program.specs.Places.{view_at, version_at}
 use Rattle.program.proofs.Views.{Whole, at-version}
@@ -25,7 +25,7 @@ use Rattle.checker.proofs.Asks.{same_ahead}
 -- ---- counts
 
 pub counts-allowed : (P : Program) (v : Version) (f : Flowed) (a : Action) → flowed f ≡ body_action P v → f ≡ Allowed a
-    → counts P v ≡ size (setOf 16 a.reads) ∷ size (setOf 16 a.assigns) ∷ size (setOf 16 a.empties) ∷ size (setOf 16 a.captures) ∷ []
+    → counts P v ≡ size (set_of 16 a.reads) ∷ size (set_of 16 a.assigns) ∷ size (set_of 16 a.empties) ∷ size (set_of 16 a.captures) ∷ []
 unfolding counts flowed Option-elim
 counts-allowed P v f a e h = rw (← e, h)
 

@@ -23,14 +23,14 @@ use Rattle.machine.specs.declared.Opener.{Opener}
 use Rattle.machine.specs.declared.State.{State}
 use Rattle.machine.specs.declared.Value.{Value}
 use Rattle.store.specs.Lists.{up_to}
-use Rattle.store.proofs.Lists.{getElem?-up_to}
+use Rattle.store.proofs.Lists.{get_elem?-up_to}
 use Rattle.store.specs.Store.{◌#◌, CALLS, DEPTH, activation_in, cell_in, frame_in, state_in, value_of, Live}
 use Rattle.store.proofs.Frames.{frame-live, outside, register-in, register-out}
 use Rattle.frames.specs.Frames.{Ending, with_less}
 use Rattle.store.specs.declared.Did.{Did}
 use Rattle.store.specs.Acts.{Does}
 use Rattle.acts.proofs.Answers.{assigned-is}
-use Rattle.ending.specs.Ends.{Returning, Working, ended_by, returns_in, top_opener}
+use Rattle.ending.specs.Ends.{Returning, Working, ended_by_lem, returns_in, top_opener}
 
 -- ---- what stays
 
@@ -39,8 +39,8 @@ cell_same : (b b₂ : List ℕ) (n : List ℤ) (m : ℕ) → state_in b₂ n ≡
 unfolding with_less with_stack state_in
 cell_same b b₂ n m e k r h l =
     let fs = ap (λ (s : State). s.frames) e in
-    let x = getElem?-up_to (frame_in b₂ n) 32 k h in
-    let y = getElem?-up_to (frame_in b n) 32 k h in
+    let x = get_elem?-up_to (frame_in b₂ n) 32 k h in
+    let y = get_elem?-up_to (frame_in b n) 32 k h in
     let q : some (frame_in b₂ n k) ≡ some (frame_in b n k) = sym x ∙ ap (λ gs. get_elem? gs k) fs ∙ y in
     let f : frame_in b₂ n k ≡ frame_in b n k = cc in
     let u : got (cell_in b₂ n k r) ≡ got (cell_in b n k r) = sym (register-in b₂ n k r l) ∙ ap (λ (g : Frame). register g r) f ∙ register-in b n k r l in
@@ -63,7 +63,7 @@ module _ (b : List ℕ) (n : List ℤ) (k : ℕ) (K : Returning b k) where
 
     below-is : at (state_in b n).activations (b ! DEPTH - 2) ≡ got u
     unfolding at or_stuck state_in
-    below-is = let l = K.low in let t = K.below in rw (getElem?-up_to (activation_in b) 32 (b ! DEPTH - 2) (omega arith)) (ap (λ i. got (activation_in b (i - 2))) (sym x) ∙ ap got (sym g))
+    below-is = let l = K.low in let t = K.below in rw (get_elem?-up_to (activation_in b) 32 (b ! DEPTH - 2) (omega arith)) (ap (λ i. got (activation_in b (i - 2))) (sym x) ∙ ap got (sym g))
 
     goes_back : back_by ≡ assign (with_less (state_in b n) k) j d (cell_in b n k e)
     unfolding back with_less ◌>>◌ ◌>>=◌ stuck_unless state_in
@@ -76,7 +76,7 @@ module _ (b : List ℕ) (n : List ℤ) (k : ℕ) (K : Returning b k) where
     module _ (q : j < k) where
       pub full_back : 16 ≤ d → back_by ≡ stuck
       unfolding assign with_less with_stack live_frames at or_stuck ◌>>=◌ state_in
-      full_back t = let c = K.few in goes_back ∙ rw (get_take (up_to (frame_in b n) 0 32) k j q, getElem?-up_to (frame_in b n) 32 j (omega arith), outside b n j d (cell_in b n k e) t) refl
+      full_back t = let c = K.few in goes_back ∙ rw (get_take (up_to (frame_in b n) 0 32) k j q, get_elem?-up_to (frame_in b n) 32 j (omega arith), outside b n j d (cell_in b n k e) t) refl
 
       module _ (b₂ : List ℕ) (s : state_in b₂ n ≡ with_less (state_in b n) (b ! CALLS - 1)) (h : e < 16) where
         back_to : back_by ≡ assign (state_in b₂ n) j d (cell_in b₂ n k e)
@@ -104,7 +104,7 @@ module _ (b : List ℕ) (n : List ℤ) (k : ℕ) (K : Returning b k) where
 module _ (P : Program) (W : Version) (b : List ℕ) (n : List ℤ) (k r : ℕ) where
   -- what the end of the call comes to
   abbrev pub ended : Try State
-  ended = ended_by P W b n k r Opener.Call
+  ended = ended_by_lem P W b n k r Opener.Call
 
   -- behind the types
   abbrev tail : Value → Try State

@@ -21,7 +21,7 @@ use Rattle.machine.specs.declared.Opener.{Opener}
 use Rattle.machine.specs.declared.State.{State}
 use Rattle.machine.specs.declared.Value.{Value}
 use Rattle.store.specs.Lists.{up_to}
-use Rattle.store.proofs.Lists.{getElem?-up_to}
+use Rattle.store.proofs.Lists.{get_elem?-up_to}
 use Rattle.store.specs.Store.{CALLS, DEPTH, activation_in, frame_in, promise_in, state_in, Live}
 use Rattle.store.specs.Acts.{with_cache}
 use Rattle.store.proofs.Frames.{frame-live, outside, register-goes}
@@ -37,8 +37,8 @@ module _ (b b' : List ℕ) (n n' : List ℤ) (p : ℕ) (z : ℤ) (e : state_in b
   unfolding with_cache with_promise state_in
   activations-same i h =
       let l = ap (λ (s : State). s.activations) e in
-      let x = getElem?-up_to (activation_in b') 32 i h in
-      let y = getElem?-up_to (activation_in b) 32 i h in
+      let x = get_elem?-up_to (activation_in b') 32 i h in
+      let y = get_elem?-up_to (activation_in b) 32 i h in
       let q : some (activation_in b' i) ≡ some (activation_in b i) = sym x ∙ ap (λ us. get_elem? us i) l ∙ y in
       cc
 
@@ -127,7 +127,7 @@ module _ (P : Program) (W : Version) (b : List ℕ) (n : List ℤ) (k r p : ℕ)
         module _ (l : 2 ≤ m) (y : b ! DEPTH ≤ 32) {a : Activation} (f : a ≡ activation_in b (m - 2)) {j : ℕ} (g : j ≡ a.frame) where
           below-is : at (state_in b n).activations (b ! DEPTH - 2) ≡ got (activation_in b (m - 2))
           unfolding at or_stuck state_in
-          below-is = rw (getElem?-up_to (activation_in b) 32 (b ! DEPTH - 2) (omega arith)) (ap (λ i. got (activation_in b (i - 2))) (sym x))
+          below-is = rw (get_elem?-up_to (activation_in b) 32 (b ! DEPTH - 2) (omega arith)) (ap (λ i. got (activation_in b (i - 2))) (sym x))
 
           frame-of : (activation_in b (m - 2)).frame ≡ j
           frame-of = ap (λ (a : Activation). a.frame) (sym f) ∙ sym g

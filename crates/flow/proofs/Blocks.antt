@@ -13,7 +13,7 @@ use Rattle.layout.specs.Records.{◌!◌, size_at, kind_at, body_at, rec_at, rec
 use Rattle.layout.specs.declared.Found.TheVariants.{Nothing, At}
 use Rattle.layout.proofs.Walk.{size_in}
 use Rattle.layout.proofs.Rows.{Rows, choose-each}
-use Rattle.sets.specs.Sets.{only, those, setOf}
+use Rattle.sets.specs.Sets.{only, those, set_of}
 use Rattle.sets.proofs.Masks.{set-empty}
 use Rattle.program.specs.Program.{Instr, Program, instr_of, instr_by, line_of, program, Line}
 use Rattle.program.specs.Places.{view_at, past, version_at, block_at, instr_at, block_place, is_line}
@@ -81,7 +81,7 @@ nothing-done : some (masked 0 0 0 0) ≡ reading []
 unfolding those
 nothing-done = simp set-empty
 
-pub reading-one : (m r : ℕ) → setOf 16 m ≡ only 16 r → some (masked m 0 0 0) ≡ reading (r ∷ [])
+pub reading-one : (m r : ℕ) → set_of 16 m ≡ only 16 r → some (masked m 0 0 0) ≡ reading (r ∷ [])
 unfolding those
 reading-one m r e = simp (e, set-empty, only-alone 16 r)
 

@@ -14,7 +14,7 @@ use Rattle.layout.specs.declared.Found.TheVariants.{Nothing, At}
 use Rattle.program.specs.Places.{version_at, version_place}
 use Rattle.program.proofs.Lookups.{version-found, version-missing}
 use mathlib.Core.Option.{Option, none, some}
-use Rattle.sets.specs.Sets.{Set, empty, only, those, both, ◌∪◌, setOf}
+use Rattle.sets.specs.Sets.{Set, empty, only, those, both, ◌∪◌, set_of}
 use Rattle.sets.proofs.Masks.{set-empty}
 use Rattle.sets.proofs.Members.{union_assoc}
 use Rattle.program.specs.Program.{Argument, Version, arguments, parameter_types, beside, program, find_version}
@@ -25,8 +25,8 @@ use Rattle.flow.specs.Masks.{masked}
 -- ---- unions
 
 -- no register, and some
-pub union-empty : (k m : ℕ) → setOf k m ∪ empty k ≡ setOf k m
-unfolding setOf both empty
+pub union-empty : (k m : ℕ) → set_of k m ∪ empty k ≡ set_of k m
+unfolding set_of both empty
 union-empty zero m = refl
 union-empty (suc k) m = ap₂ ◌∷◌ (or-false _) (union-empty k _)
 
@@ -55,26 +55,26 @@ empty-union k (r ∷ rs) = sym (union_assoc (empty k) (only k r) (those k rs)) �
 -- ---- what a loop has gathered, and what is left to gather
 
 pub record Gathers (all : List ℕ) (m : ℕ) (rest : List ℕ) : Type 0 where
-  pub is : those 16 all ≡ setOf 16 m ∪ those 16 rest
+  pub is : those 16 all ≡ set_of 16 m ∪ those 16 rest
 
 pub gather-start : (rs : List ℕ) → Gathers rs 0 rs
 gather-start rs = record { is = sym (ap (λ (l : Set). l ∪ those 16 rs) (set-empty 16) ∙ empty-union 16 rs) }
 
 -- one more is gathered, or none; all are
-pub gather-one : {all rest next : List ℕ} {m n r x : ℕ} (o : ℕ) → Gathers all m rest → rest ≡ r ∷ next → x ≡ r → setOf 16 o ≡ only 16 x → setOf 16 n ≡ setOf 16 m ∪ setOf 16 o → Gathers all n next
+pub gather-one : {all rest next : List ℕ} {m n r x : ℕ} (o : ℕ) → Gathers all m rest → rest ≡ r ∷ next → x ≡ r → set_of 16 o ≡ only 16 x → set_of 16 n ≡ set_of 16 m ∪ set_of 16 o → Gathers all n next
 unfolding those
 gather-one {all} {rest} {next} {m} {n} {r} {x} o g d h e f = record {
   is =
-      g.is ∙ ap (λ (l : List ℕ). setOf 16 m ∪ those 16 l) d ∙ sym (union_assoc (setOf 16 m) (only 16 r) (those 16 next))
-      ∙ ap (λ (l : Set). l ∪ those 16 next) (sym (f ∙ ap (λ (l : Set). setOf 16 m ∪ l) (e ∙ ap (only 16) h)));
+      g.is ∙ ap (λ (l : List ℕ). set_of 16 m ∪ those 16 l) d ∙ sym (union_assoc (set_of 16 m) (only 16 r) (those 16 next))
+      ∙ ap (λ (l : Set). l ∪ those 16 next) (sym (f ∙ ap (λ (l : Set). set_of 16 m ∪ l) (e ∙ ap (only 16) h)));
 }
 
 pub gather_none : {all rest next : List ℕ} {m : ℕ} → Gathers all m rest → rest ≡ next → Gathers all m next
 gather_none {all} {rest} {next} {m} g e = rw e at g
 
-pub gather-end : {all rest : List ℕ} {m : ℕ} → Gathers all m rest → rest ≡ [] → setOf 16 m ≡ those 16 all
+pub gather-end : {all rest : List ℕ} {m : ℕ} → Gathers all m rest → rest ≡ [] → set_of 16 m ≡ those 16 all
 unfolding those
-gather-end {all} {rest} {m} g e = sym (g.is ∙ ap (λ (l : List ℕ). setOf 16 m ∪ those 16 l) e ∙ union-empty 16 m)
+gather-end {all} {rest} {m} g e = sym (g.is ∙ ap (λ (l : List ℕ). set_of 16 m ∪ those 16 l) e ∙ union-empty 16 m)
 
 -- ---- fields
 
@@ -198,11 +198,11 @@ module _ (s : List ℕ) (p i : ℕ) {n : ℕ} (en : n ≡ body_at s p ! 4) where
 
 -- ---- what an instruction does, by the masks of what it reads, empties and assigns
 
-pub none_named : setOf 16 0 ≡ those 16 []
+pub none_named : set_of 16 0 ≡ those 16 []
 unfolding those
 none_named = set-empty 16
 
-pub touched : (rs us ds : List ℕ) (r u d : ℕ) → setOf 16 r ≡ those 16 rs → setOf 16 u ≡ those 16 us → setOf 16 d ≡ those 16 ds
+pub touched : (rs us ds : List ℕ) (r u d : ℕ) → set_of 16 r ≡ those 16 rs → set_of 16 u ≡ those 16 us → set_of 16 d ≡ those 16 ds
     → some (masked r d u 0) ≡ touching rs us ds
 touched rs us ds r u d e f g = simp (e, f, g, set-empty)
 

@@ -2,7 +2,7 @@
 use Rattle.std.proofs.Math.Option.{Option, none, some}
 use Rattle.std.specs.Prelude.{ℕ}
 use Rattle.layout.specs.Bounds.{REGISTERS}
-use Rattle.sets.specs.Sets.{setOf}
+use Rattle.sets.specs.Sets.{set_of}
 use Rattle.program.specs.Program.{Instr, Program}
 use Rattle.rules.specs.Actions.{Action, touch, action_of}
 use Rattle.flow.specs.declared.Action.{Action as Masks}
@@ -11,7 +11,7 @@ use Rattle.flow.specs.declared.Flowed.TheVariants.{Allowed, Refused}
 
 -- the action that four masks are: read, assigned, emptied, captured
 abbrev pub masked : ℕ → ℕ → ℕ → ℕ → Action
-masked r w u c = record { R = setOf REGISTERS r; W = setOf REGISTERS w; U = setOf REGISTERS u; C = setOf REGISTERS c }
+masked r w u c = record { R = set_of REGISTERS r; W = set_of REGISTERS w; U = set_of REGISTERS u; C = set_of REGISTERS c }
 
 -- the action that the masks of the code are
 abbrev pub act : Masks → Action

@@ -4,7 +4,7 @@ ghost use Rattle.std.proofs.Math.Option.{Option-elim};
 ghost use Rattle.layout.specs.Bounds.{REGISTERS};
 ghost use Rattle.layout.specs.Records.{records, body_at, every, fields, ◌!◌};
 ghost use Rattle.layout.specs.Kinds as kind;
-ghost use Rattle.sets.specs.Sets.{setOf, those};
+ghost use Rattle.sets.specs.Sets.{set_of, those};
 ghost use Rattle.program.specs.Program.{program, instr_of, arguments, given, find_version};
 ghost use Rattle.program.specs.Places.{version_at, instr_at, table_of};
 ghost use Rattle.rules.specs.Actions.{reading, touching, emptied, promised, touch, action_of};
@@ -17,7 +17,7 @@ use program::lookup;
 /// The registers that `n` fields of the record at `p` name, from the field `from` on, each `step` behind the one before.
 fn named(image: &[u8], p: usize, from: usize, step: usize, n: usize) -> u16
     requires { (from < 256) × (step < 256) × (n < 256) }
-    ensures { setOf REGISTERS result ≡ those REGISTERS (every (body_at image.now p) from step n) }
+    ensures { set_of REGISTERS result ≡ those REGISTERS (every (body_at image.now p) from step n) }
 {
     let mut registers: u16 = 0;
     let mut i: usize = 0;
@@ -32,7 +32,7 @@ fn named(image: &[u8], p: usize, from: usize, step: usize, n: usize) -> u16
 
 /// The registers that the CALL at `p` gives to the owned parameters of the version at `c`.
 fn given_owned(image: &[u8], c: usize, p: usize) -> u16
-    ensures { setOf REGISTERS result ≡ those REGISTERS (emptied (given (version_at image.now c) (fields (body_at image.now p) 4 (body_at image.now p ! 3)))) }
+    ensures { set_of REGISTERS result ≡ those REGISTERS (emptied (given (version_at image.now c) (fields (body_at image.now p) 4 (body_at image.now p ! 3)))) }
 {
     let n = layout::field(image, p, 3);
     let parameters = lookup::parameters(image, c);
@@ -58,7 +58,7 @@ fn given_owned(image: &[u8], c: usize, p: usize) -> u16
 
 /// The registers that the DISPATCH at `p` gives as owned.
 fn paired_owned(image: &[u8], p: usize) -> u16
-    ensures { setOf REGISTERS result ≡ those REGISTERS (emptied (arguments (body_at image.now p) 5 (body_at image.now p ! 4))) }
+    ensures { set_of REGISTERS result ≡ those REGISTERS (emptied (arguments (body_at image.now p) 5 (body_at image.now p ! 4))) }
 {
     let n = layout::field(image, p, 4);
     let mut registers: u16 = 0;
@@ -100,7 +100,7 @@ fn used(image: &[u8], p: usize) -> Flowed
 
 /// What PROM yields, by what its block does: it captures all that the block touches, and assigns `register`.
 fn promised(block: Flowed, register: u16) -> Flowed
-    ensures { flowed result ≡ promised (setOf REGISTERS register) (flowed block) }
+    ensures { flowed result ≡ promised (set_of REGISTERS register) (flowed block) }
 {
     match block {
         Flowed::Allowed(a) => Flowed::Allowed(Action {
@@ -126,7 +126,7 @@ fn promising(image: &[u8], p: usize, entered: Flowed) -> Flowed
 /// The registers that the CALL at `p` empties: none where its version is not there.
 fn call_empties(image: &[u8], table: &[usize; 128], p: usize) -> u16
     requires { table.now ≡ table_of image.now }
-    ensures { setOf REGISTERS result
+    ensures { set_of REGISTERS result
         ≡ those REGISTERS (Option-elim (find_version (program (records image.now)) (body_at image.now p ! 1) (body_at image.now p ! 2)) []
         (λ c. emptied (given c (fields (body_at image.now p) 4 (body_at image.now p ! 3))))) }
 {

@@ -16,7 +16,7 @@ use Rattle.machine.specs.declared.Frame.{Frame}
 use Rattle.machine.specs.declared.Opener.{Opener}
 use Rattle.machine.specs.declared.Value.{Value}
 use Rattle.store.specs.Lists.{up_to}
-use Rattle.store.proofs.Lists.{getElem?-up_to, missing-up_to, take-all-up_to, take-up_to}
+use Rattle.store.proofs.Lists.{get_elem?-up_to, missing-up_to, take-all-up_to, take-up_to}
 use Rattle.store.specs.Store.{CALLS, DEPTH, activation_in, cell_in, frame_in, state_in, Sized}
 use Rattle.store.specs.Counts.{one, in_frame, in_frames, holding, forcers, forcing, is_reference, references, refers_to, counts_at, repend, more, Calm, Few, Pends, Ready, Recounts}
 use Rattle.store.proofs.Counting.{one-most}
@@ -72,7 +72,7 @@ unfolding references
 references-few b n k j = go (ltb j k) refl
   where
     go : (t : Bool) → ltb j k ≡ t → references (get_elem? (up_to (frame_in b n) 0 k) j) ≤ 24
-    go true q = rw (getElem?-up_to (frame_in b n) k j (ltb-true j k q)) (frame-most is_reference b n j)
+    go true q = rw (get_elem?-up_to (frame_in b n) k j (ltb-true j k q)) (frame-most is_reference b n j)
     go false q = rw (missing-up_to (frame_in b n) k j (ltb-false j k q)) (omega arith)
 
 pub tally-begun : (b : List ℕ) (n : List ℤ) (c : List ℕ) → Nothing c → Tallied b n c 0 0
@@ -134,14 +134,14 @@ module _ (b : List ℕ) (n : List ℤ) where
           let u = rw e at x in
           let w = rw (e, missing-up_to (frame_in b n) k k (omega arith)) at y in
           let z = cells-all (counts_at (768 + k) k) b n k ∙ frame-as (counts_at (768 + k) k) is_reference (at-frame k) (frame_in b n k) in
-          rw (e, getElem?-up_to (frame_in b n) (k + 1) k (omega arith)) (omega arith)
+          rw (e, get_elem?-up_to (frame_in b n) (k + 1) k (omega arith)) (omega arith)
       each j a x y false p t q =
           let e = eqb-false j k p in
           let z = cells-all (counts_at (768 + j) k) b n k ∙ frame-none (counts_at (768 + j) k) (λ u. elsewhere k u (768 + j) (omega arith) (λ y. e (omega arith))) (frame_in b n k) in
           (let w : c' ! (768 + j) ≡ c ! (768 + j) = omega arith in w) ∙ y ∙ same t q
         where
           same : (t : Bool) → ltb j k ≡ t → references (get_elem? (up_to (frame_in b n) 0 k) j) ≡ references (get_elem? (up_to (frame_in b n) 0 (k + 1)) j)
-          same true q = let l = ltb-true j k q in rw (getElem?-up_to (frame_in b n) k j l, getElem?-up_to (frame_in b n) (k + 1) j (omega arith)) refl
+          same true q = let l = ltb-true j k q in rw (get_elem?-up_to (frame_in b n) k j l, get_elem?-up_to (frame_in b n) (k + 1) j (omega arith)) refl
           same false q = let l = ltb-false j k q in let e : j ≡ k → ⊥ = eqb-false j k p in rw (missing-up_to (frame_in b n) k j l, missing-up_to (frame_in b n) (k + 1) j (omega arith)) refl
 
 -- ---- the live activations

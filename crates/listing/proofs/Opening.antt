@@ -21,7 +21,7 @@ use Rattle.machine.specs.declared.Frame.{Frame}
 use Rattle.machine.specs.declared.State.{State}
 use Rattle.machine.specs.declared.Value.{Value}
 use Rattle.machine.proofs.Overlays.{length_over}
-use Rattle.store.proofs.Lists.{getElem?-up_to, length-up_to, set-up_to-by}
+use Rattle.store.proofs.Lists.{get_elem?-up_to, length-up_to, set-up_to-by}
 use Rattle.store.specs.declared.Did.{Did}
 use Rattle.store.specs.Store.{CALLS, cell_in, frame_in, state_in, Live}
 use Rattle.store.specs.Counts.{Ready}
@@ -38,11 +38,11 @@ use Rattle.listing.proofs.Arguments.{length-map, length-take, map-append, over-m
 -- a frame of arrays, by the frames of the state
 pub frame-by : (b b' : List ℕ) (n n' : List ℤ) (k : ℕ) {f : Frame} → k < 32 → get_elem? (state_in b' n').frames k ≡ some f → frame_in b' n' k ≡ f
 unfolding state_in
-frame-by b b' n n' k {f = f} h e = let q : some (frame_in b' n' k) ≡ some f = sym (getElem?-up_to (frame_in b' n') 32 k h) ∙ e in cc
+frame-by b b' n n' k {f = f} h e = let q : some (frame_in b' n' k) ≡ some f = sym (get_elem?-up_to (frame_in b' n') 32 k h) ∙ e in cc
 
 pub frame_is : (b : List ℕ) (n : List ℤ) (k : ℕ) → k < 32 → get_elem? (state_in b n).frames k ≡ some (frame_in b n k)
 unfolding state_in
-frame_is b n k h = getElem?-up_to (frame_in b n) 32 k h
+frame_is b n k h = get_elem?-up_to (frame_in b n) 32 k h
 
 pub frames-long : (b : List ℕ) (n : List ℤ) → length (state_in b n).frames ≡ 32
 unfolding state_in

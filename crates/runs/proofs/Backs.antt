@@ -23,7 +23,7 @@ use Rattle.machine.specs.declared.Said.{Said}
 use Rattle.machine.specs.declared.State.{State}
 use Rattle.machine.specs.declared.Status.{Status}
 use Rattle.machine.specs.declared.Trail.{Trail}
-use Rattle.runs.specs.Backs.{At, gone, stopped, taken_of, Kept, Counts, GoesBack, StepsBack, Undoes, Redoes, is_taken, takes, count_back, countOn, count_after, NoneTaken, Since, steps_of, steps_in, OneLess, Straight}
+use Rattle.runs.specs.Backs.{At, gone, stopped, taken_of, Kept, Counts, GoesBack, StepsBack, Undoes, Redoes, is_taken, takes, count_back, count_on, count_after, NoneTaken, Since, steps_of, steps_in, OneLess, Straight}
 use Rattle.runs.proofs.Splits.{budget-long}
 use Rattle.runs.proofs.Counted.{lent, lent-long, after_more, after_one, after_none, at_goes, at-step, at-budget, one-taken, taken-most, then-taken, less-taken, taken_more}
 
@@ -133,8 +133,8 @@ back-counts v Behind.Past e k = refl
 back-counts v (Behind.Steps zero) e k = refl
 back-counts v (Behind.Steps (suc m)) e k = let n = behind-steps k.steps (suc m) (sym k.behind ∙ e) in omega (arith, n.0)
 
-move-counts : (m : Move) (v : Visit) (k : Kept v) → (move-keeps m v k).steps ≡ countOn m v k.steps
-unfolding move-keeps countOn takes steps_of back_of
+move-counts : (m : Move) (v : Visit) (k : Kept v) → (move-keeps m v k).steps ≡ count_on m v k.steps
+unfolding move-keeps count_on takes steps_of back_of
 move-counts (event single) v k = refl
 move-counts (event (budget n buffer)) v k = refl
 move-counts (event (change new)) v k = change-counts v new (change_of v.image new v.trail.state) k

@@ -54,14 +54,14 @@ count_back Back.Taken n = n - 1
 count_back (Back.Refused q p) n = n
 
 -- behind a move, where n lay behind before it: a change that is taken is a start
-unfoldable pub countOn : Move → Visit → ℕ → ℕ
-countOn (event e) v n = cond (takes (event e) v) 0 (n + steps_of e (run_now v))
-countOn step_back v n = count_back (back_of (visit_program v) v.trail).back n
+unfoldable pub count_on : Move → Visit → ℕ → ℕ
+count_on (event e) v n = cond (takes (event e) v) 0 (n + steps_of e (run_now v))
+count_on step_back v n = count_back (back_of (visit_program v) v.trail).back n
 
 -- behind a list of moves
 unfoldable pub count_after : List Move → Visit → ℕ → ℕ
 count_after [] v n = n
-count_after (m ∷ ms) v n = count_after ms (move m v).visit (countOn m v n)
+count_after (m ∷ ms) v n = count_after ms (move m v).visit (count_on m v n)
 
 -- After every list of steps, budgets, changes, taken or refused, and steps back, from every run: so many lie behind as the list comes to
 unfoldable pub Counts : Type 0

@@ -29,7 +29,7 @@ use Rattle.machine.specs.declared.State.{State}
 use Rattle.store.specs.Lists.{up_to}
 use Rattle.store.specs.Store.{CALLS, DEPTH, Live, activation_in, frame_in, state_in}
 use Rattle.store.proofs.Frames.{frame-live}
-use Rattle.store.proofs.Lists.{getElem?-up_to, missing-up_to}
+use Rattle.store.proofs.Lists.{get_elem?-up_to, missing-up_to}
 use Rattle.frames.specs.Frames.{Lives}
 use Rattle.loaded.proofs.Reading.{arguments-behind, long-dispatch}
 use Rattle.loaded.specs.Answers.{block_of, next_of, version_of}
@@ -126,7 +126,7 @@ module _ (s t b : List ℕ) {d : ℕ} (z : d ≡ b ! DEPTH) where
   module _ (l : d ≡ 0 → ⊥) (m : d ≤ 32) {a : Activation} (top : a ≡ activation_in b (d - 1)) {k : ℕ} (e : k ≡ a.frame) (x : Bool) (lives : Lives x b k) where
     on-top : (n : List ℤ) → at (live_activations (state_in b n)) (b ! DEPTH - 1) ≡ got a
     unfolding live_activations at or_stuck state_in
-    on-top n = rw (top, z, get_take (up_to (activation_in b) 0 32) (b ! DEPTH) (b ! DEPTH - 1) (omega arith), getElem?-up_to (activation_in b) 32 (b ! DEPTH - 1) (omega arith)) refl
+    on-top n = rw (top, z, get_take (up_to (activation_in b) 0 32) (b ! DEPTH) (b ! DEPTH - 1) (omega arith), get_elem?-up_to (activation_in b) 32 (b ! DEPTH - 1) (omega arith)) refl
 
     pub not_live : x ≡ false → Observes Search.Elsewhere s t b
     unfolding search_of search_from here ◌>>=◌ Lives state_in

@@ -64,6 +64,6 @@ size [] = 0
 size (b ∷ s) = cond b 1 0 + size s
 
 -- the set of k registers that a mask is: its k lowest binary digits
-unfoldable pub setOf : ℕ → ℕ → Set
-setOf zero m = []
-setOf (suc k) m = eqb (m % 2) 1 ∷ setOf k (m / 2)
+unfoldable pub set_of : ℕ → ℕ → Set
+set_of zero m = []
+set_of (suc k) m = eqb (m % 2) 1 ∷ set_of k (m / 2)

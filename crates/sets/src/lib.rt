@@ -2,63 +2,63 @@
 #![tactic(auto)]
 
 ghost use Rattle.std.specs.Prelude.{◌≡◌};
-ghost use Rattle.sets.specs.Sets.{setOf, ◌∪◌, ◌∩◌, ◌∖◌, meets, below, only, has, size};
+ghost use Rattle.sets.specs.Sets.{set_of, ◌∪◌, ◌∩◌, ◌∖◌, meets, below, only, has, size};
 
 /// The binary digits of a mask: one for each register.
 pub const WIDTH: usize = 16;
 
 /// The registers in `a`, in `b` or in both.
 pub fn union(a: u16, b: u16) -> u16
-    ensures { setOf 16 result ≡ setOf 16 a ∪ setOf 16 b }
+    ensures { set_of 16 result ≡ set_of 16 a ∪ set_of 16 b }
 {
     a | b
 }
 
 /// The registers in `a` and in `b`.
 pub fn intersection(a: u16, b: u16) -> u16
-    ensures { setOf 16 result ≡ setOf 16 a ∩ setOf 16 b }
+    ensures { set_of 16 result ≡ set_of 16 a ∩ set_of 16 b }
 {
     a & b
 }
 
 /// The registers in `a` that are not in `b`.
 pub fn difference(a: u16, b: u16) -> u16
-    ensures { setOf 16 result ≡ setOf 16 a ∖ setOf 16 b }
+    ensures { set_of 16 result ≡ set_of 16 a ∖ set_of 16 b }
 {
     a & !b
 }
 
 /// Is a register in both?
 pub fn meets(a: u16, b: u16) -> bool
-    ensures { result ≡ meets (setOf 16 a) (setOf 16 b) }
+    ensures { result ≡ meets (set_of 16 a) (set_of 16 b) }
 {
     a & b != 0
 }
 
 /// Are all in `a` among the first `n` registers? From 16 on every set is.
 pub fn below(a: u16, n: usize) -> bool
-    ensures { result ≡ below n (setOf 16 a) }
+    ensures { result ≡ below n (set_of 16 a) }
 {
     if n < WIDTH { a >> n == 0 } else { true }
 }
 
 /// The register `r` alone; the empty set where `r` is 16 or more.
 pub fn only(r: usize) -> u16
-    ensures { setOf 16 result ≡ only 16 r }
+    ensures { set_of 16 result ≡ only 16 r }
 {
     if r < WIDTH { 1u16 << r } else { 0 }
 }
 
 /// Is `r` in `a`? A number of 16 or more is in no set.
 pub fn has(a: u16, r: usize) -> bool
-    ensures { result ≡ has (setOf 16 a) r }
+    ensures { result ≡ has (set_of 16 a) r }
 {
     if r < WIDTH { (a >> r) % 2 == 1 } else { false }
 }
 
 /// How many registers are in `a`.
 pub fn size(a: u16) -> u32
-    ensures { result ≡ size (setOf 16 a) }
+    ensures { result ≡ size (set_of 16 a) }
 {
     u16::count_ones(a)
 }

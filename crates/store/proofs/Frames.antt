@@ -18,18 +18,18 @@ use Rattle.machine.specs.States.{place, live_frames, register, named, with_regis
 use Rattle.machine.specs.declared.End.{End}
 use Rattle.machine.specs.declared.Value.{Value}
 use Rattle.store.specs.Lists.{up_to}
-use Rattle.store.proofs.Lists.{length-up_to, getElem?-up_to, missing-up_to, up_to-same, set-up_to-by}
+use Rattle.store.proofs.Lists.{length-up_to, get_elem?-up_to, missing-up_to, up_to-same, set-up_to-by}
 use Rattle.store.specs.Store.{◌#◌, CALLS, cell_in, frame_in, state_in, Live, Puts}
 use Rattle.store.proofs.Kept.{cell_same, new-frame}
 
 module _ (b : List ℕ) (n : List ℤ) (k : ℕ) where
   pub frame-live : Live b k → at (live_frames (state_in b n)) k ≡ got (frame_in b n k)
   unfolding at or_stuck live_frames state_in
-  frame-live (l, h) = rw (get_take (up_to (frame_in b n) 0 32) (b ! CALLS) k h, getElem?-up_to (frame_in b n) 32 k l) refl
+  frame-live (l, h) = rw (get_take (up_to (frame_in b n) 0 32) (b ! CALLS) k h, get_elem?-up_to (frame_in b n) 32 k l) refl
 
   pub register-in : (r : ℕ) → r < 16 → register (frame_in b n k) r ≡ got (cell_in b n k r)
   unfolding register frame_in at or_stuck ◌>>=◌
-  register-in r h = rw (getElem?-up_to (λ i. place (cell_in b n k i)) 16 r h) refl
+  register-in r h = rw (get_elem?-up_to (λ i. place (cell_in b n k i)) 16 r h) refl
 
   pub register-out : (r : ℕ) → 16 ≤ r → register (frame_in b n k) r ≡ stuck
   unfolding register frame_in at or_stuck ◌>>=◌
@@ -37,7 +37,7 @@ module _ (b : List ℕ) (n : List ℤ) (k : ℕ) where
 
   pub name_in : (x : ℕ) → x < 8 → named (frame_in b n k) x ≡ got (cell_in b n k (16 + x))
   unfolding named frame_in at or_stuck ◌>>=◌
-  name_in x h = rw (getElem?-up_to (λ i. place (cell_in b n k (16 + i))) 8 x h) refl
+  name_in x h = rw (get_elem?-up_to (λ i. place (cell_in b n k (16 + i))) 8 x h) refl
 
   pub name_out : (x : ℕ) → 8 ≤ x → named (frame_in b n k) x ≡ stuck
   unfolding named frame_in at or_stuck ◌>>=◌

@@ -27,11 +27,11 @@ missing-from f i zero k h = refl
 missing-from f i (suc n) zero h = absurd (not-suc-le-zero h)
 missing-from f i (suc n) (suc k) h = missing-from f (suc i) n k (le_of_suc-le-suc h)
 
-pub getD-from : {A : Type 0} (f : ℕ → A) (i n k : ℕ) (d : A) → k < n → get_or (up_to f i n) k d ≡ f (i + k)
+pub get_or-from : {A : Type 0} (f : ℕ → A) (i n k : ℕ) (d : A) → k < n → get_or (up_to f i n) k d ≡ f (i + k)
 unfolding up_to
-getD-from f i zero k d h = absurd (not-suc-le-zero h)
-getD-from f i (suc n) zero d h = let e : i ≡ i + 0 = omega arith in ap f e
-getD-from f i (suc n) (suc k) d h = let e : suc i + k ≡ i + suc k = omega arith in getD-from f (suc i) n k d (le_of_suc-le-suc h) ∙ ap f e
+get_or-from f i zero k d h = absurd (not-suc-le-zero h)
+get_or-from f i (suc n) zero d h = let e : i ≡ i + 0 = omega arith in ap f e
+get_or-from f i (suc n) (suc k) d h = let e : suc i + k ≡ i + suc k = omega arith in get_or-from f (suc i) n k d (le_of_suc-le-suc h) ∙ ap f e
 
 pub take-from : {A : Type 0} (f : ℕ → A) (i n m : ℕ) → m ≤ n → take m (up_to f i n) ≡ up_to f i m
 unfolding up_to
@@ -69,14 +69,14 @@ set-from f g i (suc n) (suc k) x e h =
 pub length-up_to : {A : Type 0} (f : ℕ → A) (n : ℕ) → length (up_to f 0 n) ≡ n
 length-up_to f n = length_from f 0 n
 
-pub getElem?-up_to : {A : Type 0} (f : ℕ → A) (n i : ℕ) → i < n → get_elem? (up_to f 0 n) i ≡ some (f i)
-getElem?-up_to f n i h = let e : 0 + i ≡ i = omega arith in get_from f 0 n i h ∙ ap (λ m. some (f m)) e
+pub get_elem?-up_to : {A : Type 0} (f : ℕ → A) (n i : ℕ) → i < n → get_elem? (up_to f 0 n) i ≡ some (f i)
+get_elem?-up_to f n i h = let e : 0 + i ≡ i = omega arith in get_from f 0 n i h ∙ ap (λ m. some (f m)) e
 
 pub missing-up_to : {A : Type 0} (f : ℕ → A) (n i : ℕ) → n ≤ i → get_elem? (up_to f 0 n) i ≡ none
 missing-up_to f n i h = missing-from f 0 n i h
 
-pub getD-up_to : {A : Type 0} (f : ℕ → A) (n i : ℕ) (d : A) → i < n → get_or (up_to f 0 n) i d ≡ f i
-getD-up_to f n i d h = let e : 0 + i ≡ i = omega arith in getD-from f 0 n i d h ∙ ap f e
+pub get_or-up_to : {A : Type 0} (f : ℕ → A) (n i : ℕ) (d : A) → i < n → get_or (up_to f 0 n) i d ≡ f i
+get_or-up_to f n i d h = let e : 0 + i ≡ i = omega arith in get_or-from f 0 n i d h ∙ ap f e
 
 pub take-up_to : {A : Type 0} (f : ℕ → A) (n m : ℕ) → m ≤ n → take m (up_to f 0 n) ≡ up_to f 0 m
 take-up_to f n m h = take-from f 0 n m h

@@ -12,7 +12,7 @@ use Rattle.machine.specs.States.{live_activations, live_frames, with_promise}
 use Rattle.machine.specs.declared.Cache.{Cache}
 use Rattle.machine.specs.declared.Promise.{Promise}
 use Rattle.machine.specs.declared.State.{State}
-use Rattle.store.proofs.Lists.{getElem?-up_to, missing-up_to}
+use Rattle.store.proofs.Lists.{get_elem?-up_to, missing-up_to}
 use Rattle.store.specs.Store.{◌#◌, DELAYS, CACHES, cache_of, promise_in, state_in}
 use Rattle.store.specs.Counts.{Counted, Ready, forcing, holding}
 use Rattle.store.specs.Acts.{with_cache, with_delay}
@@ -32,7 +32,7 @@ promise-is b n p e = λ t. record { frame = b ! (DELAYS + 4 * p); block = b ! (D
 module _ (b : List ℕ) (n : List ℤ) (p : ℕ) where
   pub promise-at : p < 64 → at (state_in b n).promises p ≡ got (promise_in b n p)
   unfolding at or_stuck state_in
-  promise-at h = rw (getElem?-up_to (promise_in b n) 64 p h) refl
+  promise-at h = rw (get_elem?-up_to (promise_in b n) 64 p h) refl
 
   pub promise-outside : 64 ≤ p → at (state_in b n).promises p ≡ stuck
   unfolding at or_stuck state_in

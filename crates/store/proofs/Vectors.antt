@@ -15,7 +15,7 @@ use Rattle.machine.specs.States.{items_of, live_activations, live_frames, with_v
 use Rattle.machine.specs.declared.State.{State}
 use Rattle.machine.specs.declared.Vector.{Vector}
 use Rattle.store.specs.Lists.{up_to}
-use Rattle.store.proofs.Lists.{length-up_to, getElem?-up_to, missing-up_to, getD-up_to, take-up_to, take-all-up_to, up_to-same, set-up_to-by}
+use Rattle.store.proofs.Lists.{length-up_to, get_elem?-up_to, missing-up_to, get_or-up_to, take-up_to, take-all-up_to, up_to-same, set-up_to-by}
 use Rattle.store.specs.Store.{◌#◌, LENGTHS, ITEM, vector_in, state_in, Sized}
 use Rattle.store.specs.Counts.{Counted, Ready, forcing, holding}
 use Rattle.store.specs.Acts.{with_item}
@@ -79,7 +79,7 @@ module _ (n : List ℤ) (v w : ℕ) (hv : v < 64) (hw : w < 64) where
 module _ (b : List ℕ) (n : List ℤ) (v : ℕ) where
   pub vector-at : v < 64 → at (state_in b n).vectors v ≡ got (vector_in b n v)
   unfolding at or_stuck state_in
-  vector-at h = rw (getElem?-up_to (vector_in b n) 64 v h) refl
+  vector-at h = rw (get_elem?-up_to (vector_in b n) 64 v h) refl
 
   pub vector-outside : 64 ≤ v → at (state_in b n).vectors v ≡ stuck
   unfolding at or_stuck state_in
@@ -104,7 +104,7 @@ module _ (b : List ℕ) (n : List ℤ) (v : ℕ) where
   unfolding items_of vector_in
   item-at j h =
       let q = inside j h in
-      get_or-take (b ! (LENGTHS + v)) (up_to (λ i. n # (ITEM + 16 * v + i)) 0 16) j (pos 0) q.0 ∙ getD-up_to (λ i. n # (ITEM + 16 * v + i)) 16 j (pos 0) q.1
+      get_or-take (b ! (LENGTHS + v)) (up_to (λ i. n # (ITEM + 16 * v + i)) 0 16) j (pos 0) q.0 ∙ get_or-up_to (λ i. n # (ITEM + 16 * v + i)) 16 j (pos 0) q.1
 
   written : (j : ℕ) (x : ℤ) → v < 64 → j < 16 → length n ≡ 2129 → vector_in b (set n (ITEM + 16 * v + j) x) v ≡ record {
     length = (vector_in b n v).length;

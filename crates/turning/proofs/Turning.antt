@@ -36,7 +36,7 @@ use Rattle.store.specs.Store.{CALLS, DEPTH, STACK, activation_in, frame_in, stat
 use Rattle.store.specs.declared.Did.{Did}
 use Rattle.store.proofs.Frames.{frame-live}
 use Rattle.store.specs.Lists.{up_to}
-use Rattle.store.proofs.Lists.{getElem?-up_to, length-up_to}
+use Rattle.store.proofs.Lists.{get_elem?-up_to, length-up_to}
 use Rattle.store.proofs.Pushing.{next-set}
 use Rattle.loaded.specs.Answers as answers
 use Rattle.loaded.specs.Loaded.{block_in, count_in, instr_in, program_in, record_at, version_in}
@@ -108,8 +108,8 @@ module _ (s t b : List ℕ) (n : List ℤ) (b' : List ℕ) (n' : List ℤ) (p : 
       let d = depth_same in
       let z = deep in
       let l = H.low in
-      some_is (sym (getElem?-up_to (activation_in b') 32 (b' ! DEPTH - 1) (omega arith)) ∙ ap (λ x. get_elem? x (b' ! DEPTH - 1)) T.activations ∙ ap
-      (λ x. get_elem? (up_to (activation_in b) 0 32) (x - 1)) d ∙ getElem?-up_to (activation_in b) 32 (b ! DEPTH - 1) (omega arith))
+      some_is (sym (get_elem?-up_to (activation_in b') 32 (b' ! DEPTH - 1) (omega arith)) ∙ ap (λ x. get_elem? x (b' ! DEPTH - 1)) T.activations ∙ ap
+      (λ x. get_elem? (up_to (activation_in b) 0 32) (x - 1)) d ∙ get_elem?-up_to (activation_in b) 32 (b ! DEPTH - 1) (omega arith))
 
   live-still : Live b' p.frame
   live-still = let c = calls_same in let l = H.live in (l.0, omega (arith, c, l.1))
@@ -273,7 +273,7 @@ module _ (b : List ℕ) (n : List ℤ) (c : List ℕ) (R : Ready b n c) (deep : 
   top_set =
       let d = depth-set in
       let l : b ! DEPTH - 1 < length (up_to (activation_in b) 0 32) = rw (length-up_to (activation_in b) 32) few in
-      some_is (sym (getElem?-up_to (activation_in bytes) 32 (bytes ! DEPTH - 1) (omega (arith, d, few)))
+      some_is (sym (get_elem?-up_to (activation_in bytes) 32 (bytes ! DEPTH - 1) (omega (arith, d, few)))
       ∙ ap (λ (u : State). get_elem? u.activations (bytes ! DEPTH - 1)) synced
       ∙ ap (λ x. get_elem? (set (up_to (activation_in b) 0 32) (b ! DEPTH - 1) (moved (top_in b) y)) (x - 1)) d
       ∙ get-same (up_to (activation_in b) 0 32) (b ! DEPTH - 1) (moved (top_in b) y) l)

@@ -24,7 +24,7 @@ use Rattle.machine.specs.declared.Status.{Status}
 use Rattle.store.specs.Lists.{up_to}
 use Rattle.store.specs.Store.{CALLS, DEPTH, activation_in, frame_in, state_in}
 use Rattle.store.proofs.Frames.{frame-live}
-use Rattle.store.proofs.Lists.{getElem?-up_to, missing-up_to}
+use Rattle.store.proofs.Lists.{get_elem?-up_to, missing-up_to}
 use Rattle.loaded.specs.Loaded.{block_in, count_in, instr_in, line_in, lines_in, place_in, program_in, version_in}
 use Rattle.loaded.specs.Answers.{block_of, next_of, version_of}
 use Rattle.loaded.specs.declared.BlockAt.{BlockAt}
@@ -92,7 +92,7 @@ module _ (P : Program) (b : List ℕ) (n : List ℤ) {d : ℕ} (z : d ≡ b ! DE
   module _ (l : d ≡ 0 → ⊥) (m : d ≤ 32) {a : Activation} (t : a ≡ activation_in b (d - 1)) {k : ℕ} (e : k ≡ a.frame) where
     on-top : at (live_activations (state_in b n)) (b ! DEPTH - 1) ≡ got a
     unfolding live_activations at or_stuck state_in
-    on-top = rw (t, z, get_take (up_to (activation_in b) 0 32) (b ! DEPTH) (b ! DEPTH - 1) (omega arith), getElem?-up_to (activation_in b) 32 (b ! DEPTH - 1) (omega arith)) refl
+    on-top = rw (t, z, get_take (up_to (activation_in b) 0 32) (b ! DEPTH) (b ! DEPTH - 1) (omega arith), get_elem?-up_to (activation_in b) 32 (b ! DEPTH - 1) (omega arith)) refl
 
     pub no-frame : 32 ≤ k → Where.Nowhere ≡ where_of P (state_in b n)
     unfolding where_of where_from here ◌>>=◌ state_in
