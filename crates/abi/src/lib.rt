@@ -9,11 +9,17 @@ ghost use Rattle.checker.specs.Verdicts.{verdict_in, verdict_of};
 ghost use Rattle.checker.specs.Reports.{report_in, report_text};
 ghost use Rattle.writer.specs.Text.{placed};
 ghost use Rattle.machine.specs.Begin.{program_of};
+ghost use Rattle.machine.specs.Changes.{change_of};
 ghost use Rattle.machine.specs.Frames.{read_of};
-ghost use Rattle.machine.specs.Pools.{pool_back};
+ghost use Rattle.machine.specs.Pools.{pool_back, pool_change};
+ghost use Rattle.machine.specs.Runs.{budget_of, step_of};
 ghost use Rattle.machine.specs.Searches.{search_of};
+ghost use Rattle.machine.specs.Values.{RANGE};
+ghost use Rattle.machine.specs.Watches.{rows_after, watched_of};
 ghost use Rattle.loaded.specs.Loaded.{program_in};
-ghost use Rattle.loaded.specs.Loading.{bytes_for};
+ghost use Rattle.loaded.specs.Loading.{Stands, bytes_for, load_of};
+ghost use Rattle.loaded.specs.Running.{run_in_to};
+ghost use Rattle.begin.specs.Asking.{entered_at};
 ghost use Rattle.joins.specs.Joins.{join_of, joined_buffer};
 ghost use Rattle.mends.specs.Mends.{mend_of};
 ghost use Rattle.moves.specs.Moves.{buffer_after, move_of};
@@ -22,14 +28,13 @@ ghost use Rattle.bounds.specs.Rows.{bounds_of, numbers_after, steps_after, unles
 ghost use Rattle.whereabouts.specs.Looks.{look_of};
 ghost use Rattle.whereabouts.specs.Where.{where_of};
 ghost use Rattle.words.specs.Words.{answer_text, question_text, written_of};
-ghost use Rattle.abi.specs.Answers.{back_numbers, bounding_numbers, form_of, joined_numbers, mended_numbers};
-ghost use Rattle.abi.specs.Answers.{moved_numbers, search_numbers, state_alignment, state_size, verdict_numbers, version_numbers, where_numbers};
-ghost use Rattle.abi.specs.Calls.{BeginCall, BudgetCall, ChangeCall, Loads, PoolBeginCall, PoolBudgetCall, PoolChangeCall, PoolRunCall, PoolStepCall};
-ghost use Rattle.abi.specs.Calls.{RunCall, StepCall, TrailBackCall, TrailBudgetCall, TrailStepCall, WatchCall};
+ghost use Rattle.abi.specs.Answers.{back_numbers, bounding_numbers, changed_numbers, entry_numbers, form_of, joined_numbers, loaded_numbers, mended_numbers};
+ghost use Rattle.abi.specs.Answers.{moved_numbers, search_numbers, state_alignment, state_size, verdict_numbers, version_numbers, watched_numbers, where_numbers};
+ghost use Rattle.abi.specs.Exits.{Answers, Began, Rests, Steps, entrance};
 ghost use Rattle.abi.specs.Held.{held};
 ghost use Rattle.abi.specs.Looks.{read_numbers};
-ghost use Rattle.abi.specs.Pools.{MakesIn};
-ghost use Rattle.abi.specs.Trails.{ChangesOn, Started};
+ghost use Rattle.abi.specs.Pools.{AnswersIn, BeginsIn, MakesIn, RunsIn, StepsIn};
+ghost use Rattle.abi.specs.Trails.{AnswersOn, BacksOn, ChangesOn, Started, StepsOn};
 
 use answers::{
     FirAnswer, FirEntry, FirJoined, FirLoaded, FirMended, FirSaid, FirSearched, FirTurn, FirValue,
@@ -178,7 +183,9 @@ pub fn fir_table_size(bytes: usize) -> usize
 /// Checks an image and fills its table: image and table stand for the image's program then. On a refusal, and where the table is
 /// too short, they stand for the program without versions.
 pub fn fir_load(image: &[u8], table: &mut [u8]) -> FirLoaded
-    ensures { Loads image.now result table.old table.new }
+    ensures { (result ≡ loaded_numbers (load_of image.now (length table.old)))
+        × Stands image.now table.new (load_of image.now (length table.old))
+        × (length table.new ≡ length table.old) }
 {
     answers::loaded(loaded::load(image, table))
 }
@@ -195,7 +202,9 @@ pub fn fir_begin(
     buffer: &[i64],
     state: &mut FirState,
 ) -> FirEntry
-    ensures { BeginCall image.now table.now level function version words.now buffer.now result
+    ensures { (result ≡ entry_numbers (entered_at (program_in image.now table.now) (entrance level function version) words.now buffer.now).entry)
+        × Began (entered_at (program_in image.now table.now) (entrance level function version) words.now buffer.now).entry
+        (program_in image.now table.now) (entrance level function version) words.now buffer.now
         state.old state.new }
 {
     let at = Entrance {
@@ -216,7 +225,7 @@ pub fn fir_begin(
 
 /// Takes a single step. A stuck step, and one of a run that has ended, write nothing.
 pub fn fir_step(image: &[u8], table: &[u8], state: &mut FirState) -> FirSaid
-    ensures { StepCall image.now table.now result state.old state.new }
+    ensures { Steps result (step_of (program_in image.now table.now) (held state.old)) state.old state.new }
 {
     parts::step(image, table, &mut state.bytes, &mut state.numbers)
 }
@@ -230,8 +239,10 @@ pub fn fir_budget(
     budget: u32,
     buffer: &mut [i64],
 ) -> FirAnswer
-    ensures { BudgetCall image.now table.now budget result state.old state.new
-        buffer.old buffer.new }
+    ensures { Answers result (budget_of (program_in image.now table.now) (held state.old) budget buffer.old)
+        state.old state.new buffer.old buffer.new
+        × Rests budget (budget_of (program_in image.now table.now) (held state.old) budget buffer.old)
+        state.old state.new }
 {
     parts::budget(
         image,
@@ -255,7 +266,7 @@ pub fn fir_run(
     buffer: &mut [i64],
     state: &mut FirState,
 ) -> FirAnswer
-    ensures { RunCall image.now table.now level function version words.now budget result
+    ensures { Answers result (run_in_to RANGE image.now table.now level function version words.now budget buffer.old)
         state.old state.new buffer.old buffer.new }
 {
     let at = Start {
@@ -278,7 +289,7 @@ pub fn fir_run(
 /// Whether the state goes on under the new image: its questions are asked, and then 15. Nothing is written: where the answer
 /// is 0 the caller goes on with the new image, else with the old one.
 pub fn fir_change(old: &[u8], new: &[u8], state: &FirState) -> FirEntry
-    ensures { ChangeCall old.now new.now result state.now }
+    ensures { result ≡ changed_numbers (change_of old.now new.now (held state.now)) }
 {
     parts::change(old, new, &state.bytes)
 }
@@ -304,7 +315,7 @@ pub fn fir_trail_step(
     state: &mut FirState,
     trail: &mut FirTrail,
 ) -> FirSaid
-    ensures { TrailStepCall image.now table.now result state.old trail.old state.new trail.new }
+    ensures { StepsOn result (program_in image.now table.now) state.old trail.old state.new trail.new }
 {
     trail::step(
         image,
@@ -325,7 +336,7 @@ pub fn fir_trail_budget(
     budget: u32,
     buffer: &mut [i64],
 ) -> FirAnswer
-    ensures { TrailBudgetCall image.now table.now budget result state.old trail.old state.new trail.new
+    ensures { AnswersOn result (program_in image.now table.now) budget state.old trail.old state.new trail.new
         buffer.old buffer.new }
 {
     trail::budget(
@@ -363,7 +374,7 @@ pub fn fir_trail_back(
     state: &mut FirState,
     trail: &mut FirTrail,
 ) -> FirEntry
-    ensures { TrailBackCall image.now table.now result state.old trail.old state.new trail.new }
+    ensures { BacksOn result (program_in image.now table.now) state.old trail.old state.new trail.new }
 {
     trail::back(
         image,
@@ -398,8 +409,8 @@ pub fn fir_pool_begin(
     pool: &mut Pool,
     number: usize,
 ) -> FirEntry
-    ensures { PoolBeginCall image.now table.now level function version words.now buffer.now
-        pool.old number result state.old state.new pool.new }
+    ensures { BeginsIn result (program_in image.now table.now) (entrance level function version) words.now buffer.now
+        pool.old number state.old state.new pool.new }
 {
     let at = Room {
         level: level,
@@ -428,7 +439,7 @@ pub fn fir_pool_step(
     pool: &mut Pool,
     number: usize,
 ) -> FirTurn
-    ensures { PoolStepCall image.now table.now pool.old number result state.old state.new pool.new }
+    ensures { StepsIn result (program_in image.now table.now) pool.old number state.old state.new pool.new }
 {
     pool::step(
         image,
@@ -451,7 +462,7 @@ pub fn fir_pool_budget(
     budget: u32,
     buffer: &mut [i64],
 ) -> FirAnswer
-    ensures { PoolBudgetCall image.now table.now budget pool.old number result state.old state.new pool.new
+    ensures { AnswersIn result (program_in image.now table.now) budget pool.old number state.old state.new pool.new
         buffer.old buffer.new }
 {
     let ask = Ask {
@@ -484,8 +495,8 @@ pub fn fir_pool_run(
     pool: &mut Pool,
     number: usize,
 ) -> FirAnswer
-    ensures { PoolRunCall image.now table.now level function version words.now budget
-        pool.old number result state.old state.new pool.new buffer.old buffer.new }
+    ensures { RunsIn result (program_in image.now table.now) (entrance level function version) words.now budget
+        pool.old number state.old state.new pool.new buffer.old buffer.new }
 {
     let at = Room {
         level: level,
@@ -515,7 +526,7 @@ pub fn fir_pool_change(
     pool: &Pool,
     number: usize,
 ) -> FirEntry
-    ensures { PoolChangeCall old.now new.now pool.now number result state.now }
+    ensures { result ≡ changed_numbers (pool_change pool.now number old.now new.now (held state.now)) }
 {
     pool::change(old, new, &state.bytes, &pool.reserves, number)
 }
@@ -552,7 +563,8 @@ pub fn fir_where(image: &[u8], table: &[u8], state: &FirState) -> FirWhere
 /// Fills the list with a record for each register of the topmost call, which is the newest frame, in order: how many were filled, 0
 /// with no live call; or 22, where the list is too short. All other records stay.
 pub fn fir_watch(image: &[u8], table: &[u8], state: &FirState, rows: &mut [Row]) -> FirWatched
-    ensures { WatchCall image.now table.now result state.now rows.old rows.new }
+    ensures { (result ≡ watched_numbers (watched_of (program_in image.now table.now) (held state.now) (length rows.old)))
+        × (rows.new ≡ rows_after (program_in image.now table.now) (held state.now) rows.old) }
 {
     let watched = parts::watched(image, table, &state.bytes, rows.len());
     watches::fill(image, table, &state.bytes, &state.numbers, rows);

@@ -8,11 +8,17 @@ ghost use Rattle.checker.specs.Verdicts.{verdict_in, verdict_of};
 ghost use Rattle.checker.specs.Reports.{report_in, report_text};
 ghost use Rattle.writer.specs.Text.{placed};
 ghost use Rattle.machine.specs.Begin.{program_of};
+ghost use Rattle.machine.specs.Changes.{change_of};
 ghost use Rattle.machine.specs.Frames.{read_of};
-ghost use Rattle.machine.specs.Pools.{pool_back};
+ghost use Rattle.machine.specs.Pools.{pool_back, pool_change};
+ghost use Rattle.machine.specs.Runs.{budget_of, step_of};
 ghost use Rattle.machine.specs.Searches.{search_of};
+ghost use Rattle.machine.specs.Values.{RANGE};
+ghost use Rattle.machine.specs.Watches.{rows_after, watched_of};
 ghost use Rattle.loaded.specs.Loaded.{program_in};
-ghost use Rattle.loaded.specs.Loading.{bytes_for};
+ghost use Rattle.loaded.specs.Loading.{Stands, bytes_for, load_of};
+ghost use Rattle.loaded.specs.Running.{run_in_to};
+ghost use Rattle.begin.specs.Asking.{entered_at};
 ghost use Rattle.joins.specs.Joins.{join_of, joined_buffer};
 ghost use Rattle.mends.specs.Mends.{mend_of};
 ghost use Rattle.moves.specs.Moves.{buffer_after, move_of};
@@ -21,14 +27,13 @@ ghost use Rattle.bounds.specs.Rows.{bounds_of, numbers_after, steps_after, unles
 ghost use Rattle.whereabouts.specs.Looks.{look_of};
 ghost use Rattle.whereabouts.specs.Where.{where_of};
 ghost use Rattle.words.specs.Words.{answer_text, question_text, written_of};
-ghost use Rattle.abi.specs.Answers.{back_numbers, bounding_numbers, form_of, joined_numbers, mended_numbers};
-ghost use Rattle.abi.specs.Answers.{moved_numbers, search_numbers, state_alignment, state_size, verdict_numbers, version_numbers, where_numbers};
-ghost use Rattle.abi.specs.Calls.{BeginCall, BudgetCall, ChangeCall, Loads, PoolBeginCall, PoolBudgetCall, PoolChangeCall, PoolRunCall, PoolStepCall};
-ghost use Rattle.abi.specs.Calls.{RunCall, StepCall, TrailBackCall, TrailBudgetCall, TrailStepCall, WatchCall};
+ghost use Rattle.abi.specs.Answers.{back_numbers, bounding_numbers, changed_numbers, entry_numbers, form_of, joined_numbers, loaded_numbers, mended_numbers};
+ghost use Rattle.abi.specs.Answers.{moved_numbers, search_numbers, state_alignment, state_size, verdict_numbers, version_numbers, watched_numbers, where_numbers};
+ghost use Rattle.abi.specs.Exits.{Answers, Began, Rests, Steps, entrance};
 ghost use Rattle.abi.specs.Held.{held};
 ghost use Rattle.abi.specs.Looks.{read_numbers};
-ghost use Rattle.abi.specs.Pools.{MakesIn};
-ghost use Rattle.abi.specs.Trails.{ChangesOn, Started};
+ghost use Rattle.abi.specs.Pools.{AnswersIn, BeginsIn, MakesIn, RunsIn, StepsIn};
+ghost use Rattle.abi.specs.Trails.{AnswersOn, BacksOn, ChangesOn, Started, StepsOn};
 
 use abi::answers::{
     FirAnswer, FirEntry, FirJoined, FirLoaded, FirMended, FirSaid, FirSearched, FirTurn, FirValue,
@@ -180,7 +185,9 @@ pub extern "C" fn fir_table_size(bytes: usize) -> usize
 /// too short, they stand for the program without versions.
 #[unsafe(no_mangle)]
 pub extern "C" fn fir_load(image: &[u8], table: &mut [u8]) -> FirLoaded
-    ensures { Loads image.now result table.old table.new }
+    ensures { (result ≡ loaded_numbers (load_of image.now (length table.old)))
+        × Stands image.now table.new (load_of image.now (length table.old))
+        × (length table.new ≡ length table.old) }
 {
     abi::fir_load(image, table)
 }
@@ -198,7 +205,9 @@ pub extern "C" fn fir_begin(
     buffer: &[i64],
     state: &mut FirState,
 ) -> FirEntry
-    ensures { BeginCall image.now table.now level function version words.now buffer.now result
+    ensures { (result ≡ entry_numbers (entered_at (program_in image.now table.now) (entrance level function version) words.now buffer.now).entry)
+        × Began (entered_at (program_in image.now table.now) (entrance level function version) words.now buffer.now).entry
+        (program_in image.now table.now) (entrance level function version) words.now buffer.now
         state.old state.new }
 {
     abi::fir_begin(image, table, level, function, version, words, buffer, state)
@@ -207,7 +216,7 @@ pub extern "C" fn fir_begin(
 /// Takes a single step. A stuck step, and one of a run that has ended, write nothing.
 #[unsafe(no_mangle)]
 pub extern "C" fn fir_step(image: &[u8], table: &[u8], state: &mut FirState) -> FirSaid
-    ensures { StepCall image.now table.now result state.old state.new }
+    ensures { Steps result (step_of (program_in image.now table.now) (held state.old)) state.old state.new }
 {
     abi::fir_step(image, table, state)
 }
@@ -222,8 +231,10 @@ pub extern "C" fn fir_budget(
     budget: u32,
     buffer: &mut [i64],
 ) -> FirAnswer
-    ensures { BudgetCall image.now table.now budget result state.old state.new
-        buffer.old buffer.new }
+    ensures { Answers result (budget_of (program_in image.now table.now) (held state.old) budget buffer.old)
+        state.old state.new buffer.old buffer.new
+        × Rests budget (budget_of (program_in image.now table.now) (held state.old) budget buffer.old)
+        state.old state.new }
 {
     abi::fir_budget(image, table, state, budget, buffer)
 }
@@ -241,7 +252,7 @@ pub extern "C" fn fir_run(
     buffer: &mut [i64],
     state: &mut FirState,
 ) -> FirAnswer
-    ensures { RunCall image.now table.now level function version words.now budget result
+    ensures { Answers result (run_in_to RANGE image.now table.now level function version words.now budget buffer.old)
         state.old state.new buffer.old buffer.new }
 {
     abi::fir_run(
@@ -253,7 +264,7 @@ pub extern "C" fn fir_run(
 /// is 0 the caller goes on with the new image, else with the old one.
 #[unsafe(no_mangle)]
 pub extern "C" fn fir_change(old: &[u8], new: &[u8], state: &FirState) -> FirEntry
-    ensures { ChangeCall old.now new.now result state.now }
+    ensures { result ≡ changed_numbers (change_of old.now new.now (held state.now)) }
 {
     abi::fir_change(old, new, state)
 }
@@ -274,7 +285,7 @@ pub extern "C" fn fir_trail_step(
     state: &mut FirState,
     trail: &mut FirTrail,
 ) -> FirSaid
-    ensures { TrailStepCall image.now table.now result state.old trail.old state.new trail.new }
+    ensures { StepsOn result (program_in image.now table.now) state.old trail.old state.new trail.new }
 {
     abi::fir_trail_step(image, table, state, trail)
 }
@@ -289,7 +300,7 @@ pub extern "C" fn fir_trail_budget(
     budget: u32,
     buffer: &mut [i64],
 ) -> FirAnswer
-    ensures { TrailBudgetCall image.now table.now budget result state.old trail.old state.new trail.new
+    ensures { AnswersOn result (program_in image.now table.now) budget state.old trail.old state.new trail.new
         buffer.old buffer.new }
 {
     abi::fir_trail_budget(image, table, state, trail, budget, buffer)
@@ -316,7 +327,7 @@ pub extern "C" fn fir_trail_back(
     state: &mut FirState,
     trail: &mut FirTrail,
 ) -> FirEntry
-    ensures { TrailBackCall image.now table.now result state.old trail.old state.new trail.new }
+    ensures { BacksOn result (program_in image.now table.now) state.old trail.old state.new trail.new }
 {
     abi::fir_trail_back(image, table, state, trail)
 }
@@ -344,8 +355,8 @@ pub extern "C" fn fir_pool_begin(
     pool: &mut Pool,
     number: usize,
 ) -> FirEntry
-    ensures { PoolBeginCall image.now table.now level function version words.now buffer.now
-        pool.old number result state.old state.new pool.new }
+    ensures { BeginsIn result (program_in image.now table.now) (entrance level function version) words.now buffer.now
+        pool.old number state.old state.new pool.new }
 {
     abi::fir_pool_begin(
         image, table, level, function, version, words, buffer, state, pool, number,
@@ -361,7 +372,7 @@ pub extern "C" fn fir_pool_step(
     pool: &mut Pool,
     number: usize,
 ) -> FirTurn
-    ensures { PoolStepCall image.now table.now pool.old number result state.old state.new pool.new }
+    ensures { StepsIn result (program_in image.now table.now) pool.old number state.old state.new pool.new }
 {
     abi::fir_pool_step(image, table, state, pool, number)
 }
@@ -377,7 +388,7 @@ pub extern "C" fn fir_pool_budget(
     budget: u32,
     buffer: &mut [i64],
 ) -> FirAnswer
-    ensures { PoolBudgetCall image.now table.now budget pool.old number result state.old state.new pool.new
+    ensures { AnswersIn result (program_in image.now table.now) budget pool.old number state.old state.new pool.new
         buffer.old buffer.new }
 {
     abi::fir_pool_budget(image, table, state, pool, number, budget, buffer)
@@ -398,8 +409,8 @@ pub extern "C" fn fir_pool_run(
     pool: &mut Pool,
     number: usize,
 ) -> FirAnswer
-    ensures { PoolRunCall image.now table.now level function version words.now budget
-        pool.old number result state.old state.new pool.new buffer.old buffer.new }
+    ensures { RunsIn result (program_in image.now table.now) (entrance level function version) words.now budget
+        pool.old number state.old state.new pool.new buffer.old buffer.new }
 {
     abi::fir_pool_run(
         image, table, level, function, version, words, budget, buffer, state, pool, number,
@@ -415,7 +426,7 @@ pub extern "C" fn fir_pool_change(
     pool: &Pool,
     number: usize,
 ) -> FirEntry
-    ensures { PoolChangeCall old.now new.now pool.now number result state.now }
+    ensures { result ≡ changed_numbers (pool_change pool.now number old.now new.now (held state.now)) }
 {
     abi::fir_pool_change(old, new, state, pool, number)
 }
@@ -462,7 +473,8 @@ pub extern "C" fn fir_watch(
     state: &FirState,
     rows: &mut [Row],
 ) -> FirWatched
-    ensures { WatchCall image.now table.now result state.now rows.old rows.new }
+    ensures { (result ≡ watched_numbers (watched_of (program_in image.now table.now) (held state.now) (length rows.old)))
+        × (rows.new ≡ rows_after (program_in image.now table.now) (held state.now) rows.old) }
 {
     abi::fir_watch(image, table, state, rows)
 }
