@@ -1,5 +1,6 @@
 pub mod Delivering
 pub mod Ends
+pub mod Lent
 pub mod Pausing
 pub mod Starting
 pub mod Texts
