@@ -80,7 +80,9 @@ def main():
         return
     for path, lemma in LEMMAS.items():
         path = top / "crates" / path
-        if not path.exists():
+        # (only where the definition has its older name, so that a second run changes nothing)
+        camel = re.sub("_([a-z])", lambda it: it[1].upper(), lemma)
+        if not path.exists() or not re.search(r"(?<![\w'.-])" + camel + r"(?![\w'-])", path.read_text(encoding="utf-8")):
             continue
         path.write_text(re.sub(r"(?<![\w'.-])" + lemma + r"(?![\w'-])", lemma + "_lem", path.read_text(encoding="utf-8")), encoding="utf-8")
     own = [(path, path.read_text(encoding="utf-8")) for path, _ in own]

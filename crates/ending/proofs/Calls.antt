@@ -30,7 +30,7 @@ use Rattle.frames.specs.Frames.{Ending, with_less}
 use Rattle.store.specs.declared.Did.{Did}
 use Rattle.store.specs.Acts.{Does}
 use Rattle.acts.proofs.Answers.{assigned-is}
-use Rattle.ending.specs.Ends.{Returning, Working, ended_by_lem, returns_in, top_opener}
+use Rattle.ending.specs.Ends.{Returning, Working, ended_by, returns_in, top_opener}
 
 -- ---- what stays
 
@@ -104,7 +104,7 @@ module _ (b : List ℕ) (n : List ℤ) (k : ℕ) (K : Returning b k) where
 module _ (P : Program) (W : Version) (b : List ℕ) (n : List ℤ) (k r : ℕ) where
   -- what the end of the call comes to
   abbrev pub ended : Try State
-  ended = ended_by_lem P W b n k r Opener.Call
+  ended = ended_by P W b n k r Opener.Call
 
   -- behind the types
   abbrev tail : Value → Try State

@@ -35,7 +35,7 @@ use Rattle.machine.specs.Begin.{begin_of, begin_after, entered_of, question11, r
 use Rattle.machine.specs.declared.Entry.{Entry}
 use Rattle.joins.specs.declared.Joined.TheVariants.{Written, Together}
 use Rattle.joins.specs.Shifted.{shift_version, shift_program}
-use Rattle.joins.specs.Joins.{functions_in, versions_in, joined, in_bounds_lem, join_after, join_of, raise_rec}
+use Rattle.joins.specs.Joins.{functions_in, versions_in, joined, in_bounds, join_after, join_of, raise_rec}
 use Rattle.joins.specs.Alongside.{Carries, Closed, SimRan, SimBegun}
 use Rattle.joins.specs.Claims.{SameRuns, Joins, JoinsWell}
 use Rattle.layout.proofs.Behind.{behind, chained, records-behind}
@@ -89,7 +89,7 @@ module _ (k o n : ℕ) (s t : List ℕ) (x y : ℕ) (va : verdict_of s ≡ Accep
 
 -- ---- the joined image
 
-module _ (a b : List ℕ) (n m room : ℕ) (va : verdict_of a ≡ Accepted n) (vb : verdict_of b ≡ Accepted m) (h : in_bounds_lem a b room ≡ true) where
+module _ (a b : List ℕ) (n m room : ℕ) (va : verdict_of a ≡ Accepted n) (vb : verdict_of b ≡ Accepted m) (h : in_bounds a b room ≡ true) where
   wa : Passed Form.Wide a n
   wa = passed a n va
 
@@ -103,15 +103,15 @@ module _ (a b : List ℕ) (n m room : ℕ) (va : verdict_of a ≡ Accepted n) (v
   o = length a
 
   bytes : length a + length b ≤ IMAGE
-  unfolding in_bounds_lem
+  unfolding in_bounds
   bytes = leb-true _ _ (and_both _ _ h).0
 
   numbers : functions_in a + functions_in b ≤ FUNCTIONS
-  unfolding in_bounds_lem
+  unfolding in_bounds
   numbers = leb-true _ _ (and_both _ _ (and_both _ _ h).1).0
 
   many : versions_in a + versions_in b ≤ ALL-VERSIONS
-  unfolding in_bounds_lem
+  unfolding in_bounds
   many = leb-true _ _ (and_both _ _ (and_both _ _ (and_both _ _ h).1).1).0
 
   joined_length : length (joined a b) ≡ length a + length b
@@ -213,21 +213,21 @@ pub record Taken (a b : List ℕ) (room n : ℕ) : Type 0 where
   pub second-count : ℕ
   pub first : verdict_of a ≡ Accepted first_count
   pub second : verdict_of b ≡ Accepted second-count
-  pub inside : in_bounds_lem a b room ≡ true
+  pub inside : in_bounds a b room ≡ true
   pub size : length a + length b ≡ n
 
 pub taken : (a b : List ℕ) (room n : ℕ) → join_of a b room ≡ Written n → Taken a b room n
 unfolding join_of join_after
 taken a b room n e = go (verdict_of a) (verdict_of b) refl refl e
   where
-    in_bounds_lem : (i j : ℕ) → verdict_of a ≡ Accepted i → verdict_of b ≡ Accepted j → (t : Bool) → in_bounds_lem a b room ≡ t → cond t (Written (length a + length b)) (Together 23 0) ≡ Written n → Taken a b room n
+    in_bounds_lem : (i j : ℕ) → verdict_of a ≡ Accepted i → verdict_of b ≡ Accepted j → (t : Bool) → in_bounds a b room ≡ t → cond t (Written (length a + length b)) (Together 23 0) ≡ Written n → Taken a b room n
     in_bounds_lem i j p q true t g = record { first_count = i; second-count = j; first = p; second = q; inside = t; size = cc }
     in_bounds_lem i j p q false t g = let z : ◌≡◌ {A = ℕ} 0 1 = cc in absurd (omega arith)
 
     go : (x y : Verdict) → verdict_of a ≡ x → verdict_of b ≡ y → join_after x y a b room ≡ Written n → Taken a b room n
     go (Refused i j) y p q g = let z : ◌≡◌ {A = ℕ} 0 1 = cc in absurd (omega arith)
     go (Accepted i) (Refused j l) p q g = let z : ◌≡◌ {A = ℕ} 0 1 = cc in absurd (omega arith)
-    go (Accepted i) (Accepted j) p q g = in_bounds_lem i j p q (in_bounds_lem a b room) refl g
+    go (Accepted i) (Accepted j) p q g = in_bounds_lem i j p q (in_bounds a b room) refl g
 
 -- THE LAW of 02, 13
 pub joins-well : JoinsWell

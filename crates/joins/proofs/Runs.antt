@@ -13,7 +13,7 @@ use Rattle.machine.specs.Try.{Try, got, stuck, stop}
 use Rattle.machine.specs.States.{over, with_end}
 use Rattle.machine.specs.Calls.{frame_for}
 use Rattle.machine.specs.Steps.{advance}
-use Rattle.machine.specs.Runs.{saying, settled, step_in_lem, step_in_to, step_of, step_of_to, continued, run_from, run_from_to, budget_in, budget_in_to, long_enough, budget_of, budget_of_to, buffer_of}
+use Rattle.machine.specs.Runs.{saying, settled, step_in, step_in_to, step_of, step_of_to, continued, run_from, run_from_to, budget_in, budget_in_to, long_enough, budget_of, budget_of_to, buffer_of}
 use Rattle.machine.specs.Events.{Event, single, budget, change, handle_to, after, after_to, replies, replies_to}
 use Rattle.machine.specs.Begin.{Given, values_of, vectors_of, first_state, arguments, refused, question13, question12, question19, question11, run_level, entered_of, program_of}
 use Rattle.machine.specs.declared.Answer.{Answer}
@@ -42,7 +42,7 @@ module _ (k o n : ℕ) (P J : Program) (C : Carries k o n P J) (D : Closed n P) 
   settled-in s fs B (stop e) stuck h = absurd h
   settled-in s fs B (stop e) (stop f) h = rw h (record { says = refl; states = record { frames = fs; others = refl; calls = B } })
 
-  step_in_lem : (s : State) (fs : List Frame) → Beside k n s.calls s.frames fs → (x : Status) → SimStepped k n (step_in_lem P s x) (step_in_lem J (with_frames s fs) x)
+  step_in_lem : (s : State) (fs : List Frame) → Beside k n s.calls s.frames fs → (x : Status) → SimStepped k n (step_in P s x) (step_in J (with_frames s fs) x)
   unfolding step_in_to
   step_in_lem s fs B Status.Running = settled-in s fs B (advance P s) (advance J (with_frames s fs)) (advance-in k o n P J C D s fs B)
   step_in_lem s fs B (Status.Ended e) = record { says = refl; states = record { frames = fs; others = refl; calls = B } }

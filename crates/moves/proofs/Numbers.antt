@@ -64,19 +64,19 @@ narrow-fits b f = go (word b 1) (omega (arith, f 1, f 2, f 3, f 4))
 -- ---- bytes
 
 -- are the bytes f, g, h, i all s?
-unfoldable pub all_are_lem : ℕ → ℕ → ℕ → ℕ → ℕ → Bool
-all_are_lem s f g h i = eqb f s and eqb g s and eqb h s and eqb i s
+unfoldable pub all_are : ℕ → ℕ → ℕ → ℕ → ℕ → Bool
+all_are s f g h i = eqb f s and eqb g s and eqb h s and eqb i s
 
-are_all : (s f g h i : ℕ) → all_are_lem s f g h i ≡ true → (f ≡ s) × (g ≡ s) × (h ≡ s) × (i ≡ s)
-unfolding all_are_lem
+are_all : (s f g h i : ℕ) → all_are s f g h i ≡ true → (f ≡ s) × (g ≡ s) × (h ≡ s) × (i ≡ s)
+unfolding all_are
 are_all s f g h i e =
     let x = and_both _ _ e in
     let y = and_both _ _ x.1 in
     let z = and_both _ _ y.1 in
     (eqb-true _ _ x.0, eqb-true _ _ y.0, eqb-true _ _ z.0, eqb-true _ _ z.1)
 
-all_are_lem : (s f g h i : ℕ) → f ≡ s → g ≡ s → h ≡ s → i ≡ s → all_are_lem s f g h i ≡ true
-unfolding all_are_lem ◌and◌
+all_are_lem : (s f g h i : ℕ) → f ≡ s → g ≡ s → h ≡ s → i ≡ s → all_are s f g h i ≡ true
+unfolding all_are ◌and◌
 all_are_lem s f g h i x y z w = rw (eq-eqb f s x, eq-eqb g s y, eq-eqb h s z, eq-eqb i s w) refl
 
 module _ (a b c e f g h i : ℕ) (ka : a < 256) (kb : b < 256) (kc : c < 256) (ke : e < 256) (kf : f < 256) (kg : g < 256) (kh : h < 256) (ki : i < 256) where
@@ -91,11 +91,11 @@ module _ (a b c e f g h i : ℕ) (ka : a < 256) (kb : b < 256) (kc : c < 256) (k
   unfolding sign_byte
   sign_high l = rw (le-ltb e 128 l) refl
 
-  low_end : number < 2147483648 → all_are_lem (sign_byte e) f g h i ≡ true
+  low_end : number < 2147483648 → all_are (sign_byte e) f g h i ≡ true
   unfolding number
   low_end l = let s = sign_low (omega (arith, l)) in rw s (all_are_lem 0 f g h i (omega (arith, l)) (omega (arith, l)) (omega (arith, l)) (omega (arith, l)))
 
-  high_end : 18446744071562067968 ≤ number → all_are_lem (sign_byte e) f g h i ≡ true
+  high_end : 18446744071562067968 ≤ number → all_are (sign_byte e) f g h i ≡ true
   unfolding number
   high_end l = let s = sign_high (omega (arith, l)) in rw s (all_are_lem 255 f g h i (omega (arith, l)) (omega (arith, l)) (omega (arith, l)) (omega (arith, l)))
 
@@ -104,7 +104,7 @@ module _ (a b c e f g h i : ℕ) (ka : a < 256) (kb : b < 256) (kc : c < 256) (k
   below = omega arith
 
   -- where they are, the number is at one of the ends
-  no_middle : 2147483648 ≤ number → number < 18446744071562067968 → all_are_lem (sign_byte e) f g h i ≡ true → ⊥
+  no_middle : 2147483648 ≤ number → number < 18446744071562067968 → all_are (sign_byte e) f g h i ≡ true → ⊥
   unfolding number
   no_middle l u t = go (ltb e 128) refl
     where
@@ -112,23 +112,23 @@ module _ (a b c e f g h i : ℕ) (ka : a < 256) (kb : b < 256) (kc : c < 256) (k
       go true q = let s = sign_low (ltb-true e 128 q) in let z = are_all _ f g h i t in omega (arith, l, s, z.0, z.1, z.2, z.3, ltb-true e 128 q)
       go false q = let s = sign_high (ltb-false e 128 q) in let z = are_all _ f g h i t in omega (arith, u, s, z.0, z.1, z.2, z.3, ltb-false e 128 q)
 
-  fits-bytes : fits32 (to_z w64 number) ≡ all_are_lem (sign_byte e) f g h i
+  fits-bytes : fits32 (to_z w64 number) ≡ all_are (sign_byte e) f g h i
   fits-bytes = go (ltb number 2147483648) (leb 18446744071562067968 number) refl refl
     where
-      go : (x y : Bool) → ltb number 2147483648 ≡ x → leb 18446744071562067968 number ≡ y → fits32 (to_z w64 number) ≡ all_are_lem (sign_byte e) f g h i
+      go : (x y : Bool) → ltb number 2147483648 ≡ x → leb 18446744071562067968 number ≡ y → fits32 (to_z w64 number) ≡ all_are (sign_byte e) f g h i
       go true y p q = let l = ltb-true number 2147483648 p in fits_low number l ∙ sym (low_end l)
       go false true p q = let l = leb-true 18446744071562067968 number q in fits-high number l below ∙ sym (high_end l)
       go false false p q =
           let l = ltb-false number 2147483648 p in
           let u = leb-false 18446744071562067968 number q in
-          fits_not number l u ∙ sym (none (all_are_lem (sign_byte e) f g h i) refl l u)
+          fits_not number l u ∙ sym (none (all_are (sign_byte e) f g h i) refl l u)
         where
-          none : (t : Bool) → all_are_lem (sign_byte e) f g h i ≡ t → 2147483648 ≤ number → number < 18446744071562067968 → t ≡ false
+          none : (t : Bool) → all_are (sign_byte e) f g h i ≡ t → 2147483648 ≤ number → number < 18446744071562067968 → t ≡ false
           none true s l u = absurd (no_middle l u s)
           none false s l u = refl
 
 -- THE LAW: of a literal's body
-pub wide_fits : (b : List ℕ) → ((i : ℕ) → b ! i < 256) → fits32 (number_in Form.Wide b) ≡ all_are_lem (sign_byte (b ! 4)) (b ! 5) (b ! 6) (b ! 7) (b ! 8)
+pub wide_fits : (b : List ℕ) → ((i : ℕ) → b ! i < 256) → fits32 (number_in Form.Wide b) ≡ all_are (sign_byte (b ! 4)) (b ! 5) (b ! 6) (b ! 7) (b ! 8)
 unfolding number_in number
 wide_fits b k = fits-bytes (b ! 1) (b ! 2) (b ! 3) (b ! 4) (b ! 5) (b ! 6) (b ! 7) (b ! 8) (k 1) (k 2) (k 3) (k 4) (k 5) (k 6) (k 7) (k 8)
 
@@ -141,7 +141,7 @@ unfit b k h = go (fits32 (number_in Form.Wide b)) refl
     go false e = refl
 
 pub fit-last : (b : List ℕ) → ((i : ℕ) → b ! i < 256) → let s = sign_byte (b ! 4) in b ! 5 ≡ s → b ! 6 ≡ s → b ! 7 ≡ s → eqb (b ! 8) s ≡ fits32 (number_in Form.Wide b)
-unfolding all_are_lem ◌and◌
+unfolding all_are ◌and◌
 fit-last b k x y z = sym (wide_fits b k ∙ rw (eq-eqb _ _ x, eq-eqb _ _ y, eq-eqb _ _ z) refl)
 
 -- such a body comes back as it was

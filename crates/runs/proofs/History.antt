@@ -10,7 +10,7 @@ use native.Mathlib.Omega.{arith}
 use lib.IntN.{ℤ}
 use lib.ListN.{length}
 use Rattle.program.specs.Program.{Program}
-use Rattle.machine.specs.Runs.{step_of, last_step_lem, continued, run_from, run_from_to, budget_in, budget_in_to, long_enough, budget_of, budget_of_to}
+use Rattle.machine.specs.Runs.{step_of, last_step, continued, run_from, run_from_to, budget_in, budget_in_to, long_enough, budget_of, budget_of_to}
 use Rattle.machine.specs.declared.Answer.{Answer}
 use Rattle.machine.specs.declared.End.{End}
 use Rattle.machine.specs.declared.Ran.{Ran}
@@ -65,8 +65,8 @@ stops-tried P (suc m) (suc j) n s l h = Memᴰ.tail (go (λ t. stops-tried P m j
     go ih t Said.Stuck e = absurd (not_stuck e)
 
 -- an end counts its step, or leaves it untaken
-one-step : (e : End) → last_step_lem e + (1 - last_step_lem e) ≡ 1
-unfolding last_step_lem
+one-step : (e : End) → last_step e + (1 - last_step e) ≡ 1
+unfolding last_step
 one-step (End.Integer z) = refl
 one-step (End.Vector n) = refl
 one-step End.Undef = refl

@@ -29,7 +29,7 @@ use Rattle.soundness.proofs.Cells.{Sized, no_frame, frame_at}
 use Rattle.layout.proofs.Lists.{get_take, get-some}
 use Rattle.soundness.proofs.Invariant.{or_none, version_at, Inv}
 use Rattle.runs.specs.Alike.{bare, Alike}
-use Rattle.machine.specs.Changes.{bytes_of, same_bytes_lem, is_live, same_in, question15, all_there, missing, answer15, changed_by, change_after, change_of}
+use Rattle.machine.specs.Changes.{bytes_of, same_bytes, is_live, same_in, question15, all_there, missing, answer15, changed_by, change_after, change_of}
 use Rattle.soundness.proofs.Bytes.{Own, own}
 use Rattle.soundness.proofs.Transfer.{Agree}
 
@@ -43,12 +43,12 @@ own-alike v w b x y =
 
 -- ---- what question 15 found
 
-same_bytes_lem : (xs ys : List ℕ) → same_bytes_lem xs ys ≡ true → xs ≡ ys
-unfolding same_bytes_lem
+same_bytes_lem : (xs ys : List ℕ) → same_bytes xs ys ≡ true → xs ≡ ys
+unfolding same_bytes
 same_bytes_lem [] [] h = refl
 same_bytes_lem [] (y ∷ ys) h = absurd (false≢true h)
 same_bytes_lem (x ∷ xs) [] h = absurd (false≢true h)
-same_bytes_lem (x ∷ xs) (y ∷ ys) h = let t = and_both (eqb x y) (same_bytes_lem xs ys) h in let p = eqb-true x y t.0 in let q = same_bytes_lem xs ys t.1 in rw (p, q) refl
+same_bytes_lem (x ∷ xs) (y ∷ ys) h = let t = and_both (eqb x y) (same_bytes xs ys) h in let p = eqb-true x y t.0 in let q = same_bytes_lem xs ys t.1 in rw (p, q) refl
 
 found_some : {A : Type 0} (o : Option A) (p : A → Bool) → found o p ≡ true → (x : A) × (o ≡ some x) × (p x ≡ true)
 unfolding found
@@ -64,8 +64,8 @@ unfolding same_in
 stays-both old new s f w x live e h =
     let n = find-numbers (program_of new) f w x e in
     let q : (not (is_live s f w) || same_in old new f w) ≡ true = rw (n.0, n.1) at (holds (question15 old new s) (program_of new) h f w x e).of_version in
-    let y = found_some (bytes_of old f w) (λ (b : List ℕ). found (bytes_of new f w) (same_bytes_lem b)) (not_live (is_live s f w) (same_in old new f w) q live) in
-    let z = found_some (bytes_of new f w) (same_bytes_lem y.0) y.2 in
+    let y = found_some (bytes_of old f w) (λ (b : List ℕ). found (bytes_of new f w) (same_bytes b)) (not_live (is_live s f w) (same_in old new f w) q live) in
+    let z = found_some (bytes_of new f w) (same_bytes y.0) y.2 in
     (y.0, y.1, z.1 ∙ ap some (sym (same_bytes_lem y.0 z.0 z.2)))
 
 -- what a change that is taken has passed

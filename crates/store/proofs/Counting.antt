@@ -12,7 +12,7 @@ use Rattle.layout.specs.Records.{◌!◌}
 use Rattle.layout.specs.Tests.{any}
 use Rattle.machine.specs.Try.{Try, got, stuck, stop, ◌>>=◌, ◌>>◌, at, put, or_stuck, stuck_unless}
 use Rattle.machine.specs.States.{place, live_activations, live_frames, pending, promise_counts, refers, held, register, with_stack, with_frame, with_register, assign, vector_counts, free_promise}
-use Rattle.machine.specs.States.{free_vector_lem, free, is_force, is_promise, is_vector}
+use Rattle.machine.specs.States.{free_vector, free, is_force, is_promise, is_vector}
 use Rattle.machine.specs.Steps.{alone}
 use Rattle.machine.proofs.Tries.{or-stuck, put-there}
 use Rattle.store.proofs.Free.{free-same}
@@ -160,8 +160,8 @@ module _ (c : List ℕ) (s : State) (C : Counted c s) where
   twice true = refl
   twice false = refl
 
-  pub free_vector_lem : free_vector_lem s ≡ free End.Vectors (λ i. taken c (0 + i) (0 + i)) 64 0
-  unfolding free_vector_lem taken
+  pub free_vector_lem : free_vector s ≡ free End.Vectors (λ i. taken c (0 + i) (0 + i)) 64 0
+  unfolding free_vector taken
   free_vector_lem = free-same End.Vectors (vector_counts s) (λ i. taken c (0 + i) (0 + i)) 64 0 (λ j h. let e : 0 + j ≡ j = omega arith in rw e (vector-counts j (omega arith) ∙ twice _))
 
   pub force-count : (p : ℕ) → p < 256 → pending s p ≡ not (eqb (c ! (512 + p)) 0)

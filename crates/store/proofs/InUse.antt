@@ -11,7 +11,7 @@ use Rattle.layout.specs.Records.{◌!◌}
 use Rattle.layout.specs.declared.Found.{Found}
 use Rattle.layout.specs.declared.Found.TheVariants.{Nothing, At}
 use Rattle.machine.specs.Allowed.{counting, free_within, vectors_in}
-use Rattle.machine.specs.States.{VECTORS, free, free_vector_lem, vector_counts}
+use Rattle.machine.specs.States.{VECTORS, free, free_vector, vector_counts}
 use Rattle.machine.specs.Try.{Try, got, stop}
 use Rattle.machine.specs.declared.End.{End}
 use Rattle.machine.specs.declared.State.{State}

@@ -22,7 +22,7 @@ use Rattle.machine.specs.declared.Value.{Value}
 use Rattle.store.specs.Lists.{up_to}
 use Rattle.store.proofs.Lists.{get_elem?-up_to, length-up_to, missing-up_to}
 use Rattle.store.specs.Store.{◌#◌, PLACES, CALLS, value_of, cell_in, frame_in, state_in, Live, Puts}
-use Rattle.store.specs.Counts.{one, holders, in_frame_lem, in_frames, holding, forcing, references, referring, is_reference, refers_to, counts_at, Counted, Covers, Few, Byte, Ready, Recounts}
+use Rattle.store.specs.Counts.{one, holders, in_frame, in_frames, holding, forcing, references, referring, is_reference, refers_to, counts_at, Counted, Covers, Few, Byte, Ready, Recounts}
 use Rattle.store.specs.Counts.{changed, recount, fewer, more}
 use Rattle.store.proofs.Counting.{holders-set, frames-set, frames-some, places-some, places-most, take-set}
 use Rattle.store.proofs.Puts.{put-integer, put-number, put-place}
@@ -132,8 +132,8 @@ length-recount f c k (Value.Promise p) = simp length-set
 -- ---- how many there are
 
 module _ (is : Value → Bool) (b : List ℕ) (n : List ℤ) where
-  pub frame-most : (k : ℕ) → in_frame_lem is (frame_in b n k) ≤ 24
-  unfolding in_frame_lem frame_in
+  pub frame-most : (k : ℕ) → in_frame is (frame_in b n k) ≤ 24
+  unfolding in_frame frame_in
   frame-most k =
       let r = places-most is (frame_in b n k).registers in
       let x = places-most is (frame_in b n k).names in
@@ -160,11 +160,11 @@ module _ (is : Value → Bool) (b : List ℕ) (n : List ℤ) where
     unfolding live_frames state_in
     live-frame = get_take (up_to (frame_in b n) 0 32) (b ! CALLS) k L.1 ∙ get_elem?-up_to (frame_in b n) 32 k L.0
 
-    pub in_frame_lem : (e : ℕ) → e < 24 → one (is (cell_in b n k e)) ≤ in_frame_lem is (frame_in b n k)
-    unfolding in_frame_lem frame_in
+    pub in_frame_lem : (e : ℕ) → e < 24 → one (is (cell_in b n k e)) ≤ in_frame is (frame_in b n k)
+    unfolding in_frame frame_in
     in_frame_lem e h = go (ltb e 16) refl
       where
-        go : (t : Bool) → ltb e 16 ≡ t → one (is (cell_in b n k e)) ≤ in_frame_lem is (frame_in b n k)
+        go : (t : Bool) → ltb e 16 ≡ t → one (is (cell_in b n k e)) ≤ in_frame is (frame_in b n k)
         go true q = let p = places-some is (frame_in b n k).registers e (place (cell_in b n k e)) (get_elem?-up_to (λ i. place (cell_in b n k i)) 16 e (ltb-true e 16 q)) in omega arith
         go false q =
             let g = ltb-false e 16 q in
@@ -187,7 +187,7 @@ referring-most b n k = go (ltb k (b ! CALLS)) refl (ltb k 32) refl
     go true p false q = rw (none-taken (up_to (frame_in b n) 0 32) (b ! CALLS) k (missing-up_to (frame_in b n) 32 k (ltb-false k 32 q))) (omega arith)
     go true p true q = rw (live-frame is_reference b n k (ltb-true k 32 q, ltb-true k (b ! CALLS) p)) (frame-most is_reference b n k)
 
-pub referring-live : (b : List ℕ) (n : List ℤ) (k : ℕ) → Live b k → referring k (state_in b n) ≡ in_frame_lem is_reference (frame_in b n k)
+pub referring-live : (b : List ℕ) (n : List ℤ) (k : ℕ) → Live b k → referring k (state_in b n) ≡ in_frame is_reference (frame_in b n k)
 unfolding references
 referring-live b n k L = ap references (live-frame is_reference b n k L)
 
@@ -201,11 +201,11 @@ balance false true p q r w h = omega arith
 balance false false p q r w h = omega arith
 
 module _ {b b' : List ℕ} {n n' : List ℤ} {k e : ℕ} {v : Value} (P : Puts b n b' n' k e v) (L : Live b k) (h : e < 24) where
-  frame-written : (is : Value → Bool) → in_frame_lem is (frame_in b' n' k) + one (is (cell_in b n k e)) ≡ in_frame_lem is (frame_in b n k) + one (is v)
-  unfolding in_frame_lem frame_in
+  frame-written : (is : Value → Bool) → in_frame is (frame_in b' n' k) + one (is (cell_in b n k e)) ≡ in_frame is (frame_in b n k) + one (is v)
+  unfolding in_frame frame_in
   frame-written is = go (ltb e 16) refl
     where
-      go : (t : Bool) → ltb e 16 ≡ t → in_frame_lem is (frame_in b' n' k) + one (is (cell_in b n k e)) ≡ in_frame_lem is (frame_in b n k) + one (is v)
+      go : (t : Bool) → ltb e 16 ≡ t → in_frame is (frame_in b' n' k) + one (is (cell_in b n k e)) ≡ in_frame is (frame_in b n k) + one (is v)
       go true q =
           let l = ltb-true e 16 q in
           let r = ap (holders is) (put-registers P L.0 l) in

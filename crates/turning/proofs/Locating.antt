@@ -24,7 +24,7 @@ use Rattle.store.specs.Store.{DEPTH, activation_in, frame_in, state_in, Live}
 use Rattle.store.proofs.Frames.{frame-live}
 use Rattle.store.proofs.Lists.{get_elem?-up_to, missing-up_to, length-up_to}
 use Rattle.frames.specs.Frames.{Lives}
-use Rattle.loaded.specs.Answers.{block_of, version_of_lem}
+use Rattle.loaded.specs.Answers.{block_of, version_of}
 use Rattle.loaded.specs.Loaded.{block_in, count_in, program_in, version_in}
 use Rattle.loaded.proofs.Finding.{outside}
 use Rattle.loaded.proofs.Lookups.{length-lines}
@@ -89,9 +89,9 @@ module _ (most : ℕ) (s t b : List ℕ) (k : ℕ) (a : Activation) (F : Framed 
   version_of_lem n = refl
 
   abbrev Looked : Number → Type 0
-  Looked r = version_of_lem s t r ≡ find_version (program_in s t) (b ! (32 * k + 24)) (b ! (32 * k + 25))
+  Looked r = version_of s t r ≡ find_version (program_in s t) (b ! (32 * k + 24)) (b ! (32 * k + 25))
 
-  looked : (r : Number) → Looked r → (n : List ℤ) → version_of_lem s t r ≡ find_version (program_in s t) (frame_in b n k).function (frame_in b n k).version
+  looked : (r : Number) → Looked r → (n : List ℤ) → version_of s t r ≡ find_version (program_in s t) (frame_in b n k).function (frame_in b n k).version
   looked r v n = rw (function_of n, version_of_lem n) v
 
   pub lost-version : {r : Number} → Looked r → r ≡ Number.Missing → (n : List ℤ) → advance_with most (program_in s t) (state_in b n) ≡ stuck
@@ -105,7 +105,7 @@ module _ (most : ℕ) (s t b : List ℕ) (k : ℕ) (a : Activation) (F : Framed 
 
     module _ {x : BlockAt} (w : block_of s t x ≡ get_elem? (version_in s t own).blocks a.block) (i : ℕ) (h : x ≡ BlockAt.Entry i) where
       pub spotted-by : (n : List ℤ) → Spotted (program_in s t) (state_in b n) k (top_in b) (frame_in b n k) (version_in s t own) (block_in s t i)
-      unfolding version_of_lem block_of state_in
+      unfolding version_of block_of state_in
       spotted-by n = record {
         top = top-there s t b n F.deep F.low;
         deep = F.deep;
@@ -144,8 +144,8 @@ missed : {A : Type 0} {x : A} → none ≡ some x → ⊥
 missed e = let z : ◌≡◌ {A = ℕ} 0 1 = cc in omega arith
 
 -- the number of a version that is found
-pub numbered : (s t : List ℕ) (f w own : ℕ) {r : Number} → version_of_lem s t r ≡ find_version (program_in s t) f w → r ≡ Number.Of own → (own < 128) × (own ≡ 4 * f + w)
-unfolding version_of_lem version_in
+pub numbered : (s t : List ℕ) (f w own : ℕ) {r : Number} → version_of s t r ≡ find_version (program_in s t) f w → r ≡ Number.Of own → (own < 128) × (own ≡ 4 * f + w)
+unfolding version_of version_in
 numbered s t f w own x q =
     let v = rw q at x in
     let e = find-numbers (program_in s t) f w (version_in s t own) (sym v) in
