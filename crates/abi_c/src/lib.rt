@@ -1,4 +1,5 @@
 //! The interface in C, as include/fir.h declares it, for callers in C: each function is that of the crate abi, with the same contract.
+//! Where a contract has two clauses, `call` says the same as `says`, by the name by which statements on lists of calls speak of it.
 #![tactic(auto)]
 
 ghost use Rattle.std.specs.Prelude.{◌≡◌, min, length};
@@ -29,6 +30,8 @@ ghost use Rattle.whereabouts.specs.Where.{where_of};
 ghost use Rattle.words.specs.Words.{answer_text, question_text, written_of};
 ghost use Rattle.abi.specs.Answers.{back_numbers, bounding_numbers, changed_numbers, entry_numbers, form_of, joined_numbers, loaded_numbers, mended_numbers};
 ghost use Rattle.abi.specs.Answers.{moved_numbers, search_numbers, state_alignment, state_size, verdict_numbers, version_numbers, watched_numbers, where_numbers};
+ghost use Rattle.abi.specs.Calls.{BeginCall, BudgetCall, ChangeCall, Loads, PoolBeginCall, PoolBudgetCall, PoolChangeCall, PoolRunCall, PoolStepCall};
+ghost use Rattle.abi.specs.Calls.{RunCall, StepCall, TrailBackCall, TrailBudgetCall, TrailStepCall, WatchCall};
 ghost use Rattle.abi.specs.Exits.{Answers, Began, Rests, Steps, entrance};
 ghost use Rattle.abi.specs.Held.{held};
 ghost use Rattle.abi.specs.Looks.{read_numbers};
@@ -185,9 +188,10 @@ pub extern "C" fn fir_table_size(bytes: usize) -> usize
 /// too short, they stand for the program without versions.
 #[unsafe(no_mangle)]
 pub extern "C" fn fir_load(image: &[u8], table: &mut [u8]) -> FirLoaded
-    ensures { (result ≡ loaded_numbers (load_of image.now (length table.old)))
+    ensures says { (result ≡ loaded_numbers (load_of image.now (length table.old)))
         × Stands image.now table.new (load_of image.now (length table.old))
         × (length table.new ≡ length table.old) }
+    ensures call { Loads image.now result table.old table.new }
 {
     abi::fir_load(image, table)
 }
@@ -205,9 +209,11 @@ pub extern "C" fn fir_begin(
     buffer: &[i64],
     state: &mut FirState,
 ) -> FirEntry
-    ensures { (result ≡ entry_numbers (entered_at (program_in image.now table.now) (entrance level function version) words.now buffer.now).entry)
+    ensures says { (result ≡ entry_numbers (entered_at (program_in image.now table.now) (entrance level function version) words.now buffer.now).entry)
         × Began (entered_at (program_in image.now table.now) (entrance level function version) words.now buffer.now).entry
         (program_in image.now table.now) (entrance level function version) words.now buffer.now
+        state.old state.new }
+    ensures call { BeginCall image.now table.now level function version words.now buffer.now result
         state.old state.new }
 {
     abi::fir_begin(image, table, level, function, version, words, buffer, state)
@@ -216,7 +222,8 @@ pub extern "C" fn fir_begin(
 /// Takes a single step. A stuck step, and one of a run that has ended, write nothing.
 #[unsafe(no_mangle)]
 pub extern "C" fn fir_step(image: &[u8], table: &[u8], state: &mut FirState) -> FirSaid
-    ensures { Steps result (step_of (program_in image.now table.now) (held state.old)) state.old state.new }
+    ensures says { Steps result (step_of (program_in image.now table.now) (held state.old)) state.old state.new }
+    ensures call { StepCall image.now table.now result state.old state.new }
 {
     abi::fir_step(image, table, state)
 }
@@ -231,10 +238,12 @@ pub extern "C" fn fir_budget(
     budget: u32,
     buffer: &mut [i64],
 ) -> FirAnswer
-    ensures { Answers result (budget_of (program_in image.now table.now) (held state.old) budget buffer.old)
+    ensures says { Answers result (budget_of (program_in image.now table.now) (held state.old) budget buffer.old)
         state.old state.new buffer.old buffer.new
         × Rests budget (budget_of (program_in image.now table.now) (held state.old) budget buffer.old)
         state.old state.new }
+    ensures call { BudgetCall image.now table.now budget result state.old state.new
+        buffer.old buffer.new }
 {
     abi::fir_budget(image, table, state, budget, buffer)
 }
@@ -252,7 +261,9 @@ pub extern "C" fn fir_run(
     buffer: &mut [i64],
     state: &mut FirState,
 ) -> FirAnswer
-    ensures { Answers result (run_in_to RANGE image.now table.now level function version words.now budget buffer.old)
+    ensures says { Answers result (run_in_to RANGE image.now table.now level function version words.now budget buffer.old)
+        state.old state.new buffer.old buffer.new }
+    ensures call { RunCall image.now table.now level function version words.now budget result
         state.old state.new buffer.old buffer.new }
 {
     abi::fir_run(
@@ -264,7 +275,8 @@ pub extern "C" fn fir_run(
 /// is 0 the caller goes on with the new image, else with the old one.
 #[unsafe(no_mangle)]
 pub extern "C" fn fir_change(old: &[u8], new: &[u8], state: &FirState) -> FirEntry
-    ensures { result ≡ changed_numbers (change_of old.now new.now (held state.now)) }
+    ensures says { result ≡ changed_numbers (change_of old.now new.now (held state.now)) }
+    ensures call { ChangeCall old.now new.now result state.now }
 {
     abi::fir_change(old, new, state)
 }
@@ -285,7 +297,8 @@ pub extern "C" fn fir_trail_step(
     state: &mut FirState,
     trail: &mut FirTrail,
 ) -> FirSaid
-    ensures { StepsOn result (program_in image.now table.now) state.old trail.old state.new trail.new }
+    ensures says { StepsOn result (program_in image.now table.now) state.old trail.old state.new trail.new }
+    ensures call { TrailStepCall image.now table.now result state.old trail.old state.new trail.new }
 {
     abi::fir_trail_step(image, table, state, trail)
 }
@@ -300,7 +313,9 @@ pub extern "C" fn fir_trail_budget(
     budget: u32,
     buffer: &mut [i64],
 ) -> FirAnswer
-    ensures { AnswersOn result (program_in image.now table.now) budget state.old trail.old state.new trail.new
+    ensures says { AnswersOn result (program_in image.now table.now) budget state.old trail.old state.new trail.new
+        buffer.old buffer.new }
+    ensures call { TrailBudgetCall image.now table.now budget result state.old trail.old state.new trail.new
         buffer.old buffer.new }
 {
     abi::fir_trail_budget(image, table, state, trail, budget, buffer)
@@ -327,7 +342,8 @@ pub extern "C" fn fir_trail_back(
     state: &mut FirState,
     trail: &mut FirTrail,
 ) -> FirEntry
-    ensures { BacksOn result (program_in image.now table.now) state.old trail.old state.new trail.new }
+    ensures says { BacksOn result (program_in image.now table.now) state.old trail.old state.new trail.new }
+    ensures call { TrailBackCall image.now table.now result state.old trail.old state.new trail.new }
 {
     abi::fir_trail_back(image, table, state, trail)
 }
@@ -355,8 +371,10 @@ pub extern "C" fn fir_pool_begin(
     pool: &mut Pool,
     number: usize,
 ) -> FirEntry
-    ensures { BeginsIn result (program_in image.now table.now) (entrance level function version) words.now buffer.now
+    ensures says { BeginsIn result (program_in image.now table.now) (entrance level function version) words.now buffer.now
         pool.old number state.old state.new pool.new }
+    ensures call { PoolBeginCall image.now table.now level function version words.now buffer.now
+        pool.old number result state.old state.new pool.new }
 {
     abi::fir_pool_begin(
         image, table, level, function, version, words, buffer, state, pool, number,
@@ -372,7 +390,8 @@ pub extern "C" fn fir_pool_step(
     pool: &mut Pool,
     number: usize,
 ) -> FirTurn
-    ensures { StepsIn result (program_in image.now table.now) pool.old number state.old state.new pool.new }
+    ensures says { StepsIn result (program_in image.now table.now) pool.old number state.old state.new pool.new }
+    ensures call { PoolStepCall image.now table.now pool.old number result state.old state.new pool.new }
 {
     abi::fir_pool_step(image, table, state, pool, number)
 }
@@ -388,7 +407,9 @@ pub extern "C" fn fir_pool_budget(
     budget: u32,
     buffer: &mut [i64],
 ) -> FirAnswer
-    ensures { AnswersIn result (program_in image.now table.now) budget pool.old number state.old state.new pool.new
+    ensures says { AnswersIn result (program_in image.now table.now) budget pool.old number state.old state.new pool.new
+        buffer.old buffer.new }
+    ensures call { PoolBudgetCall image.now table.now budget pool.old number result state.old state.new pool.new
         buffer.old buffer.new }
 {
     abi::fir_pool_budget(image, table, state, pool, number, budget, buffer)
@@ -409,8 +430,10 @@ pub extern "C" fn fir_pool_run(
     pool: &mut Pool,
     number: usize,
 ) -> FirAnswer
-    ensures { RunsIn result (program_in image.now table.now) (entrance level function version) words.now budget
+    ensures says { RunsIn result (program_in image.now table.now) (entrance level function version) words.now budget
         pool.old number state.old state.new pool.new buffer.old buffer.new }
+    ensures call { PoolRunCall image.now table.now level function version words.now budget
+        pool.old number result state.old state.new pool.new buffer.old buffer.new }
 {
     abi::fir_pool_run(
         image, table, level, function, version, words, budget, buffer, state, pool, number,
@@ -426,7 +449,8 @@ pub extern "C" fn fir_pool_change(
     pool: &Pool,
     number: usize,
 ) -> FirEntry
-    ensures { result ≡ changed_numbers (pool_change pool.now number old.now new.now (held state.now)) }
+    ensures says { result ≡ changed_numbers (pool_change pool.now number old.now new.now (held state.now)) }
+    ensures call { PoolChangeCall old.now new.now pool.now number result state.now }
 {
     abi::fir_pool_change(old, new, state, pool, number)
 }
@@ -473,8 +497,9 @@ pub extern "C" fn fir_watch(
     state: &FirState,
     rows: &mut [Row],
 ) -> FirWatched
-    ensures { (result ≡ watched_numbers (watched_of (program_in image.now table.now) (held state.now) (length rows.old)))
+    ensures says { (result ≡ watched_numbers (watched_of (program_in image.now table.now) (held state.now) (length rows.old)))
         × (rows.new ≡ rows_after (program_in image.now table.now) (held state.now) rows.old) }
+    ensures call { WatchCall image.now table.now result state.now rows.old rows.new }
 {
     abi::fir_watch(image, table, state, rows)
 }
