@@ -33,7 +33,8 @@ portable_flags=(-std=c99 -Wall -Wextra -Werror -pedantic -O2 -Iinclude -fPIC -ff
 
 mkdir -p "$out"
 "$clang" --no-default-config -S -emit-llvm -x ir "$module" -Xclang -disable-llvm-passes -o - |
-    sed -f tools/dist/portable.sed >"$out/fir.ll"
+    sed -f tools/dist/portable.sed |
+    awk -f tools/dist/portable.awk tools/dist/portable.c - >"$out/fir.ll"
 "$clang" "${module_flags[@]}" -c -x ir "$out/fir.ll" -o "$out/module.o"
 "$target-gcc" "${portable_flags[@]}" -c tools/dist/portable.c -o "$out/portable.o"
 # One object, in which the functions behind the interface are not seen from outside.

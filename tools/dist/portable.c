@@ -1,4 +1,4 @@
-/* The interface of fir.h for other machines than x86-64, over the functions of the proved module as portable.sed makes them known:
+/* The interface of fir.h for other machines than x86-64, over the functions of the proved module as portable.sed and portable.awk make them known:
  * slices and answers stand behind pointers, and sizes have 64 bits. */
 #include "fir.h"
 
