@@ -37,11 +37,13 @@ pub record RunsAlike (image table : List ℕ) : Type 0 where
   pub watched : (s : State) (n : ℕ) → watched_of (program_in image table) s n ≡ watched_of (program_of image) s n
   pub rows : (s : State) (rows : List Row) → rows_after (program_in image table) s rows ≡ rows_after (program_of image) s rows
   -- and in a pool.
-  pub pool_start : (level f v : ℕ) (words buffer : List ℤ) (p : Pool) (i : ℕ) → pool_begun_by p i (entered_of (program_in image table) level f v words buffer) ≡ pool_begin image level f v words buffer p i
+  pub pool_start : (level f v : ℕ) (words buffer : List ℤ) (p : Pool) (i : ℕ)
+      → pool_begun_by p i (entered_of (program_in image table) level f v words buffer) ≡ pool_begin image level f v words buffer p i
   pub pool_steps : (p : Pool) (i : ℕ) (s : State) → pool_step (program_in image table) p i s ≡ pool_step (program_of image) p i s
   pub pool_budgets : (p : Pool) (i : ℕ) (s : State) (n : ℕ) (buffer : List ℤ) → pool_budget (program_in image table) p i s n buffer ≡ pool_budget (program_of image) p i s n buffer
   pub pool_runs : (level f v : ℕ) (words buffer : List ℤ) (p : Pool) (i n : ℕ)
-      → pool_run_by (program_in image table) p i (entered_of (program_in image table) level f v words buffer) n buffer ≡ pool_run_by (program_of image) p i (begin_of image level f v words buffer) n buffer
+      → pool_run_by (program_in image table) p i (entered_of (program_in image table) level f v words buffer) n buffer
+      ≡ pool_run_by (program_of image) p i (begin_of image level f v words buffer) n buffer
 
 -- So for every table that fir_load filled from an image with the answer 0
 unfoldable pub LoadedRuns : Type 0
