@@ -1,6 +1,5 @@
 -- What a place of a live call holds, as numbers: 0 nothing, 1 an integer, 2 a vector, 3 a promise, 4 no such place.
-use Rattle.std.specs.Prelude.{pos}
-use Rattle.machine.specs.declared.Read.{Read}
+use Rattle.std.specs.Prelude.{pos, None, Option, Some}
 use Rattle.machine.specs.declared.Value.{Value}
 use Rattle.abi.specs.declared.answers.FirValue.{FirValue}
 
@@ -16,6 +15,6 @@ unfoldable pub no_place : FirValue
 no_place = record { number = pos 0; kind = 4; place = 0 }
 
 -- what was looked up, as numbers
-unfoldable pub read_numbers : Read → FirValue
-read_numbers Read.Outside = no_place
-read_numbers (Read.Holds v) = value_numbers v
+unfoldable pub read_numbers : Option Value → FirValue
+read_numbers None = no_place
+read_numbers (Some v) = value_numbers v

@@ -41,7 +41,7 @@ use answers::{
     FirVerdict, FirVersion, FirWatched, FirWhere,
 };
 use begin::Entrance;
-use checker::{Reported, questions, report};
+use checker::{questions, report};
 use entry::Start;
 use machine::{Pool, Row};
 use pool::{Ask, Room};
@@ -106,8 +106,8 @@ pub fn fir_report(image: &[u8], text: &mut [u8]) -> usize
         × (text.new ≡ placed text.old 0 (report_text image.now)) }
 {
     match report::report(image, text) {
-        Reported::Written(n) => n,
-        Reported::Short => 0,
+        Some(n) => n,
+        None => 0,
     }
 }
 
@@ -124,8 +124,8 @@ pub fn fir_report_in(image: &[u8], form: u8, text: &mut [u8]) -> usize
         × (text.new ≡ placed text.old 0 (report_in (form_of form) image.now)) }
 {
     match report::report_in(image, answers::form(form), text) {
-        Reported::Written(n) => n,
-        Reported::Short => 0,
+        Some(n) => n,
+        None => 0,
     }
 }
 

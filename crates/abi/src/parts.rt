@@ -18,7 +18,7 @@ ghost use Rattle.abi.specs.Looks.{read_numbers};
 
 use crate::answers;
 use crate::answers::{FirAnswer, FirEntry, FirSaid, FirSearched, FirValue, FirWatched, FirWhere};
-use machine::{Read, Vector};
+use machine::{Value, Vector};
 use running::{Counted, Pause};
 
 /// Where the status of a state stands among its bytes, and the length of its result; where the result stands among its numbers.
@@ -56,8 +56,8 @@ pub fn look<'s>(
     ensures { result ≡ read_numbers (read_of (look_of (state_in bytes.now numbers.now) call place)) }
 {
     match whereabouts::look(bytes, numbers, call, place) {
-        Read::Outside => answers::outside(),
-        Read::Holds(v) => answers::value(v),
+        None => answers::outside(),
+        Some(v) => answers::value(v),
     }
 }
 

@@ -1,5 +1,7 @@
 -- What the parts of an instruction answered, as the machine's definitions say it.
+use Rattle.std.specs.Prelude.{None, Some, Option}
 use mathlib.Core.Path.{◌≡◌, refl, sym, ap, subst, ◌∙◌}
+use Rattle.layout.specs.Found.{Found}
 use mathlib.Core.Bool.{Bool, true, false}
 use mathlib.Core.List.{List}
 use Prim.Native.Nat.{ℕ, ◌<◌}
@@ -8,8 +10,6 @@ use lib.IntN.{ℤ, pos, negsuc}
 use lib.Dec.{ltb}
 use borrow.Author.Tests.{ltb-true}
 use Rattle.layout.specs.Records.{◌!◌}
-use Rattle.layout.specs.declared.Found.{Found}
-use Rattle.layout.specs.declared.Found.TheVariants.{Nothing, At}
 use Rattle.machine.specs.States.{assign, free_promise, with_frame, with_register, with_stack}
 use Rattle.machine.specs.Allowed.{free_within}
 use Rattle.machine.specs.Values.{index}
@@ -21,7 +21,6 @@ use Rattle.machine.specs.declared.Value.{Value}
 use Rattle.store.specs.Answers.{end_of, whole_of, found_of}
 use Rattle.store.specs.declared.Did.{Did}
 use Rattle.store.specs.declared.Halt.{Halt}
-use Rattle.store.specs.declared.Whole.{Whole}
 use Rattle.store.specs.Store.{CALLS, frame_in, state_in, Live}
 use Rattle.store.specs.Counts.{Counted, Frees, FreesVector}
 use Rattle.store.specs.Acts.{Does, Narrow}
@@ -31,23 +30,23 @@ use Rattle.store.proofs.InUse.{free-within}
 
 -- ---- operands
 
-pub whole_is : {r : Whole} {t : Try ℤ} {x : ℤ} → whole_of r ≡ t → r ≡ Whole.Is x → t ≡ got x
+pub whole_is : {r : Option ℤ} {t : Try ℤ} {x : ℤ} → whole_of r ≡ t → r ≡ Some x → t ≡ got x
 unfolding whole_of
 whole_is e h = sym e ∙ ap whole_of h
 
-pub whole-stuck : {r : Whole} {t : Try ℤ} → whole_of r ≡ t → r ≡ Whole.Stuck → t ≡ stuck
+pub whole-stuck : {r : Option ℤ} {t : Try ℤ} → whole_of r ≡ t → r ≡ None → t ≡ stuck
 unfolding whole_of
 whole-stuck e h = sym e ∙ ap whole_of h
 
-pub found-is : {r : Found} {t : Try ℕ} {x : ℕ} → found_of r ≡ t → r ≡ At x → t ≡ got x
+pub found-is : {r : Found} {t : Try ℕ} {x : ℕ} → found_of r ≡ t → r ≡ Some x → t ≡ got x
 unfolding found_of
 found-is e h = sym e ∙ ap found_of h
 
-pub found-stuck : {r : Found} {t : Try ℕ} → found_of r ≡ t → r ≡ Nothing → t ≡ stuck
+pub found-stuck : {r : Found} {t : Try ℕ} → found_of r ≡ t → r ≡ None → t ≡ stuck
 unfolding found_of
 found-stuck e h = sym e ∙ ap found_of h
 
-pub narrow_at : {r : Found} {v : ℕ} → Narrow r → r ≡ At v → v < 256
+pub narrow_at : {r : Found} {v : ℕ} → Narrow r → r ≡ Some v → v < 256
 unfolding Narrow
 narrow_at n e = rw e at n
 
@@ -65,19 +64,19 @@ index_below (negsuc i) n j e = let z : ◌≡◌ {A = ℕ} 0 1 = cc in absurd (o
 -- ---- free places
 
 module _ (c : List ℕ) (s : State) (C : Counted c s) {r : Found} where
-  pub vector-free : (most : ℕ) {v : ℕ} → FreesVector r c most → r ≡ At v → (free_within most s ≡ got v) × (v < 64)
+  pub vector-free : (most : ℕ) {v : ℕ} → FreesVector r c most → r ≡ Some v → (free_within most s ≡ got v) × (v < 64)
   unfolding FreesVector
   vector-free most F e = let G = rw e at F in (free-within c s C most ∙ G.0, G.1)
 
-  pub vector-none : (most : ℕ) → FreesVector r c most → r ≡ Nothing → free_within most s ≡ stop End.Vectors
+  pub vector-none : (most : ℕ) → FreesVector r c most → r ≡ None → free_within most s ≡ stop End.Vectors
   unfolding FreesVector
   vector-none most F e = let G = rw e at F in free-within c s C most ∙ G
 
-  pub promise-free : {p : ℕ} → Frees r c 256 512 → r ≡ At p → (free_promise s ≡ got p) × (p < 64)
+  pub promise-free : {p : ℕ} → Frees r c 256 512 → r ≡ Some p → (free_promise s ≡ got p) × (p < 64)
   unfolding Frees
   promise-free F e = let G = rw e at F in (free-promise c s C ∙ G.0 End.Promises, G.1)
 
-  pub promise-none : Frees r c 256 512 → r ≡ Nothing → free_promise s ≡ stop End.Promises
+  pub promise-none : Frees r c 256 512 → r ≡ None → free_promise s ≡ stop End.Promises
   unfolding Frees
   promise-none F e = let G = rw e at F in free-promise c s C ∙ G End.Promises
 

@@ -1,4 +1,5 @@
 -- The operations on integers end a run by UNDEF alone.
+use Rattle.std.specs.Prelude.{None, Some}
 use mathlib.Core.Path.{◌≡◌, refl}
 use mathlib.Core.Bool.{Bool, true, false, cond, not}
 use Prim.Native.Nat.{ℕ}
@@ -11,7 +12,6 @@ use Rattle.machine.specs.Values.{RANGE, ranged, ranged_to, floored, divided, div
 use Rattle.machine.specs.declared.End.{End}
 use Rattle.integers.specs.Computed.{computed_of, indexed_of}
 use Rattle.integers.specs.declared.Computed.{Computed}
-use Rattle.integers.specs.declared.Indexed.{Indexed}
 
 -- UNDEF is the only stop that it may come to
 Only : Try ℤ → Type 0
@@ -66,21 +66,21 @@ computed-stuck (stop e) h = cc
 
 -- ---- indices
 
-indexed-got : (t : Try ℕ) (i : ℕ) → indexed_of t ≡ Indexed.At i → t ≡ got i
+indexed-got : (t : Try ℕ) (i : ℕ) → indexed_of t ≡ Some i → t ≡ got i
 unfolding indexed_of
 indexed-got (got x) i h = cc
 indexed-got stuck i h = cc
 indexed-got (stop e) i h = cc
 
-pub index_at : (z : ℤ) (n i : ℕ) → indexed_of (index z n) ≡ Indexed.At i → index z n ≡ got i
+pub index_at : (z : ℤ) (n i : ℕ) → indexed_of (index z n) ≡ Some i → index z n ≡ got i
 index_at z n i h = indexed-got (index z n) i h
 
-below : (b : Bool) (i : ℕ) → indexed_of (end_unless End.Undef b >> got i) ≡ Indexed.Undef → (end_unless End.Undef b >> got i) ≡ stop End.Undef
+below : (b : Bool) (i : ℕ) → indexed_of (end_unless End.Undef b >> got i) ≡ None → (end_unless End.Undef b >> got i) ≡ stop End.Undef
 unfolding indexed_of end_unless ◌>>◌
 below true i h = cc
 below false i h = refl
 
-pub index-undef : (z : ℤ) (n : ℕ) → indexed_of (index z n) ≡ Indexed.Undef → index z n ≡ stop End.Undef
+pub index-undef : (z : ℤ) (n : ℕ) → indexed_of (index z n) ≡ None → index z n ≡ stop End.Undef
 unfolding index
 index-undef (pos i) n h = below (ltb i n) i h
 index-undef (negsuc i) n h = refl

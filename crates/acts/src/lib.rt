@@ -9,10 +9,9 @@ ghost use Rattle.store.specs.Counts.{Ready};
 ghost use Rattle.store.specs.Acts.{Executes, ExecutesWith};
 ghost use Rattle.acts.specs.Typed.{ExecutesIf, ExecutesTyped};
 
-use integers::{Computed, Indexed};
-use layout::Found;
+use integers::Computed;
 use machine::{Activation, Cache, Opener};
-use store::{Did, Halt, Whole, cells, heap, stack};
+use store::{Did, Halt, cells, heap, stack};
 
 /// The last two operands of an ARITH or a SELECT.
 #[derive(Clone, Copy)]
@@ -48,7 +47,7 @@ pub fn use_up(
     requires { Ready bytes.old numbers.now counts.old × Live bytes.old k }
     ensures { Executes result bytes.old numbers.now bytes.new numbers.now counts.new k (USE d a) }
 {
-    let Found::At(v) = cells::vector(bytes, numbers, k, a) else {
+    let Some(v) = cells::vector(bytes, numbers, k, a) else {
         return Did::Stuck;
     };
     if 16 <= d {
@@ -71,13 +70,13 @@ pub fn dup(
     requires { Ready bytes.old numbers.old counts.old × Live bytes.old k }
     ensures { ExecutesWith most result bytes.old numbers.old bytes.new numbers.new counts.new k (DUP d a) }
 {
-    let Found::At(v) = cells::vector(bytes, numbers, k, a) else {
+    let Some(v) = cells::vector(bytes, numbers, k, a) else {
         return Did::Stuck;
     };
     if 64 <= v {
         return Did::Stuck;
     }
-    let Found::At(w) = heap::free_vector(counts, most) else {
+    let Some(w) = heap::free_vector(counts, most) else {
         return Did::Stop(Halt::Vectors);
     };
     if 16 <= d {
@@ -99,7 +98,7 @@ pub fn len(
     requires { Ready bytes.old numbers.old counts.old × Live bytes.old k }
     ensures { Executes result bytes.old numbers.old bytes.new numbers.new counts.new k (LEN d a) }
 {
-    let Found::At(v) = cells::vector(bytes, numbers, k, a) else {
+    let Some(v) = cells::vector(bytes, numbers, k, a) else {
         return Did::Stuck;
     };
     if 64 <= v {
@@ -122,21 +121,21 @@ pub fn get(
     requires { Ready bytes.old numbers.old counts.old × Live bytes.old k }
     ensures { Executes result bytes.old numbers.old bytes.new numbers.new counts.new k (GET d a i) }
 {
-    let Found::At(v) = cells::vector(bytes, numbers, k, a) else {
+    let Some(v) = cells::vector(bytes, numbers, k, a) else {
         return Did::Stuck;
     };
     if 64 <= v {
         return Did::Stuck;
     }
-    let Whole::Is(z) = cells::integer(bytes, numbers, k, i) else {
+    let Some(z) = cells::integer(bytes, numbers, k, i) else {
         return Did::Stuck;
     };
     match integers::index(z, heap::items(bytes, numbers, v)) {
-        Indexed::At(j) => {
+        Some(j) => {
             let x = heap::item(bytes, numbers, v, j as usize);
             cells::assign_integer(bytes, numbers, counts, k, d, x)
         }
-        Indexed::Undef => Did::Stop(Halt::Undef),
+        None => Did::Stop(Halt::Undef),
     }
 }
 
@@ -153,27 +152,27 @@ pub fn set(
     requires { Ready bytes.old numbers.old counts.old × Live bytes.old k }
     ensures { Executes result bytes.old numbers.old bytes.new numbers.new counts.new k (SET a i e) }
 {
-    let Found::At(v) = cells::vector(bytes, numbers, k, a) else {
+    let Some(v) = cells::vector(bytes, numbers, k, a) else {
         return Did::Stuck;
     };
     if 64 <= v {
         return Did::Stuck;
     }
-    let Whole::Is(z) = cells::integer(bytes, numbers, k, i) else {
+    let Some(z) = cells::integer(bytes, numbers, k, i) else {
         return Did::Stuck;
     };
-    let Whole::Is(x) = cells::integer(bytes, numbers, k, e) else {
+    let Some(x) = cells::integer(bytes, numbers, k, e) else {
         return Did::Stuck;
     };
     if counts[v] != 1 {
         return Did::Stuck;
     }
     match integers::index(z, heap::items(bytes, numbers, v)) {
-        Indexed::At(j) => {
+        Some(j) => {
             heap::set_item(bytes, numbers, counts, v, j as usize, x);
             Did::On
         }
-        Indexed::Undef => Did::Stop(Halt::Undef),
+        None => Did::Stop(Halt::Undef),
     }
 }
 
@@ -190,10 +189,10 @@ pub fn arith(
     requires { Ready bytes.old numbers.old counts.old × Live bytes.old k }
     ensures { Executes result bytes.old numbers.old bytes.new numbers.new counts.new k (ARITH d op of.a of.b) }
 {
-    let Whole::Is(x) = cells::integer(bytes, numbers, k, of.a) else {
+    let Some(x) = cells::integer(bytes, numbers, k, of.a) else {
         return Did::Stuck;
     };
-    let Whole::Is(y) = cells::integer(bytes, numbers, k, of.b) else {
+    let Some(y) = cells::integer(bytes, numbers, k, of.b) else {
         return Did::Stuck;
     };
     match integers::arith(op, x, y) {
@@ -216,13 +215,13 @@ pub fn select(
     requires { Ready bytes.old numbers.old counts.old × Live bytes.old k }
     ensures { Executes result bytes.old numbers.old bytes.new numbers.new counts.new k (SELECT d c of.a of.b) }
 {
-    let Whole::Is(z) = cells::integer(bytes, numbers, k, c) else {
+    let Some(z) = cells::integer(bytes, numbers, k, c) else {
         return Did::Stuck;
     };
-    let Whole::Is(x) = cells::integer(bytes, numbers, k, of.a) else {
+    let Some(x) = cells::integer(bytes, numbers, k, of.a) else {
         return Did::Stuck;
     };
-    let Whole::Is(y) = cells::integer(bytes, numbers, k, of.b) else {
+    let Some(y) = cells::integer(bytes, numbers, k, of.b) else {
         return Did::Stuck;
     };
     cells::assign_integer(bytes, numbers, counts, k, d, integers::select(z, x, y))
@@ -270,7 +269,7 @@ pub fn force(
     requires { Ready bytes.old numbers.old counts.old × Live bytes.old k }
     ensures { Executes result bytes.old numbers.old bytes.new numbers.new counts.new k (FORCE d a) }
 {
-    let Found::At(p) = cells::promise(bytes, numbers, k, a) else {
+    let Some(p) = cells::promise(bytes, numbers, k, a) else {
         return Did::Stuck;
     };
     if 64 <= p {
@@ -361,7 +360,7 @@ pub fn prom(
     if blocks <= block {
         return Did::Stuck;
     }
-    let Found::At(p) = heap::free_promise(counts) else {
+    let Some(p) = heap::free_promise(counts) else {
         return Did::Stop(Halt::Promises);
     };
     if 16 <= d {
@@ -384,7 +383,7 @@ pub fn peek(
     requires { Ready bytes.old numbers.old counts.old × Live bytes.old k }
     ensures { Executes result bytes.old numbers.old bytes.new numbers.new counts.new k (PEEK d a x) }
 {
-    let Found::At(p) = cells::promise(bytes, numbers, k, a) else {
+    let Some(p) = cells::promise(bytes, numbers, k, a) else {
         return Did::Stuck;
     };
     if 64 <= p {
@@ -412,7 +411,7 @@ pub fn poke(
     requires { Ready bytes.old numbers.old counts.old × Live bytes.old k }
     ensures { Executes result bytes.old numbers.old bytes.new numbers.new counts.new k (POKE a x e) }
 {
-    let Found::At(p) = cells::promise(bytes, numbers, k, a) else {
+    let Some(p) = cells::promise(bytes, numbers, k, a) else {
         return Did::Stuck;
     };
     if 64 <= p {

@@ -1,5 +1,7 @@
 -- What the questions to a run come to.
+use Rattle.std.specs.Prelude.{None, Some}
 use mathlib.Core.Path.{◌≡◌, refl, sym, ap, ◌∙◌}
+use Rattle.loaded.specs.Answers.{Number}
 use mathlib.Core.List.{List}
 use mathlib.Core.Option.{Option, none, some}
 use mathlib.Core.Bool.{Bool, true, false, cond, true≢false}
@@ -18,7 +20,6 @@ use Rattle.machine.specs.declared.Entry.{Entry}
 use Rattle.machine.specs.declared.State.{State}
 use Rattle.loaded.specs.Loaded.{entry_in, numbered_in, program_in, version_in}
 use Rattle.loaded.specs.Answers.{version_of}
-use Rattle.loaded.specs.declared.Number.{Number}
 use Rattle.loaded.proofs.Finding.{within}
 use Rattle.begin.specs.Arguments.{arguments_in, given_by, given_to, is_given, those}
 use Rattle.begin.specs.Asking.{Allows, Asks, Begins, Fitting, begun_with, entered_at}
@@ -84,11 +85,11 @@ module _ (s t : List ℕ) (e : Entrance) (words buffer : List ℤ) where
   no-entry h = rw h refl
 
   module _ {r : Number} (h : version_of s t r ≡ find_version (program_in s t) e.function e.version) where
-    pub entry-missing : r ≡ Number.Missing → Asks (Asked.Refused 11) s t e words buffer
+    pub entry-missing : r ≡ None → Asks (Asked.Refused 11) s t e words buffer
     unfolding version_of
     entry-missing q = no-entry (sym h ∙ ap (version_of s t) q)
 
-    module _ (k : ℕ) (q : r ≡ Number.Of k) (f : e.function < 32) (w : e.version < 4) where
+    module _ (k : ℕ) (q : r ≡ Some k) (f : e.function < 32) (w : e.version < 4) where
       found : find_version (program_in s t) e.function e.version ≡ some (version_in s t k)
       unfolding version_of
       found = sym h ∙ ap (version_of s t) q

@@ -13,7 +13,7 @@ ghost use Rattle.begin.specs.Arrays.{bytes_with, first_bytes, first_numbers, int
 ghost use Rattle.begin.specs.Asking.{Allows, Asks, Begins};
 
 use layout::bounds;
-use loaded::{Number, lookup};
+use loaded::lookup;
 use machine::{Entry, Vector};
 use typing::types;
 
@@ -203,8 +203,8 @@ fn questions(image: &[u8], table: &[u8], at: Entrance, words: &[i64], buffer: &[
         return Asked::Refused(11);
     }
     match lookup::version(table, at.function as u8, at.version as u8) {
-        Number::Missing => Asked::Refused(11),
-        Number::Of(k) => allowed(image, table, at.level, k, words, buffer),
+        None => Asked::Refused(11),
+        Some(k) => allowed(image, table, at.level, k, words, buffer),
     }
 }
 

@@ -1,5 +1,7 @@
 -- The greatest number of those that are reached, and the count of a version's steps along its records.
+use Rattle.std.specs.Prelude.{None, Some}
 use mathlib.Core.Path.{◌≡◌, refl, sym, ap, ◌∙◌}
+use Rattle.layout.specs.Found.{Found}
 use mathlib.Core.Logic.{◌⊎◌, inl, inr}
 use mathlib.Core.List.{List, [], ◌∷◌, ◌++◌, append_assoc}
 use mathlib.Core.Option.{none, some}
@@ -15,8 +17,6 @@ use Rattle.layout.specs.Records.{◌!◌, size_at, kind_at, body_at, rec_at, cho
 use Rattle.layout.specs.Tests.{◌and◌, all}
 use Rattle.layout.proofs.Bools.{and-on, and-off, and_both}
 use Rattle.layout.proofs.Rows.{Rows, choose-each}
-use Rattle.layout.specs.declared.Found.{Found}
-use Rattle.layout.specs.declared.Found.TheVariants.{Nothing, At}
 use Rattle.program.specs.Places.{view_at, version_at, block_at, instr_at, table_of, listed_in}
 use Rattle.program.proofs.Lookups.{version-found, version-missing}
 use Rattle.program.proofs.Tables.{listed-right}
@@ -267,10 +267,10 @@ module _ (P : Program) (known : List ℕ) (f w : ℕ) where
 -- ---- look-up in the table
 
 module _ (s : List ℕ) {t : List ℕ} (tabled : t ≡ table_of s) (f w : ℕ) {o : Found} (looked : o ≡ listed_in s t f w) where
-  pub found_at : (v : ℕ) → o ≡ At v → find_version (program_of s) f w ≡ some (version_at s v)
+  pub found_at : (v : ℕ) → o ≡ Some v → find_version (program_of s) f w ≡ some (version_at s v)
   found_at v e = (version-found s f w v (sym (listed-right s t f w tabled) ∙ sym looked ∙ e)).0
 
-  pub missing_at : o ≡ Nothing → find_version (program_of s) f w ≡ none
+  pub missing_at : o ≡ None → find_version (program_of s) f w ≡ none
   missing_at e = version-missing s f w (sym (listed-right s t f w tabled) ∙ sym looked ∙ e)
 
 -- ---- what a CALL names

@@ -1,5 +1,7 @@
 -- The loop that lists: the rows so far, and what is left of the list, come to the same.
+use Rattle.std.specs.Prelude.{None, Some}
 use mathlib.Core.Path.{◌≡◌, refl, sym, ap, ◌∙◌, subst}
+use Rattle.layout.specs.Found.{Found}
 use mathlib.Core.List.{List, [], ◌∷◌, ◌++◌, map}
 use mathlib.Core.Option.{some}
 use mathlib.Core.Bool.{true, cond}
@@ -12,8 +14,6 @@ use lib.Dec.{ltb}
 use borrow.Author.Tests.{eqb-true, ltb-true, lt-ltb, le-ltb}
 use Rattle.layout.specs.Records.{◌!◌}
 use Rattle.layout.specs.Tests.{all}
-use Rattle.layout.specs.declared.Found.{Found}
-use Rattle.layout.specs.declared.Found.TheVariants.{Nothing, At}
 use Rattle.layout.proofs.Bools.{and_both}
 use Rattle.program.specs.Places.{version_at, table_of}
 use Rattle.program.specs.Program.{Version, Program}
@@ -122,12 +122,12 @@ module _ {s numbers₀ counts₀ known numbers counts places sums : List ℕ} {r
   first-is : {o : Found} → o ≡ first_place (free_at s known) 128 0 → first_of (is_free (program_of s) f.rows) (by_number (program_of s)) ≡ found_at known f.rows f.stands s o
   first-is e = rw (by_slots (program_of s)) (first-free known f.rows f.stands s 128 0 (omega arith) ∙ ap (found_at known f.rows f.stands s) (sym e))
 
-  pub full-none : {o : Found} → o ≡ first_place (free_at s known) 128 0 → o ≡ Nothing → Full s numbers₀ counts₀ known numbers counts row
+  pub full-none : {o : Found} → o ≡ first_place (free_at s known) 128 0 → o ≡ None → Full s numbers₀ counts₀ known numbers counts row
   unfolding found_at
   full-none e z = all-rows (sym (listed-stays (program_of s) (by_number (program_of s)) (64 - row) f.rows (first-is e ∙ ap (found_at known f.rows f.stands s) z)) ∙ f.rest)
 
   -- one more row
-  module _ (h : row < 64) {o : Found} (e : o ≡ first_place (free_at s known) 128 0) (k : ℕ) (at-k : o ≡ At k) {places' sums' : List ℕ} (ready : Ready s known places' sums') (worth : Worth s known sums' o) where
+  module _ (h : row < 64) {o : Found} (e : o ≡ first_place (free_at s known) 128 0) (k : ℕ) (at-k : o ≡ Some k) {places' sums' : List ℕ} (ready : Ready s known places' sums') (worth : Worth s known sums' o) where
     worth-k : (k < 128) × (free_at s known k ≡ true) × (sums' ! k ≡ cap (steps_of (program_of s) (below (kept known)) (version_at s (table_of s ! k))))
     unfolding Worth
     worth-k = subst (Worth s known sums') at-k worth

@@ -1,5 +1,7 @@
 -- The numbers that the code keeps stand for the rows that are listed.
+use Rattle.std.specs.Prelude.{None, Some}
 use mathlib.Core.Path.{◌≡◌, refl, sym, ap, ◌∙◌}
+use Rattle.layout.specs.Found.{Found}
 use mathlib.Core.Logic.{◌⊎◌, inl, inr}
 use mathlib.Core.List.{List, [], ◌∷◌, ◌++◌}
 use mathlib.Core.Option.{Option, none, some}
@@ -12,8 +14,6 @@ use lib.Dec.{eqb, ltb}
 use borrow.Author.Tests.{eq-eqb, ne_eqb, eqb-true, eqb-false, lt-ltb, le-ltb, ltb-true, ltb-false}
 use Rattle.layout.specs.Records.{◌!◌}
 use Rattle.layout.specs.Tests.{◌and◌, all, any}
-use Rattle.layout.specs.declared.Found.{Found}
-use Rattle.layout.specs.declared.Found.TheVariants.{Nothing, At}
 use Rattle.layout.proofs.Bools.{and-on, and-off, and_both}
 use Rattle.program.specs.Places.{version_at, table_of}
 use Rattle.program.specs.Program.{Version, Program}
@@ -92,8 +92,8 @@ module _ (known : List ℕ) (rows : List Row) (stands : Stands known rows) where
 
     -- the version at a place
     unfoldable pub found_at : Found → Option Version
-    found_at Nothing = none
-    found_at (At k) = some (version_at s (table_of s ! k))
+    found_at None = none
+    found_at (Some k) = some (version_at s (table_of s ! k))
 
     pub open_is : (k : ℕ) (v : Version) → k < 128 → slot P k ≡ some v → eqb (known ! k) 0 ≡ not (is_listed rows v)
     open_is k v h e =
@@ -116,12 +116,12 @@ module _ (known : List ℕ) (rows : List Row) (stands : Stands known rows) where
     first-free (suc n) k h = go (ltb (table_of s ! k) (length s)) refl (first-free n (k + 1) (omega arith))
       where
         go : (b : Bool) → ltb (table_of s ! k) (length s) ≡ b → first_of (is_free P rows) (slots P n (k + 1)) ≡ found_at (first_place (free_at s known) n (k + 1))
-            → first_of (is_free P rows) (slots P (suc n) k) ≡ found_at (cond (free_at s known k) (At k) (first_place (free_at s known) n (k + 1)))
+            → first_of (is_free P rows) (slots P (suc n) k) ≡ found_at (cond (free_at s known k) (Some k) (first_place (free_at s known) n (k + 1)))
         go true e ih =
             let l = ltb-true (table_of s ! k) (length s) e in
             rw (slots-there P n k _ (slot-there s k (omega arith) l), free-is k (omega arith) l) (pick (is_free P rows (version_at s (table_of s ! k))) ih)
           where
-            pick : (b : Bool) → first_of (is_free P rows) (slots P n (k + 1)) ≡ found_at (first_place (free_at s known) n (k + 1)) → cond b (some (version_at s (table_of s ! k))) (first_of (is_free P rows) (slots P n (k + 1))) ≡ found_at (cond b (At k) (first_place (free_at s known) n (k + 1)))
+            pick : (b : Bool) → first_of (is_free P rows) (slots P n (k + 1)) ≡ found_at (first_place (free_at s known) n (k + 1)) → cond b (some (version_at s (table_of s ! k))) (first_of (is_free P rows) (slots P n (k + 1))) ≡ found_at (cond b (Some k) (first_place (free_at s known) n (k + 1)))
             pick true q = refl
             pick false q = q
         go false e ih =

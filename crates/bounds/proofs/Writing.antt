@@ -1,4 +1,5 @@
 -- Where counts begin and go on, the first that is free, and the rows as they are written: what a turn of each loop does.
+use Rattle.std.specs.Prelude.{None, Some}
 use mathlib.Core.Path.{◌≡◌, refl, sym, ap, ◌∙◌, subst}
 use mathlib.Core.List.{List, [], ◌∷◌}
 use mathlib.Core.Bool.{Bool, true, false}
@@ -10,7 +11,6 @@ use lib.Seq.{get_or-set_same, get_or-set_other}
 use lib.Dec.{eqb}
 use borrow.Author.Tests.{eqb-true, eqb-false, lt-ltb, le-ltb, ltb-true}
 use Rattle.layout.specs.Records.{◌!◌, size_at}
-use Rattle.layout.specs.declared.Found.TheVariants.{Nothing, At}
 use Rattle.layout.proofs.Bools.{and-on, and-off, and_both}
 use Rattle.program.specs.Places.{view_at, version_at, table_of, is_line}
 use Rattle.program.proofs.Views.{view-end, at-line, is-lined}
@@ -70,7 +70,7 @@ module _ (s known : List ℕ) (k : ℕ) {t : ℕ} (tabled : t ≡ table_of s ! k
 -- ---- the first that is free
 
 module _ (p : ℕ → Bool) (k : ℕ) (h : k < 128) where
-  pub first-here : p k ≡ true → first_place p (128 - k) k ≡ At k
+  pub first-here : p k ≡ true → first_place p (128 - k) k ≡ Some k
   unfolding first_place
   first-here e = let z : 128 - k ≡ suc (128 - (k + 1)) = omega arith in rw (z, e) refl
 
@@ -78,7 +78,7 @@ module _ (p : ℕ → Bool) (k : ℕ) (h : k < 128) where
   unfolding first_place
   first-later e = let z : 128 - k ≡ suc (128 - (k + 1)) = omega arith in rw (z, e) refl
 
-pub first-none : (p : ℕ → Bool) (k : ℕ) → 128 ≤ k → first_place p (128 - k) k ≡ Nothing
+pub first-none : (p : ℕ → Bool) (k : ℕ) → 128 ≤ k → first_place p (128 - k) k ≡ None
 unfolding first_place
 first-none p k h = let z : 128 - k ≡ 0 = omega arith in rw z refl
 
@@ -133,7 +133,7 @@ module _ (s known places sums : List ℕ) (ready : Ready s known places sums) (k
   pub free-no : r.whole ≡ false → free_at s known k ≡ false
   free-no e = free-now ∙ e
 
-  pub worth-now : r.whole ≡ true → Worth s known (set sums k r.steps) (At k)
+  pub worth-now : r.whole ≡ true → Worth s known (set sums k r.steps) (Some k)
   unfolding Worth steps_ahead lines_in steps_in
   worth-now e =
       let o = goes.whole e in

@@ -1,10 +1,9 @@
 -- What the code has in hand: of each version a number, and how far its steps are counted.
-use Rattle.std.specs.Prelude.{◌≡◌, List, [], ◌∷◌, ◌++◌, Bool, true, cond, not, ℕ, zero, suc, ◌+◌, ◌-◌, ◌*◌, ◌/◌, ◌%◌, ◌≤◌, ◌<◌, length, eqb, ltb}
+use Rattle.std.specs.Prelude.{◌≡◌, List, [], ◌∷◌, ◌++◌, Bool, true, cond, not, ℕ, zero, suc, ◌+◌, ◌-◌, ◌*◌, ◌/◌, ◌%◌, ◌≤◌, ◌<◌, length, eqb, ltb, None, Some}
+use Rattle.layout.specs.Found.{Found}
 use Rattle.layout.specs.Bounds.{FUNCTIONS, VERSIONS}
 use Rattle.layout.specs.Records.{◌!◌}
 use Rattle.layout.specs.Tests.{◌and◌, all}
-use Rattle.layout.specs.declared.Found.{Found}
-use Rattle.layout.specs.declared.Found.TheVariants.{Nothing, At}
 use Rattle.program.specs.Places.{table_of, version_at, view_at}
 use Rattle.program.specs.Program.{Instr, Line, Version, Program, View}
 use Rattle.machine.specs.Begin.{program_of}
@@ -84,8 +83,8 @@ pub record Goes (s known : List ℕ) (v p n : ℕ) (r : Count) : Type 0 where
 
 -- the first of n places from k on that passes
 unfoldable pub first_place : (ℕ → Bool) → ℕ → ℕ → Found
-first_place p zero k = Nothing
-first_place p (suc n) k = cond (p k) (At k) (first_place p n (k + 1))
+first_place p zero k = None
+first_place p (suc n) k = cond (p k) (Some k) (first_place p n (k + 1))
 
 -- a version stands at the place k and is not listed
 unfoldable pub open_at : List ℕ → List ℕ → ℕ → Bool
@@ -108,8 +107,8 @@ pub record Begins (s places : List ℕ) (n : ℕ) : Type 0 where
 
 -- the first that is free is counted to its end
 unfoldable pub Worth : List ℕ → List ℕ → List ℕ → Found → Type 0
-Worth s known sums Nothing = Unit {0}
-Worth s known sums (At k) = (k < FUNCTIONS * VERSIONS) × (free_at s known k ≡ true) × (sums ! k ≡ cap (steps_of (program_of s) (below (kept known)) (version_at s (table_of s ! k))))
+Worth s known sums None = Unit {0}
+Worth s known sums (Some k) = (k < FUNCTIONS * VERSIONS) × (free_at s known k ≡ true) × (sums ! k ≡ cap (steps_of (program_of s) (below (kept known)) (version_at s (table_of s ! k))))
 
 -- ---- the numbers of a list of rows
 

@@ -9,7 +9,7 @@ ghost use Rattle.bounds.specs.Counts.{Goes, kept, kept_at, most};
 ghost use Rattle.bounds.specs.Sums.{cap};
 
 use crate::{Count, LIMIT, signatures};
-use layout::{Found, bounds, kinds};
+use layout::{bounds, kinds};
 use program::lookup;
 
 /// The sum of two numbers of steps, or `LIMIT` where it is more.
@@ -54,7 +54,7 @@ fn called(image: &[u8], table: &[usize; 128], known: &[u64; 128], at: usize) -> 
 {
     let f = layout::field(image, at, 1);
     let w = layout::field(image, at, 2);
-    let Found::At(_) = lookup::listed(image, table, f, w) else {
+    let Some(_) = lookup::listed(image, table, f, w) else {
         return 1;
     };
     let n = kept(known, f, w);
@@ -74,7 +74,7 @@ fn dispatched(image: &[u8], table: &[usize; 128], known: &[u64; 128], own: usize
     let mut w: usize = 0;
     while w < bounds::VERSIONS {
         match lookup::listed(image, table, f, w) {
-            Found::At(v) => {
+            Some(v) => {
                 if signatures::allows(image, own, at, v) {
                     let n = kept(known, f, w);
                     if n == 0 {
@@ -86,7 +86,7 @@ fn dispatched(image: &[u8], table: &[usize; 128], known: &[u64; 128], own: usize
                     w += 1;
                 }
             }
-            Found::Nothing => w += 1,
+            None => w += 1,
         }
     }
     greatest

@@ -7,7 +7,6 @@ ghost use Rattle.bounds.specs.Counts.{Begin, Begins, Ready, Stands, Worth, first
 ghost use Rattle.bounds.specs.Rows.{numbers_after, rest_from, steps_after};
 
 use crate::{NONE, counts};
-use layout::Found;
 use program::lookup;
 
 /// Where the blocks of the version at `v` begin: behind its record and its level.
@@ -57,7 +56,7 @@ fn next_free(
     known: &[u64; 128],
     places: &mut [usize; 128],
     sums: &mut [u64; 128],
-) -> Found
+) -> Option<usize>
     requires table_value { table.now ≡ table_of image.now }
     requires ready { Ready image.now known.now places.old sums.old }
     ensures { (result ≡ first_place (free_at image.now known.now) 128 0) × Ready image.now known.now places.new sums.new
@@ -70,14 +69,14 @@ fn next_free(
             places[k] = c.at;
             sums[k] = c.steps;
             if c.whole {
-                return Found::At(k);
+                return Some(k);
             }
             k += 1;
         } else {
             k += 1;
         }
     }
-    Found::Nothing
+    None
 }
 
 /// Writes the row `row`: the version at the place `k` of the table, with its steps.
@@ -107,7 +106,7 @@ fn list_bounded(
     let mut sums = [0u64; 128];
     let mut row: usize = 0;
     while row < layout::bounds::ALL_VERSIONS {
-        let Found::At(k) = next_free(image, table, known, &mut places, &mut sums) else {
+        let Some(k) = next_free(image, table, known, &mut places, &mut sums) else {
             return row;
         };
         let n = sums[k];

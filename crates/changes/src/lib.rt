@@ -12,7 +12,7 @@ ghost use Rattle.changes.specs.Owners.{live_calls, owned_by};
 ghost use Rattle.changes.specs.Parts.{end_at, part_at};
 
 use checker::{Verdict, questions};
-use layout::{Found, kinds};
+use layout::kinds;
 use machine::Changed;
 use program::{Here, lookup, pass};
 
@@ -85,10 +85,10 @@ fn same_in(
     requires { (before.now ≡ table_of old.now) × (after.now ≡ table_of new.now) }
     ensures { result ≡ same_in old.now new.now f w }
 {
-    let Found::At(p) = lookup::listed(old, before, f, w) else {
+    let Some(p) = lookup::listed(old, before, f, w) else {
         return false;
     };
-    let Found::At(q) = lookup::listed(new, after, f, w) else {
+    let Some(q) = lookup::listed(new, after, f, w) else {
         return false;
     };
     same_version(old, p, new, q)
@@ -161,7 +161,7 @@ fn question_15(
     new: &[u8],
     after: &[usize; 128],
     bytes: &[u8; 2632],
-) -> Found
+) -> Option<usize>
     requires { (before.now ≡ table_of old.now) × (after.now ≡ table_of new.now) }
     ensures { result ≡ first (question15 old.now new.now (owned_by bytes.now)) (program_of new.now) }
 {
@@ -173,16 +173,16 @@ fn question_15(
     while p < new.len() {
         let n = layout::size_at(new, p);
         if n == 0 {
-            return Found::Nothing;
+            return None;
         }
         here = pass::moved(new, here, p);
         if kept_at(old, before, new, after, bytes, here, p) {
             p += n;
         } else {
-            return Found::At(p);
+            return Some(p);
         }
     }
-    Found::Nothing
+    None
 }
 
 /// Is the version of each live call one of the new image?
@@ -195,7 +195,7 @@ fn all_there(new: &[u8], after: &[usize; 128], bytes: &[u8; 2632]) -> bool
     while k < live {
         let function = layout::byte(bytes, 32 * k + FUNCTION);
         let version = layout::byte(bytes, 32 * k + VERSION);
-        let Found::At(_) = lookup::listed(new, after, function, version) else {
+        let Some(_) = lookup::listed(new, after, function, version) else {
             return false;
         };
         k += 1;
@@ -204,18 +204,18 @@ fn all_there(new: &[u8], after: &[usize; 128], bytes: &[u8; 2632]) -> bool
 }
 
 /// 15: the new image's first version with a live frame that differs, or the image's length where none does and one is missing.
-fn answer_15(old: &[u8], new: &[u8], bytes: &[u8; 2632]) -> Found
+fn answer_15(old: &[u8], new: &[u8], bytes: &[u8; 2632]) -> Option<usize>
     ensures { result ≡ answer15 old.now new.now (owned_by bytes.now) }
 {
     let before = lookup::versions(old);
     let after = lookup::versions(new);
-    if let Found::At(p) = question_15(old, &before, new, &after, bytes) {
-        return Found::At(p);
+    if let Some(p) = question_15(old, &before, new, &after, bytes) {
+        return Some(p);
     }
     if all_there(new, &after, bytes) {
-        Found::Nothing
+        None
     } else {
-        Found::At(new.len())
+        Some(new.len())
     }
 }
 
@@ -227,8 +227,8 @@ pub fn change(old: &[u8], new: &[u8], bytes: &[u8; 2632]) -> Changed
     match questions::verdict(new) {
         Verdict::Refused(q, p) => Changed::Refused(q, p as u16),
         Verdict::Accepted(_) => match answer_15(old, new, bytes) {
-            Found::Nothing => Changed::Taken,
-            Found::At(p) => Changed::Refused(15, p as u16),
+            None => Changed::Taken,
+            Some(p) => Changed::Refused(15, p as u16),
         },
     }
 }

@@ -1,4 +1,5 @@
 -- What an accepted image gives: each question's fact, for its records and for every version, block and instruction that is looked up.
+use Rattle.std.specs.Prelude.{None}
 use mathlib.Core.Path.{◌≡◌, ap, ◌∙◌}
 use mathlib.Core.List.{List}
 use mathlib.Core.Option.{some}
@@ -7,7 +8,6 @@ use lib.ListN.{length}
 use Rattle.layout.specs.Records.{records}
 use Rattle.layout.specs.Questions.{question1, question2, question3, question4, question5}
 use Rattle.layout.specs.declared.Form.{Form}
-use Rattle.layout.specs.declared.Found.TheVariants.{Nothing}
 use Rattle.program.specs.Program.{Version, program, find_version}
 use Rattle.program.specs.Search.{first}
 use Rattle.program.specs.Questions.{question7}
@@ -26,18 +26,18 @@ use Rattle.checker.proofs.Asks.{asked, ask-yes}
 
 -- what the questions found of the image s of a form, whose program has k versions
 pub record Passed (form : Form) (s : List ℕ) (k : ℕ) : Type 0 where
-  pub q1 : question1 s ≡ Nothing
-  pub q2 : question2 (records s) ≡ Nothing
-  pub q3 : question3 form (records s) ≡ Nothing
-  pub q4 : question4 (length s) (records s) ≡ Nothing
-  pub q5 : question5 (records s) ≡ Nothing
-  pub q6 : first question6 (program (records s)) ≡ Nothing
-  pub q7 : first (question7 (program (records s))) (program (records s)) ≡ Nothing
-  pub q14 : question14 (records s) ≡ Nothing
-  pub q8 : first (question8 (program (records s))) (program (records s)) ≡ Nothing
-  pub q18 : first (question18 (program (records s))) (program (records s)) ≡ Nothing
-  pub q9 : first (question9 (program (records s))) (program (records s)) ≡ Nothing
-  pub q10 : first (question10 (program (records s))) (program (records s)) ≡ Nothing
+  pub q1 : question1 s ≡ None
+  pub q2 : question2 (records s) ≡ None
+  pub q3 : question3 form (records s) ≡ None
+  pub q4 : question4 (length s) (records s) ≡ None
+  pub q5 : question5 (records s) ≡ None
+  pub q6 : first question6 (program (records s)) ≡ None
+  pub q7 : first (question7 (program (records s))) (program (records s)) ≡ None
+  pub q14 : question14 (records s) ≡ None
+  pub q8 : first (question8 (program (records s))) (program (records s)) ≡ None
+  pub q18 : first (question18 (program (records s))) (program (records s)) ≡ None
+  pub q9 : first (question9 (program (records s))) (program (records s)) ≡ None
+  pub q10 : first (question10 (program (records s))) (program (records s)) ≡ None
   pub count : length (program (records s)) ≡ k
 
 -- the number that an answer carries behind its case

@@ -1,5 +1,7 @@
 -- The verdict, question by question, and the versions that it counts.
+use Rattle.std.specs.Prelude.{None, Some}
 use mathlib.Core.Path.{◌≡◌, refl}
+use Rattle.layout.specs.Found.{Found}
 use mathlib.Core.List.{List}
 use mathlib.Core.Bool.{Bool, true, false, cond}
 use Prim.Native.Nat.{ℕ, ◌+◌, ◌≤◌}
@@ -13,8 +15,6 @@ use Rattle.layout.specs.Questions.{question1}
 use Rattle.layout.proofs.Bools.{and_both}
 use Rattle.layout.specs.Kinds as kind
 use Rattle.layout.specs.declared.Form.{Form}
-use Rattle.layout.specs.declared.Found.{Found}
-use Rattle.layout.specs.declared.Found.TheVariants.{Nothing, At}
 use Rattle.program.specs.Program.{nowhere}
 use Rattle.program.specs.Places.{view_at}
 use Rattle.program.proofs.Views.{Whole, at-version, at_block, at-line}
@@ -23,11 +23,11 @@ use Rattle.checker.specs.declared.Verdict.{Verdict}
 use Rattle.checker.specs.declared.Verdict.TheVariants.{Accepted, Refused}
 
 -- a question that says yes, and one that says no
-pub ask-yes : (n : ℕ) {x : Found} (more : Verdict) → x ≡ Nothing → ask n x more ≡ more
+pub ask-yes : (n : ℕ) {x : Found} (more : Verdict) → x ≡ None → ask n x more ≡ more
 unfolding ask
 ask-yes n more e = rw e
 
-pub ask-no : (n : ℕ) {p : ℕ} {x : Found} (more : Verdict) → x ≡ At p → ask n x more ≡ Refused n p
+pub ask-no : (n : ℕ) {p : ℕ} {x : Found} (more : Verdict) → x ≡ Some p → ask n x more ≡ Refused n p
 unfolding ask
 ask-no n more e = rw e
 
@@ -47,15 +47,15 @@ module _ {s : List ℕ} {p n k : ℕ} (m : Whole s p n k) where
       go false e = rw (at-line m x (eqb-false k kind.BLOCK e))
 
 -- an accepted image is no longer than the bound
-pub asked : (n : ℕ) (x : Found) (more : Verdict) (k : ℕ) → ask n x more ≡ Accepted k → (x ≡ Nothing) × (more ≡ Accepted k)
+pub asked : (n : ℕ) (x : Found) (more : Verdict) (k : ℕ) → ask n x more ≡ Accepted k → (x ≡ None) × (more ≡ Accepted k)
 unfolding ask
-asked n Nothing more k e = (refl, e)
-asked n (At p) more k e = let z : ◌≡◌ {A = ℕ} 0 1 = cc in absurd (omega arith)
+asked n None more k e = (refl, e)
+asked n (Some p) more k e = let z : ◌≡◌ {A = ℕ} 0 1 = cc in absurd (omega arith)
 
 pub accepted-short : (form : Form) (s : List ℕ) (k : ℕ) → verdict_in form s ≡ Accepted k → length s ≤ IMAGE
 unfolding verdict_in question1
 accepted-short form s k e = go (ltb 0 (length s) and leb (length s) IMAGE) refl (asked 1 _ _ k e).0
   where
-    go : (b : Bool) → (ltb 0 (length s) and leb (length s) IMAGE) ≡ b → cond b Nothing (At 0) ≡ Nothing → length s ≤ IMAGE
+    go : (b : Bool) → (ltb 0 (length s) and leb (length s) IMAGE) ≡ b → cond {A = Found} b None (Some 0) ≡ None → length s ≤ IMAGE
     go true x y = leb-true (length s) IMAGE (and_both _ _ x).1
     go false x y = let z : ◌≡◌ {A = ℕ} 0 1 = cc in absurd (omega arith)

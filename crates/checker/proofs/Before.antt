@@ -1,5 +1,7 @@
 -- Filling a register again (02, 9): an image that was accepted before is accepted, and `check` prints the same of it.
+use Rattle.std.specs.Prelude.{None}
 use mathlib.Core.Path.{◌≡◌, refl, sym, ap, ap₂, ◌∙◌}
+use Rattle.layout.specs.Found.{Found}
 use mathlib.Core.List.{List, [], ◌∷◌, ◌++◌, flat_map}
 use mathlib.Core.Option.{Option, none, some, Option-elim}
 use mathlib.Core.Bool.{Bool, true, false, true≢false}
@@ -9,8 +11,6 @@ use Rattle.layout.specs.Records.{records}
 use Rattle.layout.specs.Tests.{found}
 use Rattle.layout.specs.Questions.{question1, question2, question3, question4, question5}
 use Rattle.layout.specs.declared.Form.{Form}
-use Rattle.layout.specs.declared.Found.{Found}
-use Rattle.layout.specs.declared.Found.TheVariants.{Nothing}
 use Rattle.sets.specs.Sets.{size, below}
 use Rattle.program.specs.Program.{Line, Block, Version, Program, program}
 use Rattle.program.specs.Search.{Question, first, first_block, first_line, free}
@@ -46,14 +46,14 @@ module _ (t : Version → Bool) (v : Version) where
   blocks-pass n (b ∷ bs) more = lines-pass n b.code (first_block (of_versions t) v (n + 1) bs more) ∙ blocks-pass (n + 1) bs more
 
 -- where it finds nothing, it holds of the first version and finds nothing among the others
-first_passes : (t : Version → Bool) (v : Version) (vs : Program) → first (of_versions t) (v ∷ vs) ≡ Nothing → (t v ≡ true) × (first (of_versions t) vs ≡ Nothing)
+first_passes : (t : Version → Bool) (v : Version) (vs : Program) → first (of_versions t) (v ∷ vs) ≡ None → (t v ≡ true) × (first (of_versions t) vs ≡ None)
 unfolding first
 first_passes t v vs e =
     let p = passed (t v) (first_block (of_versions t) v 0 v.blocks (first (of_versions t) vs)) v.at e in
     (p.0, sym (blocks-pass t v 0 v.blocks (first (of_versions t) vs)) ∙ p.1)
 
 module _ (P : Program) where
-  still-nothing : (vs : Program) → first (question10₀ P) vs ≡ Nothing → first (question10 P) vs ≡ Nothing
+  still-nothing : (vs : Program) → first (question10₀ P) vs ≡ None → first (question10 P) vs ≡ None
   unfolding first
   still-nothing [] e = refl
   still-nothing (v ∷ vs) e =
@@ -68,7 +68,7 @@ module _ (P : Program) where
       go none e q = absurd (true≢false (sym q))
       go (some a) e q = rw (e, still-does P v a e) refl
 
-  same_lines : (vs : Program) → first (question10₀ P) vs ≡ Nothing → flat_map (λ (v : Version). line_text v.function v.version (counts₀ P v)) vs ≡ version_lines P vs
+  same_lines : (vs : Program) → first (question10₀ P) vs ≡ None → flat_map (λ (v : Version). line_text v.function v.version (counts₀ P v)) vs ≡ version_lines P vs
   unfolding version_line flat_map
   same_lines [] e = refl
   same_lines (v ∷ vs) e =
@@ -87,7 +87,7 @@ still-accepted form s k =
     (λ e. let P = program (records s) in let a = asked 10 _ _ k e in ask-yes 10 (Accepted (length P)) (still-nothing P P a.0) ∙ a.1)))))))))))
 
 -- question 10 found nothing in such an image
-ended : (form : Form) (s : List ℕ) (k : ℕ) → verdict₀ form s ≡ Accepted k → first (question10₀ (program (records s))) (program (records s)) ≡ Nothing
+ended : (form : Form) (s : List ℕ) (k : ℕ) → verdict₀ form s ≡ Accepted k → first (question10₀ (program (records s))) (program (records s)) ≡ None
 unfolding verdict₀
 ended form s k e =
     let e1 = asked 1 _ _ k e in

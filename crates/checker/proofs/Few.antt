@@ -1,4 +1,5 @@
 -- What is few: registers in the sets of an action, and versions of an image that question 4 passed.
+use Rattle.std.specs.Prelude.{None}
 use mathlib.Core.Path.{◌≡◌, refl, ap}
 use mathlib.Core.List.{List, [], ◌∷◌, map}
 use mathlib.Core.Option.{Option, none, some}
@@ -15,7 +16,6 @@ use Rattle.layout.specs.Scan.{scan}
 use Rattle.layout.specs.Questions.{question4, placed, in_order, due_after, none_due}
 use Rattle.layout.specs.Tests.{◌and◌}
 use Rattle.layout.specs.declared.Due.{Due}
-use Rattle.layout.specs.declared.Found.TheVariants.{Nothing}
 use Rattle.layout.proofs.Bools.{and_both}
 use Rattle.layout.proofs.Lists.{Each}
 use Rattle.layout.proofs.Rows.{Rows, choose-each}
@@ -200,12 +200,12 @@ due-next : (d : Due) (r : Rec) → eqb r.kind kind.VERSION ≡ true → in_order
 unfolding due_after in_order choose
 due-next d r e h = (rw e refl, ltb-true _ _ (and_both _ _ (rw e at h)).0)
 
-few-due : (end : ℕ) (d : Due) (rs : List Rec) → d.versions ≤ ALL-VERSIONS → scan placed due_after (none_due end) d rs ≡ Nothing → d.versions + length (program rs) ≤ ALL-VERSIONS
+few-due : (end : ℕ) (d : Due) (rs : List Rec) → d.versions ≤ ALL-VERSIONS → scan placed due_after (none_due end) d rs ≡ None → d.versions + length (program rs) ≤ ALL-VERSIONS
 unfolding scan
 few-due end d [] h e = omega (arith, ap length no-versions)
 few-due end d (r ∷ rs) h e = go (eqb r.kind kind.VERSION) refl (λ l. few-due end (due_after d r) rs l p.1)
   where
-    p : ((ltb 0 r.size and placed d r) ≡ true) × (scan placed due_after (none_due end) (due_after d r) rs ≡ Nothing)
+    p : ((ltb 0 r.size and placed d r) ≡ true) × (scan placed due_after (none_due end) (due_after d r) rs ≡ None)
     p = passed _ _ _ e
 
     whole : 0 < r.size
@@ -226,6 +226,6 @@ few-due end d (r ∷ rs) h e = go (eqb r.kind kind.VERSION) refl (λ l. few-due 
         omega (arith, t, ap length (program-other r rs whole ev), ih (omega (arith, t, h)))
 
 -- THE LAW: at most 64
-pub few-versions : (end : ℕ) (rs : List Rec) → question4 end rs ≡ Nothing → length (program rs) ≤ ALL-VERSIONS
+pub few-versions : (end : ℕ) (rs : List Rec) → question4 end rs ≡ None → length (program rs) ≤ ALL-VERSIONS
 unfolding question4
 few-versions end rs e = omega (arith, few-due end _ rs (omega arith) e)

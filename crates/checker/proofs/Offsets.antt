@@ -1,5 +1,7 @@
 -- The offset of a refusal lies within the image that question 1 allows.
+use Rattle.std.specs.Prelude.{None, Some}
 use mathlib.Core.Path.{◌≡◌, refl, sym, ◌∙◌}
+use Rattle.layout.specs.Found.{Found}
 use mathlib.Core.Option.{none}
 use mathlib.Core.List.{List, [], ◌∷◌}
 use mathlib.Core.Bool.{Bool, true, false, cond}
@@ -16,8 +18,6 @@ use Rattle.layout.specs.Scan.{scan}
 use Rattle.layout.specs.Questions.{question1, question2, question3, question4, question5, whole, fitting, same, nothing, placed, due_after, none_due, start, following, last_version}
 use Rattle.layout.specs.declared.Due.{Due}
 use Rattle.layout.specs.declared.Form.{Form}
-use Rattle.layout.specs.declared.Found.{Found}
-use Rattle.layout.specs.declared.Found.TheVariants.{Nothing, At}
 use Rattle.layout.proofs.Bools.{and_both}
 use Rattle.layout.proofs.Walk.{size_room}
 use Rattle.program.specs.Program.{Line, Block, Version, Program, View, nowhere, level_of, line_of, block_of, version_of, put, put_by, view, view_by, program}
@@ -34,8 +34,8 @@ use Rattle.checker.specs.declared.Verdict.TheVariants.{Accepted, Refused}
 
 -- the offset that is found is at most n
 unfoldable Within : ℕ → Found → Type 0
-Within n Nothing = Unit {0}
-Within n (At p) = p ≤ n
+Within n None = Unit {0}
+Within n (Some p) = p ≤ n
 
 -- by a test
 within-either : (n : ℕ) (b : Bool) (x y : Found) → Within n x → Within n y → Within n (cond b x y)
@@ -74,11 +74,11 @@ records-in s = each_more (0 + length s) (length s) (walk (length s - 0) 0 s) (om
 scan-in : {S : Type 0} (ok : S → Rec → Bool) (next : S → Rec → S) (end : S → Found) (n : ℕ) → ((st : S) → Within n (end st)) → (rs : List Rec) → Each (RecIn n) rs → (st : S) → Within n (scan ok next end st rs)
 unfolding scan Each Within
 scan-in ok next end n last [] e st = last st
-scan-in ok next end n last (r ∷ rs) e st = within-either n (ltb 0 r.size and ok st r) _ (At r.at) (scan-in ok next end n last rs e.1 (next st r)) e.0
+scan-in ok next end n last (r ∷ rs) e st = within-either n (ltb 0 r.size and ok st r) _ (Some r.at) (scan-in ok next end n last rs e.1 (next st r)) e.0
 
 in-1 : (s : List ℕ) → Within (length s) (question1 s)
 unfolding question1 Within
-in-1 s = within-either (length s) (ltb 0 (length s) and leb (length s) IMAGE) Nothing (At 0) tt (omega arith)
+in-1 s = within-either (length s) (ltb 0 (length s) and leb (length s) IMAGE) None (Some 0) tt (omega arith)
 
 module _ (n : ℕ) (rs : List Rec) (e : Each (RecIn n) rs) where
   in-2 : Within n (question2 rs)
@@ -91,7 +91,7 @@ module _ (n : ℕ) (rs : List Rec) (e : Each (RecIn n) rs) where
 
   in-4 : Within n (question4 n rs)
   unfolding question4 none_due Within
-  in-4 = scan-in placed due_after (none_due n) n (λ (d : Due). within-either n (eqb d.levels 0 and eqb d.blocks 0 and eqb d.instructions 0) Nothing (At n) tt (omega arith)) rs e start
+  in-4 = scan-in placed due_after (none_due n) n (λ (d : Due). within-either n (eqb d.levels 0 and eqb d.blocks 0 and eqb d.instructions 0) None (Some n) tt (omega arith)) rs e start
 
   in-5 : Within n (question5 rs)
   unfolding question5 Within
@@ -142,20 +142,20 @@ view_in n (r ∷ rs) e = go (eqb r.size 0) (put_in n r (view rs) e.0 (view_in n 
 line-in : (q : Question) (v : Version) (k n : ℕ) (ls : List Line) (more : Found) → Each (LineIn n) ls → Within n more → Within n (first_line q v k ls more)
 unfolding first_line Each Within
 line-in q v k n [] more e h = h
-line-in q v k n (l ∷ ls) more e h = within-either n (q.of_instr v k l.does) _ (At l.at) (line-in q v k n ls more e.1 h) e.0
+line-in q v k n (l ∷ ls) more e h = within-either n (q.of_instr v k l.does) _ (Some l.at) (line-in q v k n ls more e.1 h) e.0
 
 block_in : (q : Question) (v : Version) (k n : ℕ) (bs : List Block) (more : Found) → Each (BlockIn n) bs → Within n more → Within n (first_block q v k bs more)
 unfolding first_block Each Within
 block_in q v k n [] more e h = h
-block_in q v k n (b ∷ bs) more e h = within-either n (q.of_block v k b) _ (At b.at) (line-in q v k n b.code _ e.0.1 (block_in q v (k + 1) n bs more e.1 h)) e.0.0
+block_in q v k n (b ∷ bs) more e h = within-either n (q.of_block v k b) _ (Some b.at) (line-in q v k n b.code _ e.0.1 (block_in q v (k + 1) n bs more e.1 h)) e.0.0
 
 first-in : (q : Question) (n : ℕ) (vs : Program) → Each (VersionIn n) vs → Within n (first q vs)
 unfolding first Each Within
 first-in q n [] e = tt
-first-in q n (v ∷ vs) e = within-either n (q.of_version v) _ (At v.at) (block_in q v 0 n v.blocks _ e.0.1 (first-in q n vs e.1)) e.0.0
+first-in q n (v ∷ vs) e = within-either n (q.of_version v) _ (Some v.at) (block_in q v 0 n v.blocks _ e.0.1 (first-in q n vs e.1)) e.0.0
 
 -- the first record of an image that fails a question to its program stands within the image
-pub first-low : (q : Question) (s : List ℕ) (p : ℕ) → first q (program (records s)) ≡ At p → p ≤ length s
+pub first-low : (q : Question) (s : List ℕ) (p : ℕ) → first q (program (records s)) ≡ Some p → p ≤ length s
 unfolding Within
 first-low q s p e = let h : Within (length s) (first q (program (records s))) = first-in q (length s) (program (records s)) (view_in (length s) (records s) (records-in s)).versions in rw e at h
 
@@ -168,8 +168,8 @@ Low n (Refused q p) = p ≤ n
 
 ask-low : (n k : ℕ) (x : Found) (more : Verdict) → Within n x → Low n more → Low n (ask k x more)
 unfolding ask Within Low
-ask-low n k Nothing more h e = e
-ask-low n k (At p) more h e = h
+ask-low n k None more h e = e
+ask-low n k (Some p) more h e = h
 
 -- of one question after the other
 verdict-in : (form : Form) (s : List ℕ) → Low (length s) (verdict_in form s)
@@ -202,7 +202,7 @@ refused-low form s q p e = go (ltb 0 (length s) and leb (length s) IMAGE) refl
     go : (b : Bool) → (ltb 0 (length s) and leb (length s) IMAGE) ≡ b → p ≤ IMAGE
     go true t = omega (arith, inside, leb-true (length s) IMAGE (and_both _ _ t).1)
     go false t =
-        let x : question1 s ≡ At 0 = rw t refl in
+        let x : question1 s ≡ Some 0 = rw t refl in
         let y : verdict_in form s ≡ Refused 1 0 = ask-no 1 _ x in
         let z : Refused 1 0 ≡ Refused q p = sym y ∙ e in
         let w : 0 ≡ p = cc in

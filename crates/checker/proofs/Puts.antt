@@ -1,4 +1,5 @@
 -- Pieces put into a buffer one after the other are one piece.
+use Rattle.std.specs.Prelude.{None, Option, Some}
 use mathlib.Core.Path.{◌≡◌, refl, sym, ap, ◌∙◌}
 use mathlib.Core.List.{List, [], ◌∷◌, ◌++◌, append_assoc, append-nil}
 use Prim.Native.Nat.{ℕ, ◌+◌, ◌≤◌, ◌<◌}
@@ -14,9 +15,7 @@ use Rattle.layout.specs.Records.{records}
 use Rattle.layout.specs.declared.Form.{Form}
 use Rattle.program.specs.Program.{Program, program}
 use Rattle.checker.specs.Verdicts.{verdict_in}
-use Rattle.checker.specs.declared.Reported.{Reported}
 use Rattle.checker.specs.declared.Verdict.TheVariants.{Accepted, Refused}
-use Rattle.checker.specs.declared.Reported.TheVariants.{Written, Short}
 use Rattle.checker.specs.declared.Counts.{Counts}
 use Rattle.checker.specs.declared.Counts.TheVariants.{Of}
 use Rattle.checker.proofs.Texts.{spaced-cons, spaced-nil, counts-known, length-count, line-length, one_byte}
@@ -97,11 +96,11 @@ pub writing-as : {t a b x y : List ℕ} {at : ℕ} → a ≡ b → Writing t a x
 writing-as e w = rw e at w
 
 -- a text whose length the code has, put whole or not at all
-pub told-short : (x t : List ℕ) (n : ℕ) → n ≡ length t → length x < n → Told Short x x t
+pub told-short : (x t : List ℕ) (n : ℕ) → n ≡ length t → length x < n → Told None x x t
 unfolding reported_of
 told-short x t n e h = record { says = simp (lt-leb (length t) (length x) (omega arith)); writes = sym (placed_past x 0 t (omega arith)) }
 
-pub told-written : {x y : List ℕ} {b : ℕ} (t : List ℕ) (n : ℕ) → n ≡ length t → n ≤ length x → Put x y 0 b t → Told (Written n) x y t
+pub told-written : {x y : List ℕ} {b : ℕ} (t : List ℕ) (n : ℕ) → n ≡ length t → n ≤ length x → Put x y 0 b t → Told (Some n) x y t
 unfolding reported_of
 told-written {x} t n e h p = record { says = rw e (simp (le-leb (length t) (length x) (omega arith))); writes = p.writes }
 
@@ -138,19 +137,19 @@ accepted-put P n h q r s t =
     (omega (arith, l, one_byte.2, eight-bytes.2, q.ends, r.ends, s.ends, t.ends))
 
 -- the text by its verdict
-pub told-accepted : {r : Reported} {x y : List ℕ} (form : Form) (s : List ℕ) (n : ℕ) → verdict_in form s ≡ Accepted n → Told r x y (answer (program (records s)) (Accepted n)) → Told r x y (report_in form s)
+pub told-accepted : {r : Option ℕ} {x y : List ℕ} (form : Form) (s : List ℕ) (n : ℕ) → verdict_in form s ≡ Accepted n → Told r x y (answer (program (records s)) (Accepted n)) → Told r x y (report_in form s)
 unfolding report_in
 told-accepted form s n e t = rw e t
 
-pub told-refused : {r : Reported} {x y : List ℕ} (form : Form) (s : List ℕ) (n p : ℕ) → verdict_in form s ≡ Refused n p → Told r x y (refusal n p) → Told r x y (report_in form s)
+pub told-refused : {r : Option ℕ} {x y : List ℕ} (form : Form) (s : List ℕ) (n p : ℕ) → verdict_in form s ≡ Refused n p → Told r x y (refusal n p) → Told r x y (report_in form s)
 unfolding report_in answer
 told-refused form s n p e t = rw e t
 
 -- a text that was written fits
-pub written-fits : (t : List ℕ) (places n : ℕ) → reported_of t places ≡ Written n → n ≤ places
+pub written-fits : (t : List ℕ) (places n : ℕ) → reported_of t places ≡ Some n → n ≤ places
 unfolding reported_of
 written-fits t places n e = go (leb (length t) places) refl e
   where
-    go : (b : Bool) → leb (length t) places ≡ b → cond b (Written (length t)) Short ≡ Written n → n ≤ places
+    go : (b : Bool) → leb (length t) places ≡ b → cond b (Some (length t)) None ≡ Some n → n ≤ places
     go true x y = let z : length t ≡ n = cc in omega (arith, leb-true (length t) places x)
     go false x y = let z : ◌≡◌ {A = ℕ} 0 1 = cc in absurd (omega arith)

@@ -1,5 +1,7 @@
 -- How long a report gets: digits, counts, lines, the whole text.
+use Rattle.std.specs.Prelude.{None, Some}
 use mathlib.Core.Path.{◌≡◌, refl}
+use Rattle.layout.specs.Found.{Found}
 use mathlib.Core.List.{List, [], ◌∷◌, flat_map}
 use mathlib.Core.Option.{Option, none, some, Option-elim}
 use mathlib.Core.Bool.{Bool, true, false}
@@ -11,8 +13,6 @@ use borrow.Author.Tests.{ltb-true, ltb-false}
 use Rattle.layout.specs.Bounds.{FUNCTIONS, VERSIONS, LEVELS, ALL-VERSIONS}
 use Rattle.layout.specs.Records.{records}
 use Rattle.layout.specs.declared.Form.{Form}
-use Rattle.layout.specs.declared.Found.{Found}
-use Rattle.layout.specs.declared.Found.TheVariants.{Nothing, At}
 use Rattle.layout.proofs.Bools.{and_both}
 use Rattle.layout.proofs.Lists.{Each, each-get}
 use Rattle.sets.specs.Sets.{Set, size}
@@ -135,8 +135,8 @@ Numbered (Refused q p) = q < 100
 
 ask-numbered : (k : ℕ) (x : Found) (more : Verdict) → k < 100 → Numbered more → Numbered (ask k x more)
 unfolding ask Numbered
-ask-numbered k Nothing more h e = e
-ask-numbered k (At p) more h e = h
+ask-numbered k None more h e = e
+ask-numbered k (Some p) more h e = h
 
 numbered : (form : Form) (s : List ℕ) → Numbered (verdict_in form s)
 unfolding verdict_in Numbered

@@ -1,5 +1,7 @@
 -- The text, piece by piece: its lengths, and its lines as a loop along the records meets them.
+use Rattle.std.specs.Prelude.{None, Some}
 use mathlib.Core.Path.{◌≡◌, refl, ap}
+use Rattle.flow.specs.Masks.{Flowed}
 use mathlib.Core.List.{List, [], ◌∷◌, ◌++◌, flat_map}
 use mathlib.Core.Option.{Option-elim}
 use Prim.Native.Nat.{ℕ, ◌+◌}
@@ -14,8 +16,6 @@ use Rattle.program.proofs.Views.{Whole, at-version}
 use Rattle.rules.specs.Actions.{body_action}
 use Rattle.flow.specs.Masks.{flowed}
 use Rattle.flow.specs.declared.Action.{Action}
-use Rattle.flow.specs.declared.Flowed.{Flowed}
-use Rattle.flow.specs.declared.Flowed.TheVariants.{Allowed, Refused}
 use Rattle.writer.specs.Text.{text, decimal}
 use Rattle.checker.specs.Reports.{counts, counts_of, spaced, line_text, version_line, version_lines}
 use Rattle.checker.specs.declared.Counts.{Counts}
@@ -24,12 +24,12 @@ use Rattle.checker.proofs.Asks.{same_ahead}
 
 -- ---- counts
 
-pub counts-allowed : (P : Program) (v : Version) (f : Flowed) (a : Action) → flowed f ≡ body_action P v → f ≡ Allowed a
+pub counts-allowed : (P : Program) (v : Version) (f : Flowed) (a : Action) → flowed f ≡ body_action P v → f ≡ Some a
     → counts P v ≡ size (set_of 16 a.reads) ∷ size (set_of 16 a.assigns) ∷ size (set_of 16 a.empties) ∷ size (set_of 16 a.captures) ∷ []
 unfolding counts flowed Option-elim
 counts-allowed P v f a e h = rw (← e, h)
 
-pub counts-refused : (P : Program) (v : Version) (f : Flowed) → flowed f ≡ body_action P v → f ≡ Refused → counts P v ≡ []
+pub counts-refused : (P : Program) (v : Version) (f : Flowed) → flowed f ≡ body_action P v → f ≡ None → counts P v ≡ []
 unfolding counts flowed Option-elim
 counts-refused P v f e h = rw (← e, h)
 

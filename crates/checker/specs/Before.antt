@@ -1,11 +1,11 @@
 -- Filling a register again (02, 9): the verdict and the text before, and that an image which was accepted is accepted, with the same text.
 use Rattle.std.specs.Prelude.{◌≡◌, ℕ, length}
+use Rattle.layout.specs.Found.{Found}
 use mathlib.Core.List.{List, [], ◌∷◌, ◌++◌, flat_map}
 use Rattle.std.proofs.Math.Option.{Option-elim}
 use Rattle.layout.specs.Records.{records}
 use Rattle.layout.specs.Questions.{question1, question2, question3, question4, question5}
 use Rattle.layout.specs.declared.Form.{Form}
-use Rattle.layout.specs.declared.Found.{Found}
 use Rattle.sets.specs.Sets.{size}
 use Rattle.program.specs.Program.{Version, Program, program}
 use Rattle.program.specs.Search.{Question, first, free}

@@ -1,7 +1,7 @@
 -- Program: the bytes that `check` prints.
 use mathlib.Core.List.{List, [], ◌∷◌, ◌++◌, flat_map}
 use Rattle.std.proofs.Math.Option.{Option-elim}
-use Rattle.std.specs.Prelude.{cond, ℕ, length, leb, ◌≡◌}
+use Rattle.std.specs.Prelude.{cond, ℕ, length, leb, ◌≡◌, None, Option, Some}
 use Rattle.layout.specs.Records.{records}
 use Rattle.layout.specs.declared.Form.{Form}
 use Rattle.sets.specs.Sets.{size}
@@ -14,8 +14,6 @@ use Rattle.checker.specs.declared.Verdict.TheVariants.{Accepted, Refused}
 use Rattle.checker.specs.declared.Counts.{Counts}
 use Rattle.checker.specs.declared.Counts.TheVariants.{Of, Unknown}
 use Rattle.checker.specs.declared.Line.{Line}
-use Rattle.checker.specs.declared.Reported.{Reported}
-use Rattle.checker.specs.declared.Reported.TheVariants.{Written, Short}
 
 -- the counts of registers in each set of a version's body: R W U C
 unfoldable pub counts : Program → Version → List ℕ
@@ -55,11 +53,11 @@ abbrev pub report_text : List ℕ → List ℕ
 report_text s = report_in Form.Wide s
 
 -- what is said of a text for a buffer of so many places
-unfoldable pub reported_of : List ℕ → ℕ → Reported
-reported_of t places = cond (leb (length t) places) (Written (length t)) Short
+unfoldable pub reported_of : List ℕ → ℕ → Option ℕ
+reported_of t places = cond (leb (length t) places) (Some (length t)) None
 
 -- what is said of a text t and what becomes of the buffer: t stands in it from place 0 on, all else as it was; one that is too short is left as it was
-pub record Told (r : Reported) (before after t : List ℕ) : Type 0 where
+pub record Told (r : Option ℕ) (before after t : List ℕ) : Type 0 where
   pub says : r ≡ reported_of t (length before)
   pub writes : after ≡ placed before 0 t
 

@@ -1,10 +1,9 @@
 -- Questions put to an image: each is put to the whole image before the next.
-use Rattle.std.specs.Prelude.{List, ℕ, length}
+use Rattle.std.specs.Prelude.{List, ℕ, length, None, Some}
+use Rattle.layout.specs.Found.{Found}
 use Rattle.layout.specs.Records.{records}
 use Rattle.layout.specs.Questions.{question1, question2, question3, question4, question5}
 use Rattle.layout.specs.declared.Form.{Form}
-use Rattle.layout.specs.declared.Found.{Found}
-use Rattle.layout.specs.declared.Found.TheVariants.{Nothing, At}
 use Rattle.program.specs.Program.{program}
 use Rattle.program.specs.Search.{first}
 use Rattle.program.specs.Questions.{question7}
@@ -16,8 +15,8 @@ use Rattle.checker.specs.declared.Verdict.TheVariants.{Accepted, Refused}
 
 -- a no gives the question's number and the offset of the first record that fails; else those that follow are put
 unfoldable pub ask : ℕ → Found → Verdict → Verdict
-ask n Nothing more = more
-ask n (At p) more = Refused n p
+ask n None more = more
+ask n (Some p) more = Refused n p
 
 -- the questions in order, 14 after 7 and 18 after 8, each with those from it on; an image that passes them all is accepted, with its number of versions
 abbrev pub from10 : List ℕ → Verdict

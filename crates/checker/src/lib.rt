@@ -11,13 +11,6 @@ pub enum Verdict {
     Refused(u8, usize),
 }
 
-/// What became of a text: it was written, with its length, or the buffer was too short and is as it was.
-#[derive(Clone, Copy)]
-pub enum Reported {
-    Written(usize),
-    Short,
-}
-
 /// The counts of registers in each set of a body, read, assigned, emptied and captured; none where its flow is not allowed.
 #[derive(Clone, Copy)]
 pub enum Counts {

@@ -6,7 +6,7 @@ ghost use Rattle.checker.specs.Verdicts.{from2, from3, from4, from5, from6, from
 
 use crate::Verdict;
 use flow::question10;
-use layout::{Form, Found};
+use layout::Form;
 use program::{question7, question14};
 use typing::{question6, question8, question9, question18};
 
@@ -35,7 +35,7 @@ fn count_versions(image: &[u8]) -> usize
 fn from_10(image: &[u8]) -> Verdict
     ensures { result ≡ from10 image.now }
 {
-    if let Found::At(p) = question10::question_10(image) {
+    if let Some(p) = question10::question_10(image) {
         return Verdict::Refused(10, p);
     }
     Verdict::Accepted(count_versions(image))
@@ -45,7 +45,7 @@ fn from_10(image: &[u8]) -> Verdict
 fn from_9(image: &[u8]) -> Verdict
     ensures { result ≡ from9 image.now }
 {
-    if let Found::At(p) = question9::question_9(image) {
+    if let Some(p) = question9::question_9(image) {
         return Verdict::Refused(9, p);
     }
     from_10(image)
@@ -55,7 +55,7 @@ fn from_9(image: &[u8]) -> Verdict
 fn from_18(image: &[u8]) -> Verdict
     ensures { result ≡ from18 image.now }
 {
-    if let Found::At(p) = question18::question_18(image) {
+    if let Some(p) = question18::question_18(image) {
         return Verdict::Refused(18, p);
     }
     from_9(image)
@@ -65,7 +65,7 @@ fn from_18(image: &[u8]) -> Verdict
 fn from_8(image: &[u8]) -> Verdict
     ensures { result ≡ from8 image.now }
 {
-    if let Found::At(p) = question8::question_8(image) {
+    if let Some(p) = question8::question_8(image) {
         return Verdict::Refused(8, p);
     }
     from_18(image)
@@ -75,7 +75,7 @@ fn from_8(image: &[u8]) -> Verdict
 fn from_14(image: &[u8]) -> Verdict
     ensures { result ≡ from14 image.now }
 {
-    if let Found::At(p) = question14::question_14(image) {
+    if let Some(p) = question14::question_14(image) {
         return Verdict::Refused(14, p);
     }
     from_8(image)
@@ -85,7 +85,7 @@ fn from_14(image: &[u8]) -> Verdict
 fn from_7(image: &[u8]) -> Verdict
     ensures { result ≡ from7 image.now }
 {
-    if let Found::At(p) = question7::question_7(image) {
+    if let Some(p) = question7::question_7(image) {
         return Verdict::Refused(7, p);
     }
     from_14(image)
@@ -95,7 +95,7 @@ fn from_7(image: &[u8]) -> Verdict
 fn from_6(image: &[u8]) -> Verdict
     ensures { result ≡ from6 image.now }
 {
-    if let Found::At(p) = question6::question_6(image) {
+    if let Some(p) = question6::question_6(image) {
         return Verdict::Refused(6, p);
     }
     from_7(image)
@@ -105,7 +105,7 @@ fn from_6(image: &[u8]) -> Verdict
 fn from_5(image: &[u8]) -> Verdict
     ensures { result ≡ from5 image.now }
 {
-    if let Found::At(p) = layout::question_5(image) {
+    if let Some(p) = layout::question_5(image) {
         return Verdict::Refused(5, p);
     }
     from_6(image)
@@ -115,7 +115,7 @@ fn from_5(image: &[u8]) -> Verdict
 fn from_4(image: &[u8]) -> Verdict
     ensures { result ≡ from4 image.now }
 {
-    if let Found::At(p) = layout::question_4(image) {
+    if let Some(p) = layout::question_4(image) {
         return Verdict::Refused(4, p);
     }
     from_5(image)
@@ -125,7 +125,7 @@ fn from_4(image: &[u8]) -> Verdict
 fn from_3(image: &[u8], form: Form) -> Verdict
     ensures { result ≡ from3 form image.now }
 {
-    if let Found::At(p) = layout::question_3(image, form) {
+    if let Some(p) = layout::question_3(image, form) {
         return Verdict::Refused(3, p);
     }
     from_4(image)
@@ -135,7 +135,7 @@ fn from_3(image: &[u8], form: Form) -> Verdict
 fn from_2(image: &[u8], form: Form) -> Verdict
     ensures { result ≡ from2 form image.now }
 {
-    if let Found::At(p) = layout::question_2(image) {
+    if let Some(p) = layout::question_2(image) {
         return Verdict::Refused(2, p);
     }
     from_3(image, form)
@@ -145,7 +145,7 @@ fn from_2(image: &[u8], form: Form) -> Verdict
 pub fn verdict_in(image: &[u8], form: Form) -> Verdict
     ensures { result ≡ verdict_in form image.now }
 {
-    if let Found::At(p) = layout::question_1(image) {
+    if let Some(p) = layout::question_1(image) {
         return Verdict::Refused(1, p);
     }
     from_2(image, form)

@@ -7,8 +7,7 @@ ghost use Rattle.program.specs.Places.{version_at};
 ghost use Rattle.writer.specs.Text.{placed, text, decimal};
 ghost use Rattle.checker.specs.Reports.{counts, counts_of, spaced, version_line, version_lines, line_of, refusal, answer, report_in, report_text, Told};
 
-use crate::{Counts, Line, Reported, Verdict, questions};
-use flow::Flowed;
+use crate::{Counts, Line, Verdict, questions};
 use layout::Form;
 
 /// The counts of registers in each set of the body of the version at `v`.
@@ -16,14 +15,14 @@ fn counts_at(image: &[u8], v: usize) -> Counts
     ensures { counts_of result ≡ counts (program (records image.now)) (version_at image.now v) }
 {
     match flow::body::action(image, v) {
-        Flowed::Allowed(a) => {
+        Some(a) => {
             let reads = sets::size(a.reads);
             let assigns = sets::size(a.assigns);
             let empties = sets::size(a.empties);
             let captures = sets::size(a.captures);
             Counts::Of(reads, assigns, empties, captures)
         }
-        Flowed::Refused => Counts::Unknown,
+        None => Counts::Unknown,
     }
 }
 
@@ -149,24 +148,24 @@ fn put_lines(image: &[u8], out: &mut [u8]) -> usize
 }
 
 /// Writes the text of an accepted image with `n` versions.
-fn report_accepted(image: &[u8], out: &mut [u8], n: usize) -> Reported
+fn report_accepted(image: &[u8], out: &mut [u8], n: usize) -> Option<usize>
     requires { length image.now ≤ IMAGE }
     ensures { Told result out.old out.new (answer (program (records image.now)) (Verdict.Accepted n)) }
 {
     let size = writer::digits_of(n);
     let total = lines_length(image) + 9 + size + 1;
     if out.len() < total {
-        return Reported::Short;
+        return None;
     }
     let at = put_lines(image, out);
     writer::put_bytes(out, at, b"accepted ");
     writer::put_number(out, at + 9, n);
     writer::put_byte(out, at + 9 + size, b'\n');
-    Reported::Written(total)
+    Some(total)
 }
 
 /// Writes the text of an image that the question `n` refuses at `p`.
-fn report_refused(out: &mut [u8], n: u8, p: usize) -> Reported
+fn report_refused(out: &mut [u8], n: u8, p: usize) -> Option<usize>
     ensures { Told result out.old out.new (refusal n p) }
 {
     let number = n as usize;
@@ -174,18 +173,18 @@ fn report_refused(out: &mut [u8], n: u8, p: usize) -> Reported
     let place = writer::digits_of(p);
     let total = 8 + size + 4 + place + 1;
     if out.len() < total {
-        return Reported::Short;
+        return None;
     }
     writer::put_bytes(out, 0, b"refused ");
     writer::put_number(out, 8, number);
     writer::put_bytes(out, 8 + size, b" at ");
     writer::put_number(out, 12 + size, p);
     writer::put_byte(out, 12 + size + place, b'\n');
-    Reported::Written(total)
+    Some(total)
 }
 
 /// Writes the text that `check` prints of an image in a form into the buffer, and gives its length; a buffer that is too short is left as it was.
-pub fn report_in(image: &[u8], form: Form, out: &mut [u8]) -> Reported
+pub fn report_in(image: &[u8], form: Form, out: &mut [u8]) -> Option<usize>
     ensures { Told result out.old out.new (report_in form image.now) }
 {
     match questions::verdict_in(image, form) {
@@ -195,7 +194,7 @@ pub fn report_in(image: &[u8], form: Form, out: &mut [u8]) -> Reported
 }
 
 /// The same of an image in the form in force.
-pub fn report(image: &[u8], out: &mut [u8]) -> Reported
+pub fn report(image: &[u8], out: &mut [u8]) -> Option<usize>
     ensures { Told result out.old out.new (report_text image.now) }
 {
     report_in(image, Form::Wide, out)

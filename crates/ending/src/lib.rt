@@ -12,7 +12,7 @@ ghost use Rattle.ending.specs.Ends.{BlockEnds, CallEnds, CellEnds, ForceEnds, Go
 
 use acts::Typed;
 use machine::{Opener, Value};
-use store::{Halt, Whole, cells, heap, stack};
+use store::{Halt, cells, heap, stack};
 
 /// What the end of a block has done: its value went back, the run is done, or nothing, where it is stuck.
 #[derive(Clone, Copy)]
@@ -36,7 +36,7 @@ fn end_force(
     requires { Ready bytes.old numbers.old counts.old × (k < 32) × Forcing bytes.old p }
     ensures { ForceEnds result bytes.old numbers.old bytes.new numbers.new counts.new k r p }
 {
-    let Whole::Is(z) = cells::integer(bytes, numbers, k, r) else {
+    let Some(z) = cells::integer(bytes, numbers, k, r) else {
         return Ended::Stuck;
     };
     let q = layout::wide(p);

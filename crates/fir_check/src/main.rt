@@ -4,7 +4,7 @@
 ghost use Rattle.std.specs.Prelude.{◌≤◌, length};
 ghost use Rattle.fir_check.specs.Inputs.{Fits, Reads};
 
-use checker::{Reported, report};
+use checker::report;
 use std::io::{Read, Write};
 
 /// One byte more than an image may have, so that a longer input is refused by question 1.
@@ -75,7 +75,7 @@ fn main(rt: HostRuntime) {
     };
     let mut text = [0u8; TEXT];
     match report::report(&image[..n], &mut text) {
-        Reported::Written(size) => {
+        Some(size) => {
             read_on(&mut input, n, &mut image);
             if rt.stdout().write_all(&text[..size]).is_err() {
                 let _ = rt
@@ -83,6 +83,6 @@ fn main(rt: HostRuntime) {
                     .write_all(b"check: standard output cannot be written\n");
             }
         }
-        Reported::Short => {}
+        None => {}
     }
 }

@@ -1,4 +1,6 @@
 -- What a block does, as a walk that enters higher blocks meets it.
+use Rattle.std.specs.Prelude.{None, Some}
+use Rattle.flow.specs.Masks.{Flowed}
 use mathlib.Core.Path.{◌≡◌, refl, sym, ap, ◌∙◌}
 use mathlib.Core.List.{List, [], ◌∷◌, map}
 use mathlib.Core.Option.{Option, none, some}
@@ -10,7 +12,6 @@ use lib.Dec.{eqb}
 use borrow.Author.Tests.{lt-ltb, le-ltb, eqb-true, eqb-false}
 use Rattle.layout.specs.Kinds as kind
 use Rattle.layout.specs.Records.{◌!◌, size_at, kind_at, body_at, rec_at, records, choose}
-use Rattle.layout.specs.declared.Found.TheVariants.{Nothing, At}
 use Rattle.layout.proofs.Walk.{size_in}
 use Rattle.layout.proofs.Rows.{Rows, choose-each}
 use Rattle.sets.specs.Sets.{only, those, set_of}
@@ -21,7 +22,6 @@ use Rattle.program.proofs.Views.{line_view, line-none, is-lined}
 use Rattle.program.proofs.Lookups.{block-found, block-missing}
 use Rattle.rules.specs.Actions.{Action, ◌then◌, reading, promised, touch, action_of, skip_of, Walk, join, here, walk}
 use Rattle.flow.specs.Masks.{masked, flowed}
-use Rattle.flow.specs.declared.Flowed.{Flowed}
 use Rattle.rules.specs.Walks.{block_action, entered, acts, skips_of}
 use Rattle.flow.specs.Ways.{ways_at, walk_at, here_at, goes_on, opened, skip_in, place_in, target_of}
 use Rattle.flow.proofs.Places.{starts, here-at, turn, placed, stored, stays-free}
@@ -90,10 +90,10 @@ abbrev pub onward : List ℕ → ℕ → ℕ → ℕ → ℕ → ℕ → ℕ →
 onward s v b q count i p done ways = here (walk (skips_of (program (records s))) (acts (program (records s)) (version_at s v) b) (walk_at done ways count i) (view_at s p).code) then reading (body_at s q ! 1 ∷ [])
 
 module _ (s : List ℕ) (v b : ℕ) where
-  pub no_block : block_place s v b ≡ Nothing → none ≡ block_action (program (records s)) (version_at s v) b
+  pub no_block : block_place s v b ≡ None → none ≡ block_action (program (records s)) (version_at s v) b
   no_block e = sym (walked-missing (program (records s)) (version_at s v) b (block-missing s v b e))
 
-  pub begins : {n count : ℕ} (q : ℕ) → block_place s v b ≡ At q → n ≡ size_at s q → count ≡ length (take 48 (view_at s (q + n)).code) → count ≤ 48 → block_action (program (records s)) (version_at s v) b ≡ onward s v b q count 0 (q + n) (some (masked 0 0 0 0)) (replicate 51 none)
+  pub begins : {n count : ℕ} (q : ℕ) → block_place s v b ≡ Some q → n ≡ size_at s q → count ≡ length (take 48 (view_at s (q + n)).code) → count ≤ 48 → block_action (program (records s)) (version_at s v) b ≡ onward s v b q count 0 (q + n) (some (masked 0 0 0 0)) (replicate 51 none)
   unfolding block_at
   begins {n} {count} q e m h l =
       walked_at (program (records s)) (version_at s v) b (block_at s q) (block-found s v b q e)

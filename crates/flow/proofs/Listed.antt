@@ -1,4 +1,5 @@
 -- Lists of registers as a loop gathers them: those it passed, and those that are left.
+use Rattle.std.specs.Prelude.{None, Some}
 use mathlib.Core.Path.{◌≡◌, refl, sym, ap, ap₂, ◌∙◌}
 use mathlib.Core.List.{List, [], ◌∷◌}
 use mathlib.Core.Bool.{true, false, or-false}
@@ -10,7 +11,6 @@ use borrow.Author.Tests.{eq-eqb, ne_eqb}
 use lib.Seq.{drop-cons, get_or-take}
 use Rattle.layout.specs.Records.{◌!◌, records, body_at, every, fields}
 use Rattle.layout.proofs.Fields.{length-every, every-at, fields_at}
-use Rattle.layout.specs.declared.Found.TheVariants.{Nothing, At}
 use Rattle.program.specs.Places.{version_at, version_place}
 use Rattle.program.proofs.Lookups.{version-found, version-missing}
 use mathlib.Core.Option.{Option, none, some}
@@ -211,8 +211,8 @@ promised-at w w' o e = rw e refl
 
 -- the version that a CALL names, as the code looks it up
 module _ (s : List ℕ) (p : ℕ) {f w : ℕ} (ef : f ≡ body_at s p ! 1) (ew : w ≡ body_at s p ! 2) where
-  pub call-missing : version_place s f w ≡ Nothing → find_version (program (records s)) (body_at s p ! 1) (body_at s p ! 2) ≡ none
+  pub call-missing : version_place s f w ≡ None → find_version (program (records s)) (body_at s p ! 1) (body_at s p ! 2) ≡ none
   call-missing e = rw (← ef, ← ew) (version-missing s f w e)
 
-  pub call-found : (q : ℕ) → version_place s f w ≡ At q → find_version (program (records s)) (body_at s p ! 1) (body_at s p ! 2) ≡ some (version_at s q)
+  pub call-found : (q : ℕ) → version_place s f w ≡ Some q → find_version (program (records s)) (body_at s p ! 1) (body_at s p ! 2) ≡ some (version_at s q)
   call-found q e = rw (← ef, ← ew) (version-found s f w q e).0

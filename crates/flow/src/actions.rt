@@ -4,26 +4,26 @@ ghost use Rattle.std.proofs.Math.Option.{some};
 ghost use Rattle.rules.specs.Actions.{◌then◌, either, join};
 ghost use Rattle.flow.specs.Masks.{masked, act, flowed};
 
-use crate::{Action, Flowed};
+use crate::Action;
 
 /// `a` then the single instruction `b`: what `a` empties `b` may assign but not read, empty or capture, and what `a` captures `b` may
 /// not empty.
-pub fn follow(a: Action, b: Action) -> Flowed
+pub fn follow(a: Action, b: Action) -> Option<Action>
     ensures { flowed result ≡ (some (act a) then some (act b)) }
 {
     if sets::meets(a.empties, b.reads) {
-        return Flowed::Refused;
+        return None;
     }
     if sets::meets(a.empties, b.empties) {
-        return Flowed::Refused;
+        return None;
     }
     if sets::meets(a.empties, b.captures) {
-        return Flowed::Refused;
+        return None;
     }
     if sets::meets(a.captures, b.empties) {
-        return Flowed::Refused;
+        return None;
     }
-    Flowed::Allowed(Action {
+    Some(Action {
         reads: sets::union(a.reads, sets::difference(b.reads, a.assigns)),
         assigns: sets::union(a.assigns, b.assigns),
         empties: sets::difference(sets::union(a.empties, b.empties), b.assigns),
@@ -32,15 +32,15 @@ pub fn follow(a: Action, b: Action) -> Flowed
 }
 
 /// `done` then `next`, where both are allowed.
-pub fn chain(done: Flowed, next: Flowed) -> Flowed
+pub fn chain(done: Option<Action>, next: Option<Action>) -> Option<Action>
     ensures { flowed result ≡ (flowed done then flowed next) }
 {
     match done {
-        Flowed::Allowed(a) => match next {
-            Flowed::Allowed(b) => follow(a, b),
-            Flowed::Refused => Flowed::Refused,
+        Some(a) => match next {
+            Some(b) => follow(a, b),
+            None => None,
         },
-        Flowed::Refused => Flowed::Refused,
+        None => None,
     }
 }
 
@@ -57,23 +57,23 @@ fn either(a: Action, b: Action) -> Action
 }
 
 /// A way, joined by one that a skip took, if there is one.
-pub fn join(done: Flowed, way: Flowed) -> Flowed
+pub fn join(done: Option<Action>, way: Option<Action>) -> Option<Action>
     ensures { flowed result ≡ join (flowed done) (flowed way) }
 {
     match done {
-        Flowed::Allowed(a) => match way {
-            Flowed::Allowed(b) => Flowed::Allowed(either(a, b)),
-            Flowed::Refused => Flowed::Allowed(a),
+        Some(a) => match way {
+            Some(b) => Some(either(a, b)),
+            None => Some(a),
         },
-        Flowed::Refused => Flowed::Refused,
+        None => None,
     }
 }
 
 /// What only reads registers.
-pub fn reading(registers: u16) -> Flowed
+pub fn reading(registers: u16) -> Option<Action>
     ensures { flowed result ≡ some (masked registers 0 0 0) }
 {
-    Flowed::Allowed(Action {
+    Some(Action {
         reads: registers,
         assigns: 0,
         empties: 0,
@@ -82,10 +82,10 @@ pub fn reading(registers: u16) -> Flowed
 }
 
 /// What reads, empties and assigns registers.
-pub fn touching(reads: u16, empties: u16, assigns: u16) -> Flowed
+pub fn touching(reads: u16, empties: u16, assigns: u16) -> Option<Action>
     ensures { flowed result ≡ some (masked reads assigns empties 0) }
 {
-    Flowed::Allowed(Action {
+    Some(Action {
         reads: reads,
         assigns: assigns,
         empties: empties,

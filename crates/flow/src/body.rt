@@ -6,11 +6,11 @@ ghost use Rattle.program.specs.Places.{version_at};
 ghost use Rattle.rules.specs.Actions.{body_action};
 ghost use Rattle.flow.specs.Masks.{flowed};
 
-use crate::{Flowed, walk};
+use crate::{Action, walk};
 use program::lookup;
 
 /// The action of the body of the version whose record stands at `v`.
-pub fn action(image: &[u8], v: usize) -> Flowed
+pub fn action(image: &[u8], v: usize) -> Option<Action>
     ensures { flowed result ≡ body_action (program (records image.now)) (version_at image.now v) }
 {
     let table = lookup::versions(image);

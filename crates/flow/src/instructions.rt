@@ -10,8 +10,8 @@ ghost use Rattle.program.specs.Places.{version_at, instr_at, table_of};
 ghost use Rattle.rules.specs.Actions.{reading, touching, emptied, promised, touch, action_of};
 ghost use Rattle.flow.specs.Masks.{flowed, alone};
 
-use crate::{Action, Flowed, actions};
-use layout::{Found, kinds, ownerships};
+use crate::{Action, actions};
+use layout::{kinds, ownerships};
 use program::lookup;
 
 /// The registers that `n` fields of the record at `p` name, from the field `from` on, each `step` behind the one before.
@@ -75,7 +75,7 @@ fn paired_owned(image: &[u8], p: usize) -> u16
 }
 
 /// What reads `n` registers from the field `from` on, and then assigns that of the first field.
-fn plain(image: &[u8], p: usize, from: usize, n: usize) -> Flowed
+fn plain(image: &[u8], p: usize, from: usize, n: usize) -> Option<Action>
     requires { (from < 256) × (n < 256) }
     ensures { flowed result ≡ touching (fields (body_at image.now p) from n) [] (body_at image.now p ! 0 ∷ []) }
 {
@@ -83,7 +83,7 @@ fn plain(image: &[u8], p: usize, from: usize, n: usize) -> Flowed
 }
 
 /// What only reads `n` registers from the field `from` on, each `step` fields behind the one before.
-fn reads_only(image: &[u8], p: usize, from: usize, step: usize, n: usize) -> Flowed
+fn reads_only(image: &[u8], p: usize, from: usize, step: usize, n: usize) -> Option<Action>
     requires { (from < 256) × (step < 256) × (n < 256) }
     ensures { flowed result ≡ touching (every (body_at image.now p) from step n) [] [] }
 {
@@ -91,7 +91,7 @@ fn reads_only(image: &[u8], p: usize, from: usize, step: usize, n: usize) -> Flo
 }
 
 /// USE: what it reads it empties.
-fn used(image: &[u8], p: usize) -> Flowed
+fn used(image: &[u8], p: usize) -> Option<Action>
     ensures { flowed result ≡ touching (body_at image.now p ! 1 ∷ []) (body_at image.now p ! 1 ∷ []) (body_at image.now p ! 0 ∷ []) }
 {
     let a = named(image, p, 1, 1, 1);
@@ -99,11 +99,11 @@ fn used(image: &[u8], p: usize) -> Flowed
 }
 
 /// What PROM yields, by what its block does: it captures all that the block touches, and assigns `register`.
-fn promised(block: Flowed, register: u16) -> Flowed
+fn promised(block: Option<Action>, register: u16) -> Option<Action>
     ensures { flowed result ≡ promised (set_of REGISTERS register) (flowed block) }
 {
     match block {
-        Flowed::Allowed(a) => Flowed::Allowed(Action {
+        Some(a) => Some(Action {
             reads: a.reads,
             assigns: register,
             empties: a.empties,
@@ -112,12 +112,12 @@ fn promised(block: Flowed, register: u16) -> Flowed
                 a.captures,
             ),
         }),
-        Flowed::Refused => Flowed::Refused,
+        None => None,
     }
 }
 
 /// PROM: what its block does, promised; it assigns its register.
-fn promising(image: &[u8], p: usize, entered: Flowed) -> Flowed
+fn promising(image: &[u8], p: usize, entered: Option<Action>) -> Option<Action>
     ensures { flowed result ≡ action_of (λ block. flowed entered) (touch (program (records image.now)) (instr_of kind.PROM (body_at image.now p))) }
 {
     promised(entered, named(image, p, 0, 1, 1))
@@ -132,14 +132,14 @@ fn call_empties(image: &[u8], table: &[usize; 128], p: usize) -> u16
 {
     let f = layout::field(image, p, 1);
     let w = layout::field(image, p, 2);
-    let Found::At(c) = lookup::listed(image, table, f, w) else {
+    let Some(c) = lookup::listed(image, table, f, w) else {
         return 0;
     };
     given_owned(image, c, p)
 }
 
 /// CALL: it reads its operands, and empties those of owned parameters.
-fn calling(image: &[u8], table: &[usize; 128], p: usize) -> Flowed
+fn calling(image: &[u8], table: &[usize; 128], p: usize) -> Option<Action>
     requires { table.now ≡ table_of image.now }
     ensures { flowed result ≡ alone (program (records image.now)) (instr_of kind.CALL (body_at image.now p)) }
 {
@@ -152,7 +152,7 @@ fn calling(image: &[u8], table: &[usize; 128], p: usize) -> Flowed
 }
 
 /// DISPATCH: it reads its operands, and empties those of owned types.
-fn dispatching(image: &[u8], p: usize) -> Flowed
+fn dispatching(image: &[u8], p: usize) -> Option<Action>
     ensures { flowed result ≡ alone (program (records image.now)) (instr_of kind.DISPATCH (body_at image.now p)) }
 {
     let reads = named(image, p, 6, 2, layout::field(image, p, 4));
@@ -160,14 +160,14 @@ fn dispatching(image: &[u8], p: usize) -> Flowed
 }
 
 /// SKIP: it reads its register.
-fn skipping(image: &[u8], p: usize) -> Flowed
+fn skipping(image: &[u8], p: usize) -> Option<Action>
     ensures { flowed result ≡ reading (body_at image.now p ! 0 ∷ []) }
 {
     actions::reading(named(image, p, 0, 1, 1))
 }
 
 /// What the instruction at `p` does, where `entered` is what the block does that a PROM names. The table is the image's.
-pub(crate) fn instruction(image: &[u8], table: &[usize; 128], p: usize, entered: Flowed) -> Flowed
+pub(crate) fn instruction(image: &[u8], table: &[usize; 128], p: usize, entered: Option<Action>) -> Option<Action>
     requires { table.now ≡ table_of image.now }
     ensures { flowed result ≡ action_of (λ block. flowed entered) (touch (program (records image.now)) (instr_at image.now p)) }
 {

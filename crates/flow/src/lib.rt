@@ -17,9 +17,3 @@ pub struct Action {
     pub captures: u16,
 }
 
-/// What is done one after the other, or that it is not allowed.
-#[derive(Clone, Copy)]
-pub enum Flowed {
-    Allowed(Action),
-    Refused,
-}

@@ -6,8 +6,8 @@ ghost use Rattle.program.specs.Search.{first};
 ghost use Rattle.program.specs.Places.{version_at, table_of, asked};
 ghost use Rattle.rules.specs.Flows.{flows, question10};
 
-use crate::{Flowed, walk};
-use layout::{Found, kinds};
+use crate::walk;
+use layout::kinds;
 use program::{Here, lookup, pass};
 
 /// Does flow hold in the version at `p`, with its body's R within the parameters?
@@ -15,7 +15,7 @@ fn version_flows(image: &[u8], table: &[usize; 128], p: usize) -> bool
     requires { table.now ≡ table_of image.now }
     ensures { result ≡ flows (program (records image.now)) (version_at image.now p) }
 {
-    let Flowed::Allowed(body) = walk::body_action(image, table, p) else {
+    let Some(body) = walk::body_action(image, table, p) else {
         return false;
     };
     sets::below(body.reads, lookup::parameters(image, p))
@@ -35,7 +35,7 @@ pub fn flows_at(image: &[u8], table: &[usize; 128], here: Here, p: usize) -> boo
 }
 
 /// Question 10: does flow hold in each version, with its body's R within the parameters?
-pub fn question_10(image: &[u8]) -> Found
+pub fn question_10(image: &[u8]) -> Option<usize>
     ensures { result ≡ first (question10 (program (records image.now))) (program (records image.now)) }
 {
     let table = lookup::versions(image);
@@ -47,14 +47,14 @@ pub fn question_10(image: &[u8]) -> Found
     while p < image.len() {
         let n = layout::size_at(image, p);
         if n == 0 {
-            return Found::Nothing;
+            return None;
         }
         here = pass::moved(image, here, p);
         if flows_at(image, &table, here, p) {
             p += n;
         } else {
-            return Found::At(p);
+            return Some(p);
         }
     }
-    Found::Nothing
+    None
 }

@@ -7,20 +7,20 @@ ghost use Rattle.rules.specs.Actions.{body_action};
 ghost use Rattle.flow.specs.Masks.{flowed};
 ghost use Rattle.rules.specs.Walks.{block_action, acts};
 
-use crate::{Action, Flowed, actions, instructions, ways};
-use layout::{Found, kinds};
+use crate::{Action, actions, instructions, ways};
+use layout::kinds;
 use program::lookup;
 
 /// What the block `b` of the version at `v` does: its instructions one after the other, then it reads its result register.
 #[cycle(walk_block_walk_instruction)]
-fn walk_block(image: &[u8], table: &[usize; 128], v: usize, b: usize) -> Flowed
+fn walk_block(image: &[u8], table: &[usize; 128], v: usize, b: usize) -> Option<Action>
     requires { table.now ≡ table_of image.now }
     ensures { flowed result ≡ block_action (program (records image.now)) (version_at image.now v) b }
 {
-    let Found::At(q) = lookup::block(image, v, b) else {
-        return Flowed::Refused;
+    let Some(q) = lookup::block(image, v, b) else {
+        return None;
     };
-    let mut done = Flowed::Allowed(Action {
+    let mut done = Some(Action {
         reads: 0,
         assigns: 0,
         empties: 0,
@@ -28,7 +28,7 @@ fn walk_block(image: &[u8], table: &[usize; 128], v: usize, b: usize) -> Flowed
     });
     let mut p = q + layout::size_at(image, q);
     let count = ways::lines(image, p);
-    let mut taken = [Flowed::Refused; 51];
+    let mut taken = [None; 51];
     let mut i: usize = 0;
     while lookup::is_line(image, p) {
         let at = ways::place(count, i);
@@ -56,23 +56,23 @@ fn walk_block(image: &[u8], table: &[usize; 128], v: usize, b: usize) -> Flowed
 
 /// What the instruction at `p` does, in the block `b` of the version at `v`: a PROM enters a block above its own.
 #[cycle(walk_block_walk_instruction)]
-fn walk_instruction(image: &[u8], table: &[usize; 128], v: usize, b: usize, p: usize) -> Flowed
+fn walk_instruction(image: &[u8], table: &[usize; 128], v: usize, b: usize, p: usize) -> Option<Action>
     requires { table.now ≡ table_of image.now }
     ensures { flowed result ≡ acts (program (records image.now)) (version_at image.now v) b (instr_at image.now p) }
 {
     if layout::kind_at(image, p) != kinds::PROM {
-        return instructions::instruction(image, table, p, Flowed::Refused);
+        return instructions::instruction(image, table, p, None);
     }
     let block = layout::field(image, p, 1);
     if block <= b {
-        return instructions::instruction(image, table, p, Flowed::Refused);
+        return instructions::instruction(image, table, p, None);
     }
     instructions::instruction(image, table, p, walk_block(image, table, v, block))
 }
 
 /// What the body of the version at `v` does. The table is the image's: its callers make it once for many versions.
 /// A block is walked as often as it is named: once, where question 7 holds.
-pub(crate) fn body_action(image: &[u8], table: &[usize; 128], v: usize) -> Flowed
+pub(crate) fn body_action(image: &[u8], table: &[usize; 128], v: usize) -> Option<Action>
     requires { table.now ≡ table_of image.now }
     ensures { flowed result ≡ body_action (program (records image.now)) (version_at image.now v) }
 {

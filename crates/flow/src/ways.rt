@@ -7,7 +7,7 @@ ghost use Rattle.rules.specs.Walks.{skips_of};
 ghost use Rattle.flow.specs.Masks.{flowed};
 ghost use Rattle.flow.specs.Ways.{place_in, target_of, goes_on, skip_in};
 
-use crate::Flowed;
+use crate::Action;
 use layout::kinds;
 use program::lookup;
 
@@ -26,17 +26,17 @@ pub fn place(count: usize, i: usize) -> usize
 }
 
 /// What is done behind the instruction `i`, where a SKIP past the end of the block is not allowed.
-pub fn goes_on(now: Flowed, skip: usize, count: usize, i: usize) -> Flowed
+pub fn goes_on(now: Option<Action>, skip: usize, count: usize, i: usize) -> Option<Action>
     ensures { flowed result ≡ goes_on (skip_in skip) count i (flowed now) }
 {
     if skip == 0 {
         return now;
     }
     if count < skip {
-        return Flowed::Refused;
+        return None;
     }
     if count - skip < i {
-        return Flowed::Refused;
+        return None;
     }
     now
 }

@@ -1,4 +1,5 @@
 -- What the tests of the code make of the definitions.
+use Rattle.std.specs.Prelude.{None, Some}
 use Prim.Native.Nat.{ℕ, ◌≤◌, ◌<◌}
 use mathlib.Core.Path.{◌≡◌, refl}
 use mathlib.Core.Bool.{Bool, true, false, cond}
@@ -11,7 +12,6 @@ use Rattle.machine.specs.Try.{got, ◌>>◌, end_unless}
 use Rattle.machine.specs.Values.{RANGE, ranged, ranged_to, is_zero, floored, divided, divided_to, index}
 use Rattle.integers.specs.Computed.{computed_of, indexed_of}
 use Rattle.integers.specs.declared.Computed.{Computed}
-use Rattle.integers.specs.declared.Indexed.{Indexed}
 
 pub in-range : (z : ℤ) → ltb (mag z) RANGE ≡ true → Computed.Integer z ≡ computed_of (ranged z)
 unfolding computed_of ranged_to end_unless ◌>>◌
@@ -38,7 +38,7 @@ unfolding computed_of
 not-less e = rw e
 
 -- an index below 0 is outside; another is a natural number, and inside where that is below the length
-pub negative : (z b : ℤ) (n : ℕ) → T (le_z b (pos 0)) → lt_z z b ≡ true → Indexed.Undef ≡ indexed_of (index z n)
+pub negative : (z b : ℤ) (n : ℕ) → T (le_z b (pos 0)) → lt_z z b ≡ true → None ≡ indexed_of (index z n)
 unfolding indexed_of index
 negative (pos i) (pos j) n t e = absurd (omega (arith, ltb-true i j e, leb→le j 0 t))
 negative (pos i) (negsuc j) n t e = cc
@@ -49,12 +49,12 @@ natural (pos i) b t e = tt
 natural (negsuc i) (pos j) t e = let z : ◌≡◌ {A = ℕ} 0 1 = cc in absurd (omega arith)
 natural (negsuc i) (negsuc j) t e = absurd t
 
-pub inside : (z : ℤ) (n : ℕ) → T (non_neg z) → nat_abs z < n → Indexed.At (nat_abs z) ≡ indexed_of (index z n)
+pub inside : (z : ℤ) (n : ℕ) → T (non_neg z) → nat_abs z < n → Some (nat_abs z) ≡ indexed_of (index z n)
 unfolding indexed_of index end_unless ◌>>◌
 inside (pos i) n t h = rw (lt-ltb i n h)
 inside (negsuc i) n t h = absurd t
 
-pub outside : (z : ℤ) (n : ℕ) → T (non_neg z) → n ≤ nat_abs z → Indexed.Undef ≡ indexed_of (index z n)
+pub outside : (z : ℤ) (n : ℕ) → T (non_neg z) → n ≤ nat_abs z → None ≡ indexed_of (index z n)
 unfolding indexed_of index end_unless ◌>>◌
 outside (pos i) n t h = rw (le-ltb i n h)
 outside (negsuc i) n t h = absurd t

@@ -1,9 +1,8 @@
 -- What the operations on integers answer.
-use Rattle.std.specs.Prelude.{Bool, true, false, ℕ, zero, suc, ◌-◌, ℤ, pos, negsuc}
+use Rattle.std.specs.Prelude.{Bool, true, false, ℕ, zero, suc, ◌-◌, ℤ, pos, negsuc, None, Option, Some}
 use Rattle.machine.specs.Values.{RANGE}
 use Rattle.machine.specs.Try.{Try, got, stuck, stop}
 use Rattle.integers.specs.declared.Computed.{Computed}
-use Rattle.integers.specs.declared.Indexed.{Indexed}
 
 -- the result of an operation; integers end a run by UNDEF alone
 unfoldable pub computed_of : Try ℤ → Computed
@@ -12,10 +11,10 @@ computed_of stuck = Computed.Stuck
 computed_of (stop e) = Computed.Undef
 
 -- the place of an item; no index is stuck
-unfoldable pub indexed_of : Try ℕ → Indexed
-indexed_of (got i) = Indexed.At i
-indexed_of stuck = Indexed.Undef
-indexed_of (stop e) = Indexed.Undef
+unfoldable pub indexed_of : Try ℕ → Option ℕ
+indexed_of (got i) = Some i
+indexed_of stuck = None
+indexed_of (stop e) = None
 
 -- is it −1? By −1 the least integer has no quotient in range
 unfoldable pub is_minus_one : ℤ → Bool

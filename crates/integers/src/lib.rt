@@ -16,13 +16,6 @@ pub enum Computed {
     Stuck,
 }
 
-/// What an index into a vector comes to: the place of an item, or UNDEF.
-#[derive(Clone, Copy)]
-pub enum Indexed {
-    At(u8),
-    Undef,
-}
-
 /// The greatest integer.
 const GREATEST: i64 = 9223372036854775807;
 
@@ -216,17 +209,17 @@ pub fn arith(op: u8, x: i64, y: i64) -> Computed
 }
 
 /// The place `z` in a vector of `n` items, or UNDEF where it has no such place.
-pub fn index(z: i64, n: u8) -> Indexed
+pub fn index(z: i64, n: u8) -> Option<u8>
     ensures { result ≡ indexed_of (index z n) }
 {
     if z < 0 {
-        return Indexed::Undef;
+        return None;
     }
     let i = z as u64;
     if i < n as u64 {
-        Indexed::At(i as u8)
+        Some(i as u8)
     } else {
-        Indexed::Undef
+        None
     }
 }
 

@@ -1,4 +1,5 @@
 -- 02, 13: the claims hold.
+use Rattle.std.specs.Prelude.{None, Some}
 use mathlib.Core.Path.{◌≡◌, refl, sym, ap, ◌∙◌, subst}
 use mathlib.Core.List.{List, ◌++◌, map}
 use mathlib.Core.Option.{none}
@@ -16,7 +17,6 @@ use Rattle.layout.specs.Records.{Rec, records}
 use Rattle.layout.specs.Forms.{printed}
 use Rattle.layout.specs.Questions.{question1, question5}
 use Rattle.layout.specs.declared.Form.{Form}
-use Rattle.layout.specs.declared.Found.TheVariants.{Nothing, At}
 use Rattle.layout.proofs.Bools.{and_both}
 use Rattle.layout.proofs.Printed.{records-printed}
 use Rattle.program.specs.Program.{Program, View, view, program}
@@ -152,16 +152,16 @@ module _ (a b : List ℕ) (n m room : ℕ) (va : verdict_of a ≡ Accepted n) (v
   second-b : Carries k o (functions_in b) (program_of b) J
   second-b = carries-second k (functions_in b) o (program_of a) (program_of b) below-a below-b
 
-  q1-joined : question1 (joined a b) ≡ Nothing
+  q1-joined : question1 (joined a b) ≡ None
   unfolding question1 ◌and◌
   q1-joined =
       let z : (0 < length a) × (length a ≤ IMAGE) = one in
       rw (joined_length, lt-ltb 0 (length a + length b) (omega (arith, z.0)), le-leb (length a + length b) IMAGE bytes) refl
     where
       one : (0 < length a) × (length a ≤ IMAGE)
-      one = let t = and_both _ _ (laid.passed (ltb 0 (length a) and leb (length a) IMAGE) Nothing 0 (flip wa.q1)).0 in (ltb-true _ _ t.0, leb-true _ _ t.1)
+      one = let t = and_both _ _ (laid.passed (ltb 0 (length a) and leb (length a) IMAGE) None 0 (flip wa.q1)).0 in (ltb-true _ _ t.0, leb-true _ _ t.1)
         where
-          flip : question1 a ≡ Nothing → cond (ltb 0 (length a) and leb (length a) IMAGE) Nothing (At 0) ≡ Nothing
+          flip : question1 a ≡ None → cond (ltb 0 (length a) and leb (length a) IMAGE) None (Some 0) ≡ None
           flip e = e
 
   passed-joined : Passed Form.Wide (joined a b) (versions_in a + versions_in b)
@@ -177,14 +177,14 @@ module _ (a b : List ℕ) (n m room : ℕ) (va : verdict_of a ≡ Accepted n) (v
         q2 = rw joined-records (question2-joined k o (records a) (records b) wa.q2 wb.q2);
         q3 = rw joined-records (question3-joined k o (records a) (records b) wa.q3 wb.q3);
         q4 = rw joined-records (question4-joined k (functions_in b) o (length a) (length b) (length (joined a b)) (records a) (records b) fa fb cb.low numbers many wa.q4 wb.q4);
-        q5 = subst (λ (rs : List Rec). question5 rs ≡ Nothing) (sym joined-records) (question5-joined k o (records a) (records b) fb (counted-image a n wa).last wa.q5 wb.q5);
-        q6 = subst (λ (R : Program). first question6 R ≡ Nothing) (sym joined-program) (first-joined k (functions_in b) o P Q below-a below-b question6 question6 question6 (asks6 0 0 k P J first-a) (asks6 k o (functions_in b) Q J second-b) wa.q7 wb.q7 wa.q6 wb.q6);
-        q7 = subst (λ (R : Program). first (question7 R) R ≡ Nothing) (sym joined-program) (first-joined k (functions_in b) o P Q below-a below-b (question7 P) (question7 Q) (question7 J) (asks7 0 0 k P J first-a) (asks7 k o (functions_in b) Q J second-b) wa.q7 wb.q7 wa.q7 wb.q7);
-        q14 = subst (λ (rs : List Rec). question14 rs ≡ Nothing) (sym joined-records) (question14-joined k o (length b) (records a) (records b) wb.q4 wa.q14 wb.q14);
-        q8 = subst (λ (R : Program). first (question8 R) R ≡ Nothing) (sym joined-program) (first-joined k (functions_in b) o P Q below-a below-b (question8 P) (question8 Q) (question8 J) (asks8 0 0 k P J first-a) (asks8 k o (functions_in b) Q J second-b) wa.q7 wb.q7 wa.q8 wb.q8);
-        q18 = subst (λ (R : Program). first (question18 R) R ≡ Nothing) (sym joined-program) (first-joined k (functions_in b) o P Q below-a below-b (question18 P) (question18 Q) (question18 J) (asks18 0 0 k P J first-a) (asks18 k o (functions_in b) Q J second-b) wa.q7 wb.q7 wa.q18 wb.q18);
-        q9 = subst (λ (R : Program). first (question9 R) R ≡ Nothing) (sym joined-program) (first-joined k (functions_in b) o P Q below-a below-b (question9 P) (question9 Q) (question9 J) (asks9 0 0 k P J first-a) (asks9 k o (functions_in b) Q J second-b) wa.q7 wb.q7 wa.q9 wb.q9);
-        q10 = subst (λ (R : Program). first (question10 R) R ≡ Nothing) (sym joined-program) (first-joined k (functions_in b) o P Q below-a below-b (question10 P) (question10 Q) (question10 J) (asks10 0 0 k P J first-a) (asks10 k o (functions_in b) Q J second-b) wa.q7 wb.q7 wa.q10 wb.q10);
+        q5 = subst (λ (rs : List Rec). question5 rs ≡ None) (sym joined-records) (question5-joined k o (records a) (records b) fb (counted-image a n wa).last wa.q5 wb.q5);
+        q6 = subst (λ (R : Program). first question6 R ≡ None) (sym joined-program) (first-joined k (functions_in b) o P Q below-a below-b question6 question6 question6 (asks6 0 0 k P J first-a) (asks6 k o (functions_in b) Q J second-b) wa.q7 wb.q7 wa.q6 wb.q6);
+        q7 = subst (λ (R : Program). first (question7 R) R ≡ None) (sym joined-program) (first-joined k (functions_in b) o P Q below-a below-b (question7 P) (question7 Q) (question7 J) (asks7 0 0 k P J first-a) (asks7 k o (functions_in b) Q J second-b) wa.q7 wb.q7 wa.q7 wb.q7);
+        q14 = subst (λ (rs : List Rec). question14 rs ≡ None) (sym joined-records) (question14-joined k o (length b) (records a) (records b) wb.q4 wa.q14 wb.q14);
+        q8 = subst (λ (R : Program). first (question8 R) R ≡ None) (sym joined-program) (first-joined k (functions_in b) o P Q below-a below-b (question8 P) (question8 Q) (question8 J) (asks8 0 0 k P J first-a) (asks8 k o (functions_in b) Q J second-b) wa.q7 wb.q7 wa.q8 wb.q8);
+        q18 = subst (λ (R : Program). first (question18 R) R ≡ None) (sym joined-program) (first-joined k (functions_in b) o P Q below-a below-b (question18 P) (question18 Q) (question18 J) (asks18 0 0 k P J first-a) (asks18 k o (functions_in b) Q J second-b) wa.q7 wb.q7 wa.q18 wb.q18);
+        q9 = subst (λ (R : Program). first (question9 R) R ≡ None) (sym joined-program) (first-joined k (functions_in b) o P Q below-a below-b (question9 P) (question9 Q) (question9 J) (asks9 0 0 k P J first-a) (asks9 k o (functions_in b) Q J second-b) wa.q7 wb.q7 wa.q9 wb.q9);
+        q10 = subst (λ (R : Program). first (question10 R) R ≡ None) (sym joined-program) (first-joined k (functions_in b) o P Q below-a below-b (question10 P) (question10 Q) (question10 J) (asks10 0 0 k P J first-a) (asks10 k o (functions_in b) Q J second-b) wa.q7 wb.q7 wa.q10 wb.q10);
         count = ap (λ (R : Program). length R) joined-program ∙ length-append P (shift_program k o Q) ∙ ap (λ (i : ℕ). length P + i) (length-map Q (shift_version k o));
       }
 

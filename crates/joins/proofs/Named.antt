@@ -1,4 +1,5 @@
 -- The functions that the records of an accepted image name are its own: raised, they are bytes as long as those are.
+use Rattle.std.specs.Prelude.{None}
 use mathlib.Core.Path.{◌≡◌, refl, ◌∙◌, subst}
 use mathlib.Core.List.{List, [], ◌∷◌}
 use mathlib.Core.Option.{some}
@@ -14,7 +15,6 @@ use Rattle.layout.specs.Records.{Rec, ◌!◌, choose}
 use Rattle.layout.specs.Scan.{scan}
 use Rattle.layout.specs.Questions.{after_version, after_level, after_block, after_line, in_order, due_after, none_due, placed, start, question4}
 use Rattle.layout.specs.declared.Due.{Due}
-use Rattle.layout.specs.declared.Found.TheVariants.{Nothing}
 use Rattle.layout.proofs.Bools.{and_both}
 use Rattle.program.specs.Program.{Line, Block, Program, View, instr_of, instr_by, line_of, block_of, version_of, put, view, program}
 use Rattle.program.specs.Questions.{question7}
@@ -57,14 +57,14 @@ module _ (k m : ℕ) (low : k + m ≤ 256) where
 
   module _ (end : ℕ) where
     -- THE LAW of the records in order whose program names functions below m
-    named-records : (rs : List Rec) (d : Due) → Fits rs → scan placed due_after (none_due end) d rs ≡ Nothing → Lines m d (view rs) → Blocks m d (view rs) → Within m (program rs) → AllRaisable k rs
+    named-records : (rs : List Rec) (d : Due) → Fits rs → scan placed due_after (none_due end) d rs ≡ None → Lines m d (view rs) → Blocks m d (view rs) → Within m (program rs) → AllRaisable k rs
     unfolding scan Fits AllRaisable in_order due_after choose Within
     named-records [] d f q ls bs vs = tt
     named-records (r ∷ rs) d f q ls bs vs =
         let t = passed (ltb 0 r.size and placed d r) _ r.at q in
         let o = (and_both _ _ (and_both _ _ t.0).1).1 in
         go (eqb r.kind kind.VERSION) (eqb r.kind kind.LEVEL) (eqb r.kind kind.BLOCK) refl refl refl o
-        (λ d' e ls' bs' vs'. named-records rs d' f.1 (subst (λ (x : Due). scan placed due_after (none_due end) x rs ≡ Nothing) e t.1) ls' bs' vs')
+        (λ d' e ls' bs' vs'. named-records rs d' f.1 (subst (λ (x : Due). scan placed due_after (none_due end) x rs ≡ None) e t.1) ls' bs' vs')
       where
         seen : view (r ∷ rs) ≡ put r (view rs)
         seen = view-whole r rs f.0.size
@@ -105,6 +105,6 @@ module _ (k m : ℕ) (low : k + m ≤ 256) where
               ih (after_line d) (rw (ex, ey, ez) refl) (λ h i. subst (Lines m d) w ls more (suc i)) (subst (Blocks m d) w bs) (subst (Within m) (program-other r rs f.0.size ex) vs),
             )
 
-    pub all-raisable : (rs : List Rec) → Fits rs → question4 end rs ≡ Nothing → Within m (program rs) → AllRaisable k rs
+    pub all-raisable : (rs : List Rec) → Fits rs → question4 end rs ≡ None → Within m (program rs) → AllRaisable k rs
     unfolding question4
     all-raisable rs f q w = named-records rs start f q (λ h. absurd (omega (arith, h))) (λ h. absurd (omega (arith, h))) w

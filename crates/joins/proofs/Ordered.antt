@@ -1,5 +1,7 @@
 -- Questions 2 to 5 and 14 put to records with raised ones behind them.
+use Rattle.std.specs.Prelude.{None}
 use mathlib.Core.Path.{◌≡◌, refl, sym, ap, ◌∙◌, subst}
+use Rattle.layout.specs.Found.{Found}
 use mathlib.Core.Logic.{◌⊎◌, inl, inr}
 use mathlib.Core.List.{List, [], ◌∷◌, ◌++◌, map}
 use mathlib.Core.Option.{Option, none, some}
@@ -17,8 +19,6 @@ use Rattle.layout.specs.Records.{Rec, ◌!◌, choose}
 use Rattle.layout.specs.Forms.{printed}
 use Rattle.layout.specs.Scan.{scan}
 use Rattle.layout.specs.Questions.{whole, same, nothing, fitting, version_in_bounds, in_bounds, idle, version_next, level_next, block_next, line_next, after_level, after_block, after_line, in_order, due_after, start, none_due, placed, follows, last_version, following, question2, question3, question4, question5}
-use Rattle.layout.specs.declared.Found.{Found}
-use Rattle.layout.specs.declared.Found.TheVariants.{Nothing}
 use Rattle.layout.specs.declared.Due.{Due}
 use Rattle.layout.specs.declared.Form.{Form}
 use Rattle.layout.proofs.Bools.{and_both}
@@ -40,28 +40,28 @@ final next st (r ∷ rs) = final next (next st r) rs
 
 module _ {S : Type 0} (ok : S → Rec → Bool) (next : S → Rec → S) (end : S → Found) where
   -- a scan that found nothing comes to its end
-  pub scan-end : (rs : List Rec) (st : S) → scan ok next end st rs ≡ Nothing → end (final next st rs) ≡ Nothing
+  pub scan-end : (rs : List Rec) (st : S) → scan ok next end st rs ≡ None → end (final next st rs) ≡ None
   unfolding scan final
   scan-end [] st q = q
   scan-end (r ∷ rs) st q = scan-end rs (next st r) (passed (ltb 0 r.size and ok st r) _ r.at q).1
 
   -- and goes on behind it
-  pub scan-behind : (end' : S → Found) (rs qs : List Rec) (st : S) → scan ok next end st rs ≡ Nothing → scan ok next end' st (rs ++ qs) ≡ scan ok next end' (final next st rs) qs
+  pub scan-behind : (end' : S → Found) (rs qs : List Rec) (st : S) → scan ok next end st rs ≡ None → scan ok next end' st (rs ++ qs) ≡ scan ok next end' (final next st rs) qs
   unfolding scan final
   scan-behind end' [] qs st q = refl
   scan-behind end' (r ∷ rs) qs st q = let t = passed (ltb 0 r.size and ok st r) _ r.at q in rw t.0 (scan-behind end' rs qs (next st r) t.1)
 
 -- a question that keeps nothing
-scan-map : (ok : Unit {0} → Rec → Bool) (k o : ℕ) → ((r : Rec) → ok tt (shift_rec k o r) ≡ ok tt r) → (rs : List Rec) → scan ok same nothing tt rs ≡ Nothing → scan ok same nothing tt (map (shift_rec k o) rs) ≡ Nothing
+scan-map : (ok : Unit {0} → Rec → Bool) (k o : ℕ) → ((r : Rec) → ok tt (shift_rec k o r) ≡ ok tt r) → (rs : List Rec) → scan ok same nothing tt rs ≡ None → scan ok same nothing tt (map (shift_rec k o) rs) ≡ None
 unfolding scan
 scan-map ok k o h [] q = refl
 scan-map ok k o h (r ∷ rs) q = let t = passed (ltb 0 r.size and ok tt r) _ r.at q in rw (h r, t.0) (scan-map ok k o h rs t.1)
 
-pub question2-joined : (k o : ℕ) (rs qs : List Rec) → question2 rs ≡ Nothing → question2 qs ≡ Nothing → question2 (rs ++ map (shift_rec k o) qs) ≡ Nothing
+pub question2-joined : (k o : ℕ) (rs qs : List Rec) → question2 rs ≡ None → question2 qs ≡ None → question2 (rs ++ map (shift_rec k o) qs) ≡ None
 unfolding question2
 question2-joined k o rs qs a b = scan-behind whole same nothing nothing rs (map (shift_rec k o) qs) tt a ∙ scan-map whole k o (λ r. refl) qs b
 
-pub question3-joined : (k o : ℕ) (rs qs : List Rec) → question3 Form.Wide rs ≡ Nothing → question3 Form.Wide qs ≡ Nothing → question3 Form.Wide (rs ++ map (shift_rec k o) qs) ≡ Nothing
+pub question3-joined : (k o : ℕ) (rs qs : List Rec) → question3 Form.Wide rs ≡ None → question3 Form.Wide qs ≡ None → question3 Form.Wide (rs ++ map (shift_rec k o) qs) ≡ None
 unfolding question3
 question3-joined k o rs qs a b = scan-behind (fitting Form.Wide) same nothing nothing rs (map (shift_rec k o) qs) tt a ∙ scan-map (fitting Form.Wide) k o (λ r. ap (λ (n : ℕ). eqb r.size n) (length_of-raised k r.kind r.body)) qs b
 
@@ -98,7 +98,7 @@ pub record Counted (st : Option Rec) (rs : List Rec) : Type 0 where
   pub low : Low (functions_from (next_of st) (program rs)) rs
   pub last : next_of (final last_version st rs) ≡ functions_from (next_of st) (program rs)
 
-pub counted : (rs : List Rec) (st : Option Rec) → scan following last_version nothing st rs ≡ Nothing → Counted st rs
+pub counted : (rs : List Rec) (st : Option Rec) → scan following last_version nothing st rs ≡ None → Counted st rs
 unfolding scan functions_from Low final next_of
 counted [] st q = record { least = rw no-versions (omega arith); low = tt; last = rw no-versions refl }
 counted (r ∷ rs) st q =
@@ -168,7 +168,7 @@ version-numbers k r e h =
     let x : raised k r.kind b ≡ raise k 0 b = rw e refl in
     (ap (λ (c : List ℕ). c ! 0) x ∙ get_or-set_same b 0 (k + b ! 0) 0 h, λ j l. ap (λ (c : List ℕ). c ! j) x ∙ raise-other k 0 j b (λ z. absurd (omega (arith, l, z))))
 
-follow-map : (k o : ℕ) (rs : List Rec) (st st' : Option Rec) → Fits rs → Along k st st' → scan following last_version nothing st rs ≡ Nothing → scan following last_version nothing st' (map (shift_rec k o) rs) ≡ Nothing
+follow-map : (k o : ℕ) (rs : List Rec) (st st' : Option Rec) → Fits rs → Along k st st' → scan following last_version nothing st rs ≡ None → scan following last_version nothing st' (map (shift_rec k o) rs) ≡ None
 unfolding scan Fits Along
 follow-map k o [] st st' f a q = refl
 follow-map k o (r ∷ rs) st st' f a q =
@@ -187,7 +187,7 @@ follow-map k o (r ∷ rs) st st' f a q =
         now x y = (x, y)
     step false e h = (rw e refl, rw e a)
 
-pub question5-joined : (k o : ℕ) (rs qs : List Rec) → Fits qs → next_of (final last_version none rs) ≡ k → question5 rs ≡ Nothing → question5 qs ≡ Nothing → question5 (rs ++ map (shift_rec k o) qs) ≡ Nothing
+pub question5-joined : (k o : ℕ) (rs qs : List Rec) → Fits qs → next_of (final last_version none rs) ≡ k → question5 rs ≡ None → question5 qs ≡ None → question5 (rs ++ map (shift_rec k o) qs) ≡ None
 unfolding question5 Along
 question5-joined k o rs qs f e a b = scan-behind following last_version nothing nothing rs (map (shift_rec k o) qs) none a ∙ follow-map k o qs none (final last_version none rs) f e b
 
@@ -258,9 +258,9 @@ after-up n k o d r f = go (eqb r.kind kind.VERSION) (eqb r.kind kind.LEVEL) (eqb
         rw (ex, ey, ez, x) refl
     go false false false ex ey ez = rw (ex, ey, ez) refl
 
-due-map : (n k m o e e' : ℕ) → k + m ≤ FUNCTIONS → (rs : List Rec) (d : Due) → Fits rs → Low m rs → n + d.versions + length (program rs) ≤ ALL-VERSIONS → scan placed due_after (none_due e) d rs ≡ Nothing → scan placed due_after (none_due e') (up n d) (map (shift_rec k o) rs) ≡ Nothing
+due-map : (n k m o e e' : ℕ) → k + m ≤ FUNCTIONS → (rs : List Rec) (d : Due) → Fits rs → Low m rs → n + d.versions + length (program rs) ≤ ALL-VERSIONS → scan placed due_after (none_due e) d rs ≡ None → scan placed due_after (none_due e') (up n d) (map (shift_rec k o) rs) ≡ None
 unfolding scan none_due Fits Low
-due-map n k m o e e' l [] d f w z q = let t = (passed (idle d) Nothing e q).0 in rw t refl
+due-map n k m o e e' l [] d f w z q = let t = (passed (idle d) None e q).0 in rw t refl
 due-map n k m o e e' l (r ∷ rs) d f w z q =
     let t = passed (ltb 0 r.size and placed d r) _ r.at q in
     let u = and_both _ _ t.0 in
@@ -288,12 +288,12 @@ final-versions (r ∷ rs) d f = go (eqb r.kind kind.VERSION) refl (final-version
     go true x ih = let p : length (program (r ∷ rs)) ≡ suc (length (program rs)) = ap (λ (vs : Program). length vs) (program-version r rs f.0.size x) in omega (arith, ih, due-version d r x, p)
     go false x ih = let p : length (program (r ∷ rs)) ≡ length (program rs) = ap (λ (vs : Program). length vs) (program-other r rs f.0.size x) in omega (arith, ih, due-other d r x, p)
 
-pub question4-joined : (k m o e e' e'' : ℕ) (rs qs : List Rec) → Fits rs → Fits qs → Low m qs → k + m ≤ FUNCTIONS → length (program rs) + length (program qs) ≤ ALL-VERSIONS → question4 e rs ≡ Nothing → question4 e' qs ≡ Nothing → question4 e'' (rs ++ map (shift_rec k o) qs) ≡ Nothing
+pub question4-joined : (k m o e e' e'' : ℕ) (rs qs : List Rec) → Fits rs → Fits qs → Low m qs → k + m ≤ FUNCTIONS → length (program rs) + length (program qs) ≤ ALL-VERSIONS → question4 e rs ≡ None → question4 e' qs ≡ None → question4 e'' (rs ++ map (shift_rec k o) qs) ≡ None
 unfolding question4 none_due
 question4-joined k m o e e' e'' rs qs f g w l z a b =
     let n = length (program rs) in
     let d = final due_after start rs in
-    let i = and_both _ _ (passed (idle d) Nothing e (scan-end placed due_after (none_due e) rs start a)).0 in
+    let i = and_both _ _ (passed (idle d) None e (scan-end placed due_after (none_due e) rs start a)).0 in
     let t = and_both _ _ i.1 in
     let v : d.versions ≡ n + 0 = final-versions rs start f ∙ omega arith in
     let same-due : d ≡ up n start = due-same d (up n start) v (eqb-true _ _ i.0) (eqb-true _ _ t.0) (eqb-true _ _ t.1) in
@@ -328,7 +328,7 @@ ends_next : (d : Due) (x y : Ends) (r : Rec) → Apart d x y → in_order d r.ki
 ends_next d x y r (inl i) h g = ends-order d x y r (eqb r.kind kind.VERSION) (eqb r.kind kind.LEVEL) (eqb r.kind kind.BLOCK) refl refl refl i h
 ends_next d x y r (inr f) h g = (ap (λ (s : Ends). ends_within s r) (sym f) ∙ g, inr (ap (λ (s : Ends). ends_after s r) f))
 
-ends-map : (k o e : ℕ) (rs : List Rec) (d : Due) (x y : Ends) → Apart d x y → scan placed due_after (none_due e) d rs ≡ Nothing → scan ends_within ends_after nothing x rs ≡ Nothing → scan ends_within ends_after nothing y (map (shift_rec k o) rs) ≡ Nothing
+ends-map : (k o e : ℕ) (rs : List Rec) (d : Due) (x y : Ends) → Apart d x y → scan placed due_after (none_due e) d rs ≡ None → scan ends_within ends_after nothing x rs ≡ None → scan ends_within ends_after nothing y (map (shift_rec k o) rs) ≡ None
 unfolding scan
 ends-map k o e [] d x y a p q = refl
 ends-map k o e (r ∷ rs) d x y a p q =
@@ -340,7 +340,7 @@ ends-map k o e (r ∷ rs) d x y a p q =
     let n = ends_next d x y r a v.1 z.1 in
     rw (both (ltb 0 r.size) (ends_within y (shift_rec k o r)) z.0 (within-raised k o y r ∙ n.0), after-raised k o y r) (ends-map k o e rs (due_after d r) (ends_after x r) (ends_after y r) n.1 t.1 w.1)
 
-pub question14-joined : (k o e : ℕ) (rs qs : List Rec) → question4 e qs ≡ Nothing → question14 rs ≡ Nothing → question14 qs ≡ Nothing → question14 (rs ++ map (shift_rec k o) qs) ≡ Nothing
+pub question14-joined : (k o e : ℕ) (rs qs : List Rec) → question4 e qs ≡ None → question14 rs ≡ None → question14 qs ≡ None → question14 (rs ++ map (shift_rec k o) qs) ≡ None
 unfolding question14 question4
 question14-joined k o e rs qs h a b =
     scan-behind ends_within ends_after nothing nothing rs (map (shift_rec k o) qs) no_ends a ∙ ends-map k o e qs start no_ends (final ends_after no_ends rs) (inl refl) h b

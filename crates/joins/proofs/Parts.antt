@@ -1,4 +1,5 @@
 -- What a pass along the records of an image that it counts or raises knows at each record.
+use Rattle.std.specs.Prelude.{None}
 use mathlib.Core.Path.{◌≡◌, refl, sym, ap, ◌∙◌, subst}
 use mathlib.Core.List.{List, [], ◌∷◌, ◌++◌, map, append_assoc, append-nil}
 use mathlib.Core.Bool.{Bool, true, false, cond}
@@ -13,7 +14,6 @@ use Rattle.layout.specs.Kinds as kind
 use Rattle.layout.specs.Records.{Rec, ◌!◌, size_at, kind_at, body_at, rest, records, choose}
 use Rattle.layout.specs.Forms.{record_bytes, printed}
 use Rattle.layout.specs.Questions.{question2}
-use Rattle.layout.specs.declared.Found.TheVariants.{Nothing}
 use Rattle.layout.proofs.Printed.{body-long, record-slice}
 use Rattle.layout.proofs.Walk.{rest_end}
 use Rattle.program.specs.Program.{nowhere}
@@ -197,7 +197,7 @@ all_raised k rs = printed (map (raise_rec k) rs)
 -- a pass that writes from the place `from` on has come to p and to the place `at`
 pub record Raising (k : ℕ) (s before after : List ℕ) (from p at : ℕ) : Type 0 where
   pub inside : p ≤ length s
-  pub whole : question2 (rest s p) ≡ Nothing
+  pub whole : question2 (rest s p) ≡ None
   pub raisable : AllRaisable k (rest s p)
   pub same-room : length after ≡ length before
   pub part : List ℕ
@@ -216,12 +216,12 @@ raise-first k s x from r = record {
 }
 
 -- as many bytes as the image has
-pub all-long : (k : ℕ) (s : List ℕ) → question2 (records s) ≡ Nothing → length (all_raised k (records s)) ≡ length s
+pub all-long : (k : ℕ) (s : List ℕ) → question2 (records s) ≡ None → length (all_raised k (records s)) ≡ length s
 all-long k s q = let e = chain_length k (records s) 0 (length s) (chained s q) in omega (arith, e)
 
 module _ {k : ℕ} {s x y : List ℕ} {from p at : ℕ} (r : Ready k s) (w : Raising k s x y from p at) where
   module _ (h : p < length s) where
-    here : (0 < size_at s p) × (question2 (rest s (p + size_at s p)) ≡ Nothing)
+    here : (0 < size_at s p) × (question2 (rest s (p + size_at s p)) ≡ None)
     here = whole-at s p h w.whole
 
     split : Raisable k (kind_at s p) (body_at s p) × AllRaisable k (rest s (p + size_at s p))

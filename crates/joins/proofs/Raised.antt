@@ -1,4 +1,5 @@
 -- Records with their functions raised, and behind others: the program that they make.
+use Rattle.std.specs.Prelude.{None}
 use mathlib.Core.Path.{◌≡◌, refl, sym, ap, ap₂, ◌∙◌, subst}
 use mathlib.Core.Logic.{◌≢◌}
 use mathlib.Core.List.{List, [], ◌∷◌, ◌++◌, map}
@@ -14,7 +15,6 @@ use Rattle.layout.specs.Records.{Rec, ◌!◌, every, choose}
 use Rattle.layout.specs.Forms.{literal_kind, literal_length}
 use Rattle.layout.specs.Scan.{scan}
 use Rattle.layout.specs.Questions.{length_of, plain_length, in_order, start, version_next, level_next, block_next, line_next, question3, question4}
-use Rattle.layout.specs.declared.Found.TheVariants.{Nothing}
 use Rattle.layout.specs.declared.Form.{Form}
 use Rattle.layout.proofs.Bools.{and_both}
 use Rattle.layout.proofs.Rows.{Rows, choose-each}
@@ -102,7 +102,7 @@ fit-one r e f = record {
   dispatch = λ k. let g : r.size ≡ 9 + 2 * r.body ! 4 = f ∙ rw k refl in omega (arith, e, g);
 }
 
-pub fits-from : (rs : List Rec) (p e : ℕ) → Chain p rs e → question3 Form.Wide rs ≡ Nothing → Fits rs
+pub fits-from : (rs : List Rec) (p e : ℕ) → Chain p rs e → question3 Form.Wide rs ≡ None → Fits rs
 unfolding question3 scan Chain Fits
 fits-from [] p e c q = tt
 fits-from (r ∷ rs) p e c q =
@@ -181,7 +181,7 @@ pub program-behind : (rs qs : List Rec) → Fits rs → (view qs).level ≡ 0 �
 program-behind rs qs f g c b = ap (λ (w : View). w.versions) (view-behind rs qs f g c b)
 
 -- records in order begin with a VERSION
-pub begins : (e : ℕ) (rs : List Rec) → question4 e rs ≡ Nothing → ((view rs).level ≡ 0) × ((view rs).code ≡ []) × ((view rs).blocks ≡ [])
+pub begins : (e : ℕ) (rs : List Rec) → question4 e rs ≡ None → ((view rs).level ≡ 0) × ((view rs).code ≡ []) × ((view rs).blocks ≡ [])
 unfolding question4 scan view_by in_order choose
 begins e [] q = (refl, refl, refl)
 begins e (r ∷ rs) q =

@@ -1,4 +1,5 @@
 -- Two programs, the second's functions behind the first's: both stand in the joined one, and what both passed it passes.
+use Rattle.std.specs.Prelude.{None}
 use mathlib.Core.Path.{◌≡◌, refl, ap, ◌∙◌}
 use mathlib.Core.List.{List, [], ◌∷◌, ◌++◌, map}
 use mathlib.Core.Option.{Option, none, some}
@@ -12,7 +13,6 @@ use borrow.Author.Tests.{eqb-true, eqb-false, ne_eqb, eq-eqb}
 use Rattle.layout.specs.Kinds as kind
 use Rattle.layout.specs.Tests.{◌and◌, any, found}
 use Rattle.layout.specs.Records.{Rec}
-use Rattle.layout.specs.declared.Found.TheVariants.{Nothing}
 use Rattle.layout.proofs.Bools.{and_both}
 use Rattle.program.specs.Program.{Instr, LIT, MOVE, USE, DUP, VEC, LEN, GET, SET, ARITH, SELECT, CAST, NAMED, STORE, PROM, FORCE, PEEK, POKE, CALL, DISPATCH, SKIP, Line, Block, Version, Program, program, find_version, has_function}
 use Rattle.program.specs.Search.{Question, first}
@@ -246,7 +246,7 @@ module _ (k m o : ℕ) (P Q : Program) (bp : Below k P) (bq : Below m Q) where
 
   -- a question that finds the same in both finds nothing in the joined program
   pub first-joined : (q q' r : Question) → Asks 0 0 k P J carries-first q r → Asks k o m Q J carries-second q' r
-      → first (question7 P) P ≡ Nothing → first (question7 Q) Q ≡ Nothing → first q P ≡ Nothing → first q' Q ≡ Nothing → first r J ≡ Nothing
+      → first (question7 P) P ≡ None → first (question7 Q) Q ≡ None → first q P ≡ None → first q' Q ≡ None → first r J ≡ None
   first-joined q q' r a b p7 q7 p q₁ =
       helds-back r J (helds-both r P (shift_program k o Q)
       (rw (program-0 P) at (helds-shifted 0 0 k P J carries-first q r a P (names_in k P bp) (helds (question7 P) P p7) (helds q P p)))

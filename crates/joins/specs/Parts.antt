@@ -1,11 +1,10 @@
 -- What the parts of a join state to each other.
-use Rattle.std.specs.Prelude.{◌≡◌, List, [], ◌∷◌, ℕ, ◌+◌, ◌≤◌, ◌<◌, length}
+use Rattle.std.specs.Prelude.{◌≡◌, List, [], ◌∷◌, ℕ, ◌+◌, ◌≤◌, ◌<◌, length, None}
 use Rattle.layout.specs.Bounds.{IMAGE}
 use Rattle.layout.specs.Kinds as kind
 use Rattle.layout.specs.Records.{Rec, ◌!◌, size_at, kind_at, body_at, records, choose}
 use Rattle.layout.specs.Forms.{record_bytes}
 use Rattle.layout.specs.Questions.{question2}
-use Rattle.layout.specs.declared.Found.TheVariants.{Nothing}
 use Rattle.joins.specs.Joins.{raised}
 
 -- each is a byte
@@ -27,7 +26,7 @@ AllRaisable k (r ∷ rs) = Raisable k r.kind r.body × AllRaisable k rs
 pub record Ready (k : ℕ) (s : List ℕ) : Type 0 where
   pub bytes : Bytes s
   pub short : length s ≤ IMAGE
-  pub whole : question2 (records s) ≡ Nothing
+  pub whole : question2 (records s) ≡ None
   pub raisable : AllRaisable k (records s)
 
 -- such a record stands at p

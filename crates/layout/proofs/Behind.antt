@@ -1,5 +1,7 @@
 -- The records of an image with bytes behind it, and records that follow one another.
+use Rattle.std.specs.Prelude.{None, Some}
 use mathlib.Core.Path.{◌≡◌, refl, sym, ap, ◌∙◌}
+use Rattle.layout.specs.Found.{Found}
 use mathlib.Core.List.{List, [], ◌∷◌, ◌++◌, map}
 use mathlib.Core.Bool.{Bool, true, false, cond, ◌||◌}
 use Prim.Native.Nat.{ℕ, zero, suc, ◌+◌, ◌-◌, ◌≤◌, ◌<◌}
@@ -14,23 +16,21 @@ use Rattle.layout.specs.Tests.{◌and◌}
 use Rattle.layout.specs.Records.{Rec, u16_at, size_of, size_at, kind_at, body_at, rec_of, rec_at, walk, rest, records}
 use Rattle.layout.specs.Scan.{scan}
 use Rattle.layout.specs.Questions.{question2}
-use Rattle.layout.specs.declared.Found.{Found}
-use Rattle.layout.specs.declared.Found.TheVariants.{Nothing, At}
 use Rattle.layout.proofs.Bools.{and_both}
 use Rattle.layout.proofs.Walk.{rest-cons, rest_end, size-at, kind-at, whole_length}
 use Rattle.layout.proofs.Printed.{body-long}
 
 -- ---- records that are whole
 
-passed : (t : Bool) (more : Found) (p : ℕ) → cond t more (At p) ≡ Nothing → (t ≡ true) × (more ≡ Nothing)
+passed : (t : Bool) (more : Found) (p : ℕ) → cond t more (Some p) ≡ None → (t ≡ true) × (more ≡ None)
 passed true more p e = (refl, e)
 passed false more p e = let z : ◌≡◌ {A = ℕ} 0 1 = cc in absurd (omega arith)
 
 -- the one at p, where question 2 found nothing from there on
-pub whole-at : (s : List ℕ) (p : ℕ) → p < length s → question2 (rest s p) ≡ Nothing → (0 < size_at s p) × (question2 (rest s (p + size_at s p)) ≡ Nothing)
+pub whole-at : (s : List ℕ) (p : ℕ) → p < length s → question2 (rest s p) ≡ None → (0 < size_at s p) × (question2 (rest s (p + size_at s p)) ≡ None)
 unfolding question2 scan
 whole-at s p h q =
-    let e : question2 (rec_at s p ∷ cond (eqb (size_at s p) 0) [] (rest s (p + size_at s p))) ≡ Nothing = sym (ap question2 (rest-cons s p h)) ∙ q in
+    let e : question2 (rec_at s p ∷ cond (eqb (size_at s p) 0) [] (rest s (p + size_at s p))) ≡ None = sym (ap question2 (rest-cons s p h)) ∙ q in
     let t = passed (ltb 0 (size_at s p) and true) (question2 (cond (eqb (size_at s p) 0) [] (rest s (p + size_at s p)))) p e in
     let l : 0 < size_at s p = ltb-true 0 (size_at s p) (and_both (ltb 0 (size_at s p)) true t.0).0 in
     (l, rw (ne_eqb (size_at s p) 0 (λ z. absurd (omega (arith, l, z)))) at t.1)
@@ -80,11 +80,11 @@ module _ (a t : List ℕ) where
     front-rec = rw (front-size, front-kind, front-body) refl
 
   -- its records are those of the image, then those behind its end
-  front_rest : (m p : ℕ) → length a ≤ p + m → p ≤ length a → question2 (rest a p) ≡ Nothing → rest (a ++ t) p ≡ rest a p ++ rest (a ++ t) (length a)
+  front_rest : (m p : ℕ) → length a ≤ p + m → p ≤ length a → question2 (rest a p) ≡ None → rest (a ++ t) p ≡ rest a p ++ rest (a ++ t) (length a)
   front_rest zero p f h q = let e : p ≡ length a = omega arith in rw (rest_end a p (omega arith), e) refl
   front_rest (suc m) p f h q = go (dec_lt p (length a)) (λ n l r x. front_rest m (p + n) (omega (arith, l)) r x)
     where
-      go : Dec (p < length a) → ((n : ℕ) → 0 < n → p + n ≤ length a → question2 (rest a (p + n)) ≡ Nothing → rest (a ++ t) (p + n) ≡ rest a (p + n) ++ rest (a ++ t) (length a)) → rest (a ++ t) p ≡ rest a p ++ rest (a ++ t) (length a)
+      go : Dec (p < length a) → ((n : ℕ) → 0 < n → p + n ≤ length a → question2 (rest a (p + n)) ≡ None → rest (a ++ t) (p + n) ≡ rest a (p + n) ++ rest (a ++ t) (length a)) → rest (a ++ t) p ≡ rest a p ++ rest (a ++ t) (length a)
       go (yes l) ih =
           let w = whole-at a p l q in
           let z = whole-size a p w.0 in
@@ -110,7 +110,7 @@ walk-behind (suc f) o p (b ∷ t) = go (size_of (b ∷ t)) (eqb (size_of (b ∷ 
     go n false ih = let e : o + p + n ≡ o + (p + n) = omega arith in ap (λ (l : List Rec). rec_of (o + p) (b ∷ t) n ∷ l) (ap (λ (i : ℕ). walk f i (drop n (b ∷ t))) e ∙ ih n)
 
 -- THE LAW: the records of an image that passed question 2, with bytes behind it
-pub records-behind : (a t : List ℕ) → question2 (records a) ≡ Nothing → records (a ++ t) ≡ records a ++ map (behind (length a)) (records t)
+pub records-behind : (a t : List ℕ) → question2 (records a) ≡ None → records (a ++ t) ≡ records a ++ map (behind (length a)) (records t)
 unfolding rest
 records-behind a t q =
     let n : length (a ++ t) - length a ≡ length t - 0 = rw (length-append a t) (omega arith) in
@@ -126,17 +126,17 @@ unfoldable pub Chain : ℕ → List Rec → ℕ → Type 0
 Chain p [] e = p ≡ e
 Chain p (r ∷ rs) e = (r.at ≡ p) × (r.size ≡ 4 + length r.body) × Chain (p + r.size) rs e
 
-chain-from : (s : List ℕ) (m p : ℕ) → length s ≤ p + m → p ≤ length s → question2 (rest s p) ≡ Nothing → Chain p (rest s p) (length s)
+chain-from : (s : List ℕ) (m p : ℕ) → length s ≤ p + m → p ≤ length s → question2 (rest s p) ≡ None → Chain p (rest s p) (length s)
 unfolding Chain
 chain-from s zero p f h q = rw (rest_end s p (omega arith)) (omega arith)
 chain-from s (suc m) p f h q = go (dec_lt p (length s)) (λ n l r x. chain-from s m (p + n) (omega (arith, l)) r x)
   where
-    go : Dec (p < length s) → ((n : ℕ) → 0 < n → p + n ≤ length s → question2 (rest s (p + n)) ≡ Nothing → Chain (p + n) (rest s (p + n)) (length s)) → Chain p (rest s p) (length s)
+    go : Dec (p < length s) → ((n : ℕ) → 0 < n → p + n ≤ length s → question2 (rest s (p + n)) ≡ None → Chain (p + n) (rest s (p + n)) (length s)) → Chain p (rest s p) (length s)
     go (yes l) ih =
         let w = whole-at s p l q in
         let z = whole-size s p w.0 in
         rw (rest-whole s p l w.0) (refl, sym (body-long s p (λ e. absurd (omega (arith, w.0, e)))), ih (size_at s p) w.0 z.1 w.1)
     go (no l) ih = rw (rest_end s p (omega arith)) (omega arith)
 
-pub chained : (s : List ℕ) → question2 (records s) ≡ Nothing → Chain 0 (records s) (length s)
+pub chained : (s : List ℕ) → question2 (records s) ≡ None → Chain 0 (records s) (length s)
 chained s q = chain-from s (length s) 0 (omega arith) (omega arith) q

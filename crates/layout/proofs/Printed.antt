@@ -1,4 +1,5 @@
 -- Records written one behind the other: the records of their bytes are they themselves, and the bytes of an image's records are the image.
+use Rattle.std.specs.Prelude.{None, Some}
 use mathlib.Core.Path.{◌≡◌, refl, sym, ap, ap₂, ◌∙◌}
 use mathlib.Core.List.{List, [], ◌∷◌, ◌++◌, map}
 use mathlib.Core.Bool.{Bool, true, false, cond, ◌||◌}
@@ -13,7 +14,6 @@ use Rattle.layout.specs.Records.{Rec, ◌!◌, u16_at, size_of, rec_of, size_at,
 use Rattle.layout.specs.Scan.{scan}
 use Rattle.layout.specs.Forms.{record_bytes, printed}
 use Rattle.layout.specs.Questions.{same, nothing, whole, question2}
-use Rattle.layout.specs.declared.Found.TheVariants.{Nothing, At}
 use Rattle.layout.proofs.Bools.{and_both}
 use Rattle.layout.proofs.Lists.{Each}
 
@@ -125,18 +125,18 @@ sizes t h = go (ltb (length t) 4) (ltb (u16_at t 0) 4) (ltb (length t) (u16_at t
     go false false false x y z h = (ltb-false _ _ y, ltb-false _ _ z, refl)
 
 -- a question that keeps nothing, where it finds nothing: each record is whole and passes
-pub all_pass : (ok : Unit {0} → Rec → Bool) (rs : List Rec) → scan ok same nothing tt rs ≡ Nothing → Each (λ (r : Rec). (0 < r.size) × (ok tt r ≡ true)) rs
+pub all_pass : (ok : Unit {0} → Rec → Bool) (rs : List Rec) → scan ok same nothing tt rs ≡ None → Each (λ (r : Rec). (0 < r.size) × (ok tt r ≡ true)) rs
 unfolding scan Each
 all_pass ok [] e = tt
 all_pass ok (r ∷ rs) e = go (ltb 0 r.size and ok tt r) refl e (all_pass ok rs)
   where
-    go : (a : Bool) → (ltb 0 r.size and ok tt r) ≡ a → cond a (scan ok same nothing tt rs) (At r.at) ≡ Nothing → (scan ok same nothing tt rs ≡ Nothing → Each (λ (r : Rec). (0 < r.size) × (ok tt r ≡ true)) rs)
+    go : (a : Bool) → (ltb 0 r.size and ok tt r) ≡ a → cond a (scan ok same nothing tt rs) (Some r.at) ≡ None → (scan ok same nothing tt rs ≡ None → Each (λ (r : Rec). (0 < r.size) × (ok tt r ≡ true)) rs)
         → Each (λ (r : Rec). (0 < r.size) × (ok tt r ≡ true)) (r ∷ rs)
     go true q h more = let z = and_both _ _ q in ((ltb-true _ _ z.0, z.1), more h)
     go false q h more = let z : ◌≡◌ {A = ℕ} 0 1 = cc in absurd (omega arith)
 
 -- and back
-pub pass_all : (ok : Unit {0} → Rec → Bool) (rs : List Rec) → Each (λ (r : Rec). (0 < r.size) × (ok tt r ≡ true)) rs → scan ok same nothing tt rs ≡ Nothing
+pub pass_all : (ok : Unit {0} → Rec → Bool) (rs : List Rec) → Each (λ (r : Rec). (0 < r.size) × (ok tt r ≡ true)) rs → scan ok same nothing tt rs ≡ None
 unfolding scan Each ◌and◌
 pass_all ok [] e = refl
 pass_all ok (r ∷ rs) e = rw (lt-ltb 0 r.size e.0.0, e.0.1) (pass_all ok rs e.1)
@@ -201,12 +201,12 @@ wholes (suc f) p (x ∷ t) l b e =
     long : (n : ℕ) → 4 ≤ n → n ≤ length (x ∷ t) → n ≡ 4 + length (take (n - 4) (drop 4 (x ∷ t)))
     long n l h = simp (length-take, length-drop) (omega (arith, l, h))
 
-pub all_whole : (s : List ℕ) → ((i : ℕ) → s ! i < 256) → question2 (records s) ≡ Nothing → Each Whole (records s)
+pub all_whole : (s : List ℕ) → ((i : ℕ) → s ! i < 256) → question2 (records s) ≡ None → Each Whole (records s)
 unfolding question2 rest
 all_whole s b e = (wholes (length s - 0) 0 s (omega arith) b (all_pass whole (records s) e)).0
 
 -- THE LAW: the bytes of an image's records are the image
-pub verbatim : (s : List ℕ) → ((i : ℕ) → s ! i < 256) → question2 (records s) ≡ Nothing → printed (records s) ≡ s
+pub verbatim : (s : List ℕ) → ((i : ℕ) → s ! i < 256) → question2 (records s) ≡ None → printed (records s) ≡ s
 unfolding question2 rest
 verbatim s b e = (wholes (length s - 0) 0 s (omega arith) b (all_pass whole (records s) e)).1
 

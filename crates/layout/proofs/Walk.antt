@@ -1,5 +1,7 @@
 -- The records as code that goes along the offsets meets them.
+use Rattle.std.specs.Prelude.{Some}
 use mathlib.Core.Path.{◌≡◌, refl, sym, ap, ◌∙◌}
+use Rattle.layout.specs.Found.{Found}
 use mathlib.Core.List.{List, [], ◌∷◌}
 use mathlib.Core.Bool.{Bool, true, false, cond, ◌||◌}
 use Prim.Native.Nat.{ℕ, zero, suc, ◌+◌, ◌-◌, ◌≤◌, ◌<◌}
@@ -12,8 +14,6 @@ use borrow.Author.Tests.{lt-ltb, le-ltb, ne_eqb, eqb-false, ltb-false}
 use Rattle.layout.specs.Tests.{◌and◌}
 use Rattle.layout.specs.Records.{Rec, ◌!◌, u16_at, size_of, rec_of, size_at, kind_at, body_at, rec_at, walk, rest}
 use Rattle.layout.specs.Scan.{scan}
-use Rattle.layout.specs.declared.Found.{Found}
-use Rattle.layout.specs.declared.Found.TheVariants.{At}
 
 -- past the end there are no bytes
 pub byte-outside : (s : List ℕ) (k : ℕ) → length s ≤ k → s ! k ≡ 0
@@ -131,15 +131,15 @@ module _ {S : Type 0} (ok : S → Rec → Bool) (next : S → Rec → S) (end : 
   unfolding scan
   at-end h = simp (rest_end s p h)
 
-  pub at-broken : p < length s → size_at s p ≡ 0 → scan ok next end st (rest s p) ≡ At p
+  pub at-broken : p < length s → size_at s p ≡ 0 → scan ok next end st (rest s p) ≡ Some p
   unfolding scan ◌and◌
   at-broken h z = simp (rest-cons s p h, z)
 
-  pub at-refused : p < length s → ok st (rec_at s p) ≡ false → scan ok next end st (rest s p) ≡ At p
+  pub at-refused : p < length s → ok st (rec_at s p) ≡ false → scan ok next end st (rest s p) ≡ Some p
   unfolding scan ◌and◌
   at-refused h r = rw (rest-cons s p h) (go (ltb 0 (size_at s p)))
     where
-      go : (b : Bool) → cond (b and ok st (rec_at s p)) (scan ok next end (next st (rec_at s p)) (cond (eqb (size_at s p) 0) [] (rest s (p + size_at s p)))) (At p) ≡ At p
+      go : (b : Bool) → cond (b and ok st (rec_at s p)) (scan ok next end (next st (rec_at s p)) (cond (eqb (size_at s p) 0) [] (rest s (p + size_at s p)))) (Some p) ≡ Some p
       go true = simp r
       go false = refl
 
@@ -156,10 +156,10 @@ module _ {S : Type 0} {ok : S → Rec → Bool} {next : S → Rec → S} {end : 
   pub ended : length s ≤ p → end st ≡ answer
   ended h = sym (w.left ∙ at-end ok next end s p st h)
 
-  pub broken : {n : ℕ} → p < length s → n ≡ size_at s p → n ≡ 0 → At p ≡ answer
+  pub broken : {n : ℕ} → p < length s → n ≡ size_at s p → n ≡ 0 → Some p ≡ answer
   broken h e z = sym (w.left ∙ at-broken ok next end s p st h (sym e ∙ z))
 
-  pub refused : p < length s → ok st (rec_at s p) ≡ false → At p ≡ answer
+  pub refused : p < length s → ok st (rec_at s p) ≡ false → Some p ≡ answer
   refused h r = sym (w.left ∙ at-refused ok next end s p st h r)
 
   pub passed : {n : ℕ} → p < length s → n ≡ size_at s p → (n ≡ 0 → ⊥) → ok st (rec_at s p) ≡ true → Along ok next end answer s (p + n) (next st (rec_at s p))
@@ -173,7 +173,7 @@ pub record Met {S : Type 0} (ok : S → Rec → Bool) (next : S → Rec → S) (
   pub whole : n ≡ 0 → ⊥
 
 module _ {S : Type 0} {ok : S → Rec → Bool} {next : S → Rec → S} {end : S → Found} {answer : Found} {s : List ℕ} {p : ℕ} {st : S} {n : ℕ} (w : Met ok next end answer s p st n) where
-  pub say-no : ok st (rec_at s p) ≡ false → At p ≡ answer
+  pub say-no : ok st (rec_at s p) ≡ false → Some p ≡ answer
   say-no r = refused w.along w.inside r
 
   pub go_on : (st' : S) → ok st (rec_at s p) ≡ true → next st (rec_at s p) ≡ st' → Along ok next end answer s (p + n) st'

@@ -3,6 +3,7 @@ pub mod Kinds
 pub mod Tests
 pub mod Records
 pub mod Forms
+pub mod Found
 pub mod Scan
 pub mod Questions
 pub mod Turns

@@ -1,5 +1,6 @@
 -- Questions 1 to 5: the bytes and the records.
-use Rattle.std.specs.Prelude.{List, [], ◌∷◌, Bool, true, cond, not, ◌||◌, ℕ, ◌+◌, ◌-◌, ◌*◌, length, ltb, leb, eqb}
+use Rattle.std.specs.Prelude.{List, [], ◌∷◌, Bool, true, cond, not, ◌||◌, ℕ, ◌+◌, ◌-◌, ◌*◌, length, ltb, leb, eqb, None, Some}
+use Rattle.layout.specs.Found.{Found}
 use Rattle.std.proofs.Math.Option.{Option, none, some}
 use Rattle.layout.specs.Bounds.{IMAGE, FUNCTIONS, VERSIONS, ALL-VERSIONS, LEVELS, REGISTERS, PARAMETERS, BLOCKS, INSTRUCTIONS, OPERANDS, MARKS, OPERATIONS}
 use Rattle.layout.specs.Kinds as kind
@@ -7,14 +8,12 @@ use Rattle.layout.specs.Tests.{◌and◌}
 use Rattle.layout.specs.Records.{Rec, ◌!◌, choose}
 use Rattle.layout.specs.Forms.{literal_kind, literal_length}
 use Rattle.layout.specs.Scan.{scan}
-use Rattle.layout.specs.declared.Found.{Found}
-use Rattle.layout.specs.declared.Found.TheVariants.{Nothing, At}
 use Rattle.layout.specs.declared.Due.{Due}
 use Rattle.layout.specs.declared.Form.{Form}
 
 -- 1: has the image 1..32,768 bytes?
 unfoldable pub question1 : List ℕ → Found
-question1 s = cond (ltb 0 (length s) and leb (length s) IMAGE) Nothing (At 0)
+question1 s = cond (ltb 0 (length s) and leb (length s) IMAGE) None (Some 0)
 
 -- for a question that keeps nothing from record to record
 abbrev pub same : Unit {0} → Rec → Unit {0}
@@ -22,7 +21,7 @@ same st r = st
 
 -- for a question that asks nothing at the end
 abbrev pub nothing : {S : Type 0} → S → Found
-nothing st = Nothing
+nothing st = None
 
 -- 2: does each record have a full head, a length of at least 4, and end inside the image? `scan` asks that of every record
 abbrev pub whole : Unit {0} → Rec → Bool
@@ -137,7 +136,7 @@ start = record { versions = 0; levels = 0; blocks = 0; instructions = 0 }
 
 -- where records are missing, the offset is the image length
 unfoldable pub none_due : ℕ → Due → Found
-none_due end due = cond (idle due) Nothing (At end)
+none_due end due = cond (idle due) None (Some end)
 
 -- 4: are a VERSION's numbers and counts, the count of versions so far, instruction counts, levels, marks, op and n in bounds, and records in order?
 abbrev pub placed : Due → Rec → Bool

@@ -13,13 +13,6 @@ pub mod bounds;
 pub mod kinds;
 pub mod ownerships;
 
-/// The offset of the first record that fails a question, or that none does.
-#[derive(Clone, Copy)]
-pub enum Found {
-    Nothing,
-    At(usize),
-}
-
 /// A byte as a number.
 pub fn wide(x: u8) -> usize
     ensures { (result ≡ x) × (result < 256) }
@@ -81,31 +74,31 @@ pub fn field(image: &[u8], p: usize, k: usize) -> usize
 }
 
 /// Question 1: has the image 1 to 32,768 bytes?
-pub fn question_1(image: &[u8]) -> Found
+pub fn question_1(image: &[u8]) -> Option<usize>
     ensures { result ≡ question1 image.now }
 {
     if image.len() == 0 {
-        return Found::At(0);
+        return Some(0);
     }
     if bounds::IMAGE < image.len() {
-        return Found::At(0);
+        return Some(0);
     }
-    Found::Nothing
+    None
 }
 
 /// Question 2: is each record whole?
-pub fn question_2(image: &[u8]) -> Found
+pub fn question_2(image: &[u8]) -> Option<usize>
     ensures { result ≡ question2 (records image.now) }
 {
     let mut p = 0;
     while p < image.len() {
         let n = size_at(image, p);
         if n == 0 {
-            return Found::At(p);
+            return Some(p);
         }
         p += n;
     }
-    Found::Nothing
+    None
 }
 
 /// The form of an image, by its literals: numbers of 32 bits, or of 64.
@@ -177,21 +170,21 @@ fn length_at(image: &[u8], p: usize, form: Form) -> usize
 }
 
 /// Question 3: is each kind known in the form, its length the one its fields make?
-pub fn question_3(image: &[u8], form: Form) -> Found
+pub fn question_3(image: &[u8], form: Form) -> Option<usize>
     ensures { result ≡ question3 form (records image.now) }
 {
     let mut p = 0;
     while p < image.len() {
         let n = size_at(image, p);
         if n == 0 {
-            return Found::At(p);
+            return Some(p);
         }
         if n != length_at(image, p, form) {
-            return Found::At(p);
+            return Some(p);
         }
         p += n;
     }
-    Found::Nothing
+    None
 }
 
 /// What question 4 keeps: the versions so far, and the levels (one at most), blocks and instructions that are due.
@@ -201,13 +194,6 @@ pub struct Due {
     pub levels: usize,
     pub blocks: usize,
     pub instructions: usize,
-}
-
-/// What question 4 says to a record: what is due after it, or no.
-#[derive(Clone, Copy)]
-pub enum Turn {
-    Next(Due),
-    Refused,
 }
 
 /// Are the function, version, parameters, registers and blocks of the VERSION at `p` in bounds?
@@ -283,16 +269,16 @@ fn is_idle(due: Due) -> bool
 }
 
 /// The VERSION at `p`.
-fn after_version(image: &[u8], p: usize, due: Due) -> Turn
+fn after_version(image: &[u8], p: usize, due: Due) -> Option<Due>
     ensures { result ≡ turn_of (version_next due) (after_version due (body_at image.now p)) }
 {
     if bounds::ALL_VERSIONS <= due.versions {
-        return Turn::Refused;
+        return None;
     }
     if !is_idle(due) {
-        return Turn::Refused;
+        return None;
     }
-    Turn::Next(Due {
+    Some(Due {
         versions: due.versions + 1,
         levels: 1,
         blocks: field(image, p, 5),
@@ -301,13 +287,13 @@ fn after_version(image: &[u8], p: usize, due: Due) -> Turn
 }
 
 /// A LEVEL.
-fn after_level(due: Due) -> Turn
+fn after_level(due: Due) -> Option<Due>
     ensures { result ≡ turn_of (level_next due) (after_level due) }
 {
     if due.levels == 0 {
-        return Turn::Refused;
+        return None;
     }
-    Turn::Next(Due {
+    Some(Due {
         versions: due.versions,
         levels: due.levels - 1,
         blocks: due.blocks,
@@ -316,20 +302,20 @@ fn after_level(due: Due) -> Turn
 }
 
 /// The BLOCK at `p`.
-fn after_block(image: &[u8], p: usize, due: Due) -> Turn
+fn after_block(image: &[u8], p: usize, due: Due) -> Option<Due>
     ensures { result ≡ turn_of (block_next due) (after_block due (body_at image.now p)) }
 {
     let levels = due.levels;
     if levels != 0 {
-        return Turn::Refused;
+        return None;
     }
     if due.blocks == 0 {
-        return Turn::Refused;
+        return None;
     }
     if due.instructions != 0 {
-        return Turn::Refused;
+        return None;
     }
-    Turn::Next(Due {
+    Some(Due {
         versions: due.versions,
         levels: levels,
         blocks: due.blocks - 1,
@@ -338,13 +324,13 @@ fn after_block(image: &[u8], p: usize, due: Due) -> Turn
 }
 
 /// An instruction.
-fn after_line(due: Due) -> Turn
+fn after_line(due: Due) -> Option<Due>
     ensures { result ≡ turn_of (line_next due) (after_line due) }
 {
     if due.instructions == 0 {
-        return Turn::Refused;
+        return None;
     }
-    Turn::Next(Due {
+    Some(Due {
         versions: due.versions,
         levels: due.levels,
         blocks: due.blocks,
@@ -353,7 +339,7 @@ fn after_line(due: Due) -> Turn
 }
 
 /// May the record at `p` stand where `due` is due, and what is due after it?
-fn due_after(image: &[u8], p: usize, due: Due) -> Turn
+fn due_after(image: &[u8], p: usize, due: Due) -> Option<Due>
     ensures { result ≡ turn_of (in_order due (kind_at image.now p)) (due_after due (rec_at image.now p)) }
 {
     match kind_at(image, p) {
@@ -365,7 +351,7 @@ fn due_after(image: &[u8], p: usize, due: Due) -> Turn
 }
 
 /// Question 4: are numbers and counts in bounds and records in order? Where records are missing, the offset is the image length.
-pub fn question_4(image: &[u8]) -> Found
+pub fn question_4(image: &[u8]) -> Option<usize>
     ensures { result ≡ question4 (length image.now) (records image.now) }
 {
     let mut p = 0;
@@ -378,26 +364,26 @@ pub fn question_4(image: &[u8]) -> Found
     while p < image.len() {
         let n = size_at(image, p);
         if n == 0 {
-            return Found::At(p);
+            return Some(p);
         }
         if in_bounds(image, p) {
             match due_after(image, p, due) {
-                Turn::Next(next) => {
+                Some(next) => {
                     due = next;
                     p += n;
                 }
-                Turn::Refused => {
-                    return Found::At(p);
+                None => {
+                    return Some(p);
                 }
             }
         } else {
-            return Found::At(p);
+            return Some(p);
         }
     }
     if is_idle(due) {
-        Found::Nothing
+        None
     } else {
-        Found::At(image.len())
+        Some(image.len())
     }
 }
 
@@ -428,7 +414,7 @@ fn in_sequence(image: &[u8], last: usize, p: usize) -> bool
 }
 
 /// Question 5: is the first version 0.0, and each next one the same function with version + 1, or function + 1 with version 0?
-pub fn question_5(image: &[u8]) -> Found
+pub fn question_5(image: &[u8]) -> Option<usize>
     ensures { result ≡ question5 (records image.now) }
 {
     let mut p = 0;
@@ -436,18 +422,18 @@ pub fn question_5(image: &[u8]) -> Found
     while p < image.len() {
         let n = size_at(image, p);
         if n == 0 {
-            return Found::At(p);
+            return Some(p);
         }
         if kind_at(image, p) == kinds::VERSION {
             if in_sequence(image, last, p) {
                 last = p;
                 p += n;
             } else {
-                return Found::At(p);
+                return Some(p);
             }
         } else {
             p += n;
         }
     }
-    Found::Nothing
+    None
 }

@@ -10,9 +10,8 @@ ghost use Rattle.store.specs.Acts.{ExecutesWith, Leaves};
 ghost use Rattle.listing.specs.Listing.{Gathers, Small, pick_in, vector_made};
 ghost use Rattle.listing.specs.Entering.{AllFull, Empties, Enters, passed_on};
 
-use layout::Found;
 use machine::{Activation, Opener};
-use store::{Did, Halt, Whole, cells, heap, stack};
+use store::{Did, Halt, cells, heap, stack};
 
 // ---- VEC
 
@@ -24,8 +23,8 @@ fn all_integers(bytes: &[u8; 2632], numbers: &[i64; 2129], k: usize, rs: &[u8]) 
     let mut i: usize = 0;
     while i < rs.len() {
         match cells::integer(bytes, numbers, k, rs[i]) {
-            Whole::Is(_) => i += 1,
-            Whole::Stuck => return false,
+            Some(_) => i += 1,
+            None => return false,
         }
     }
     true
@@ -77,7 +76,7 @@ pub fn vec(
     ensures { ExecutesWith most result bytes.old numbers.old bytes.new numbers.new counts.new k (VEC d rs.now) }
 {
     if all_integers(bytes, numbers, k, rs) {
-        let Found::At(w) = heap::free_vector(counts, most) else {
+        let Some(w) = heap::free_vector(counts, most) else {
             return Did::Stop(Halt::Vectors);
         };
         if 16 <= d {

@@ -1,5 +1,7 @@
 -- The table of an image that questions 3, 4 and 5 passed: record by record, what stands ahead is what the table says.
+use Rattle.std.specs.Prelude.{None}
 use mathlib.Core.Path.{◌≡◌, refl, sym, ap, ◌∙◌, subst}
+use Rattle.layout.specs.Found.{Found}
 use mathlib.Core.Logic.{◌⊎◌, inl, inr}
 use mathlib.Core.List.{List, [], ◌∷◌}
 use mathlib.Core.Option.{Option, none, some}
@@ -18,8 +20,6 @@ use Rattle.layout.specs.Questions.{version_in_bounds, in_bounds, in_order, due_a
 use Rattle.layout.specs.Questions.{same, nothing, question3, question4, question5, start}
 use Rattle.layout.specs.declared.Due.{Due}
 use Rattle.layout.specs.declared.Form.{Form}
-use Rattle.layout.specs.declared.Found.{Found}
-use Rattle.layout.specs.declared.Found.TheVariants.{Nothing}
 use Rattle.layout.proofs.Bools.{and_both}
 use Rattle.layout.proofs.Walk.{rest-cons, rest_end, size_room}
 use Rattle.program.specs.Program.{Version, View, block_of, version_of, line_of, nowhere, put, put_by, find_version}
@@ -398,8 +398,8 @@ module _ (s : List ℕ) (p : ℕ) (fits : Fitting s p) (low : ℕ) (d : Due) (c 
 -- ---- all records
 
 -- a question that passed at p: of the record there, and of those behind it
-scan-on : {S : Type 0} (ok : S → Rec → Bool) (next : S → Rec → S) (end : S → Found) (s : List ℕ) (p : ℕ) (st : S) → p < length s → scan ok next end st (rest s p) ≡ Nothing
-    → (size_at s p ≡ 0 → ⊥) × (ok st (rec_at s p) ≡ true) × (scan ok next end (next st (rec_at s p)) (rest s (past s p)) ≡ Nothing)
+scan-on : {S : Type 0} (ok : S → Rec → Bool) (next : S → Rec → S) (end : S → Found) (s : List ℕ) (p : ℕ) (st : S) → p < length s → scan ok next end st (rest s p) ≡ None
+    → (size_at s p ≡ 0 → ⊥) × (ok st (rec_at s p) ≡ true) × (scan ok next end (next st (rec_at s p)) (rest s (past s p)) ≡ None)
 unfolding scan
 scan-on ok next end s p st l h =
     let a = passed _ _ p (rw (rest-cons s p l) at h) in
@@ -409,9 +409,9 @@ scan-on ok next end s p st l h =
 
 -- what is left to be shown from p on: the answers of questions 3, 4 and 5 to the records from there
 record Asked (s : List ℕ) (p : ℕ) (d : Due) (last : Option Rec) : Type 0 where
-  third : scan (fitting Form.Wide) same nothing tt (rest s p) ≡ Nothing
-  fourth : scan placed due_after (none_due (length s)) d (rest s p) ≡ Nothing
-  fifth : scan following last_version nothing last (rest s p) ≡ Nothing
+  third : scan (fitting Form.Wide) same nothing tt (rest s p) ≡ None
+  fourth : scan placed due_after (none_due (length s)) d (rest s p) ≡ None
+  fifth : scan following last_version nothing last (rest s p) ≡ None
 
 -- from the end of a record on, whatever is due there
 abbrev Onward : List ℕ → ℕ → Type 0
@@ -423,13 +423,13 @@ module _ (s : List ℕ) (p : ℕ) (inside : p < length s) (low : ℕ) (d : Due) 
   abbrev r : Rec
   r = rec_at s p
 
-  q3 : (size_at s p ≡ 0 → ⊥) × (fitting Form.Wide tt r ≡ true) × (scan (fitting Form.Wide) same nothing tt (rest s (past s p)) ≡ Nothing)
+  q3 : (size_at s p ≡ 0 → ⊥) × (fitting Form.Wide tt r ≡ true) × (scan (fitting Form.Wide) same nothing tt (rest s (past s p)) ≡ None)
   q3 = scan-on (fitting Form.Wide) same nothing s p tt inside A.third
 
-  q4 : (size_at s p ≡ 0 → ⊥) × (placed d r ≡ true) × (scan placed due_after (none_due (length s)) (due_after d r) (rest s (past s p)) ≡ Nothing)
+  q4 : (size_at s p ≡ 0 → ⊥) × (placed d r ≡ true) × (scan placed due_after (none_due (length s)) (due_after d r) (rest s (past s p)) ≡ None)
   q4 = scan-on placed due_after (none_due (length s)) s p d inside A.fourth
 
-  q5 : (size_at s p ≡ 0 → ⊥) × (following last r ≡ true) × (scan following last_version nothing (last_version last r) (rest s (past s p)) ≡ Nothing)
+  q5 : (size_at s p ≡ 0 → ⊥) × (following last r ≡ true) × (scan following last_version nothing (last_version last r) (rest s (past s p)) ≡ None)
   q5 = scan-on following last_version nothing s p last inside A.fifth
 
   fits : Fitting s p
@@ -504,7 +504,7 @@ module _ (s : List ℕ) (p : ℕ) (inside : p < length s) (low : ℕ) (d : Due) 
 at-end : (s : List ℕ) (p : ℕ) → length s ≤ p → Onward s p
 unfolding scan none_due
 at-end s p l low d c t last R P A =
-    let a = passed _ Nothing (length s) (rw (rest_end s p l) at A.fourth) in
+    let a = passed _ None (length s) (rw (rest_end s p l) at A.fourth) in
     let b = and_both _ _ a.0 in
     let e = and_both _ _ b.1 in
     rw (filled-end s p c t l, view-end s p l) (none_left s low d p c t R (eqb-true _ _ b.0) (eqb-true _ _ e.0) (eqb-true _ _ e.1))

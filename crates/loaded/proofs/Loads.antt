@@ -1,4 +1,5 @@
 -- What `load` answers, by the verdict and the table's length.
+use Rattle.std.specs.Prelude.{None}
 use mathlib.Core.Path.{◌≡◌, refl, ap, ◌∙◌}
 use mathlib.Core.List.{List}
 use Prim.Native.Nat.{ℕ, ◌≤◌, ◌<◌, min}
@@ -8,7 +9,6 @@ use borrow.Author.Tests.{lt-ltb, le-ltb, leb-true}
 use Rattle.layout.specs.Bounds.{IMAGE}
 use Rattle.layout.specs.Records.{◌!◌, records}
 use Rattle.layout.specs.Questions.{question1}
-use Rattle.layout.specs.declared.Found.TheVariants.{Nothing}
 use Rattle.layout.proofs.Bools.{and_both}
 use Rattle.program.proofs.Laid.{passed}
 use Rattle.program.specs.Program.{find_version}
@@ -25,7 +25,7 @@ use Rattle.loaded.proofs.Finding.{no-versions}
 -- an accepted image is not too long
 pub not-long : (s : List ℕ) (n : ℕ) → verdict_of s ≡ Verdict.Accepted n → length s ≤ 32768
 unfolding question1
-not-long s n e = leb-true _ _ (and_both _ _ (passed _ Nothing 0 (Accept.passed s n e).q1).0).1
+not-long s n e = leb-true _ _ (and_both _ _ (passed _ None 0 (Accept.passed s n e).q1).0).1
 
 -- t₀ with all versions taken off is t
 module _ (s t₀ t : List ℕ) (long : length t ≡ length t₀) (free : (j : ℕ) → j < 256 → t ! j ≡ 0) where

@@ -1,4 +1,5 @@
 -- Blocks and instructions of the program that an image and a table stand for, by their numbers.
+use Rattle.std.specs.Prelude.{None, Some}
 use mathlib.Core.Path.{◌≡◌, refl, sym, ap, ◌∙◌}
 use mathlib.Core.List.{List, [], ◌∷◌}
 use mathlib.Core.Bool.{Bool, true, false, cond}
@@ -17,7 +18,6 @@ use Rattle.program.specs.Program.{Block, first_mark, mark_of}
 use Rattle.machine.specs.Steps.{instruction, block_end, outside, position}
 use Rattle.loaded.specs.Loaded.{instr_in, lines_in, count_in, entry_in, block_in, blocks_in, mark_by, record_at, version_in}
 use Rattle.loaded.specs.Answers.{block_of, next_of}
-use Rattle.loaded.specs.declared.BlockAt.{BlockAt}
 use Rattle.loaded.specs.declared.Next.{Next}
 
 module _ (s t : List ℕ) where
@@ -76,11 +76,11 @@ module _ (s t : List ℕ) where
 -- ---- as a look-up answers it
 
 module _ (s t : List ℕ) (k b : ℕ) {m : ℕ} (counted : m ≡ length (version_in s t k).blocks) where
-  pub found-block : {e : ℕ} → b < m → e ≡ entry_in t (128 + 8 * k + b) → block_of s t (BlockAt.Entry e) ≡ get_elem? (version_in s t k).blocks b
+  pub found-block : {e : ℕ} → b < m → e ≡ entry_in t (128 + 8 * k + b) → block_of s t (Some e) ≡ get_elem? (version_in s t k).blocks b
   unfolding block_of version_in
   found-block l x = let n = counted ∙ length-blocks s t (128 + 8 * k) (s ! (entry_in t k + 7)) in sym (block_at s t (128 + 8 * k) (s ! (entry_in t k + 7)) b (omega arith) ∙ rw x refl)
 
-  pub missing-block : m ≤ b → block_of s t BlockAt.Missing ≡ get_elem? (version_in s t k).blocks b
+  pub missing-block : m ≤ b → block_of s t None ≡ get_elem? (version_in s t k).blocks b
   unfolding block_of version_in
   missing-block l = let n = counted ∙ length-blocks s t (128 + 8 * k) (s ! (entry_in t k + 7)) in sym (no_block s t (128 + 8 * k) (s ! (entry_in t k + 7)) b (omega arith))
 
@@ -147,7 +147,7 @@ mark-is (suc zero) l = refl
 mark-is (suc (suc x)) l = absurd (omega arith)
 
 -- the mark of a version, by its block 0
-pub marked : (s t : List ℕ) (k e : ℕ) → block_of s t (BlockAt.Entry e) ≡ get_elem? (version_in s t k).blocks 0 → (block_in s t e).mark ≡ mark_of (version_in s t k)
+pub marked : (s t : List ℕ) (k e : ℕ) → block_of s t (Some e) ≡ get_elem? (version_in s t k).blocks 0 → (block_in s t e).mark ≡ mark_of (version_in s t k)
 unfolding block_of first_mark
 marked s t k e h = go (version_in s t k).blocks h
   where
@@ -155,7 +155,7 @@ marked s t k e h = go (version_in s t k).blocks h
     go [] h = let z : ◌≡◌ {A = ℕ} 0 1 = cc in absurd (omega arith)
     go (b ∷ bs) h = let z : block_in s t e ≡ b = cc in ap (λ (x : Block). x.mark) z
 
-pub unmarked : (s t : List ℕ) (k : ℕ) → block_of s t BlockAt.Missing ≡ get_elem? (version_in s t k).blocks 0 → 0 ≡ mark_of (version_in s t k)
+pub unmarked : (s t : List ℕ) (k : ℕ) → block_of s t None ≡ get_elem? (version_in s t k).blocks 0 → 0 ≡ mark_of (version_in s t k)
 unfolding block_of first_mark
 unmarked s t k h = go (version_in s t k).blocks h
   where

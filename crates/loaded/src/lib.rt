@@ -35,20 +35,6 @@ pub enum Loaded {
     Short(usize),
 }
 
-/// The number under which a version stands, 4 × function + version, or that there is none.
-#[derive(Clone, Copy)]
-pub enum Number {
-    Of(u8),
-    Missing,
-}
-
-/// The number of a block's record, or that there is no such block.
-#[derive(Clone, Copy)]
-pub enum BlockAt {
-    Entry(u16),
-    Missing,
-}
-
 /// What is next in a block: the instruction of a record, the end of the block, or nothing.
 /// A record behind the last one that an entry can say has a number of more than 16 bits.
 #[derive(Clone, Copy)]

@@ -8,7 +8,7 @@ ghost use Rattle.machine.specs.Steps.{position};
 ghost use Rattle.loaded.specs.Loaded.{block_in, entry_in, place_in, program_in, version_in};
 ghost use Rattle.loaded.specs.Answers.{block_of, next_of, version_of};
 
-use crate::{BlockAt, Next, Number};
+use crate::Next;
 
 /// The first entry of blocks.
 const BLOCK_ENTRIES: u16 = 128;
@@ -17,20 +17,20 @@ const BLOCK_ENTRIES: u16 = 128;
 const INSTRUCTIONS: u8 = 48;
 
 /// The version `w` of the function `f`.
-pub fn version(table: &[u8], f: u8, w: u8) -> Number
+pub fn version(table: &[u8], f: u8, w: u8) -> Option<u8>
     ensures { (s : List ℕ) → version_of s table.now result ≡ find_version (program_in s table.now) f w }
 {
     if 32 <= f {
-        return Number::Missing;
+        return None;
     }
     if 4 <= w {
-        return Number::Missing;
+        return None;
     }
     let k = 4 * f + w;
     if crate::entry(table, k as u16) == 0 {
-        return Number::Missing;
+        return None;
     }
-    Number::Of(k)
+    Some(k)
 }
 
 /// Where the record of the version under the number `k` stands in the image.
@@ -89,13 +89,13 @@ pub fn blocks(image: &[u8], table: &[u8], k: u8) -> u8
 }
 
 /// The record of its block `b`.
-pub fn block(image: &[u8], table: &[u8], k: u8, b: u8) -> BlockAt
+pub fn block(image: &[u8], table: &[u8], k: u8, b: u8) -> Option<u16>
     ensures { block_of image.now table.now result ≡ get_elem? (version_in image.now table.now k).blocks b }
 {
     if b < blocks(image, table, k) {
-        BlockAt::Entry(crate::entry(table, BLOCK_ENTRIES + 8 * (k as u16) + (b as u16)))
+        Some(crate::entry(table, BLOCK_ENTRIES + 8 * (k as u16) + (b as u16)))
     } else {
-        BlockAt::Missing
+        None
     }
 }
 
@@ -141,7 +141,7 @@ pub fn place_at(table: &[u8], i: u32) -> u16
 pub fn mark(image: &[u8], table: &[u8], k: u8) -> u8
     ensures { result ≡ mark_of (version_in image.now table.now k) }
 {
-    let BlockAt::Entry(i) = block(image, table, k, 0) else {
+    let Some(i) = block(image, table, k, 0) else {
         return 0;
     };
     mark_at(table, i)

@@ -1,5 +1,7 @@
 -- A new image, as code meets it: the bytes of a version by its place, bytes compared one by one, and what a change depends on.
+use Rattle.std.specs.Prelude.{None, Some}
 use mathlib.Core.Path.{◌≡◌, refl, ap, ◌∙◌}
+use Rattle.layout.specs.Found.{Found}
 use mathlib.Core.List.{List, [], ◌∷◌}
 use mathlib.Core.Option.{none, some}
 use mathlib.Core.Bool.{Bool, true, false, cond, not, ◌||◌}
@@ -15,8 +17,6 @@ use Rattle.layout.specs.Bounds.{IMAGE}
 use Rattle.layout.specs.Kinds as kind
 use Rattle.layout.specs.Tests.{◌and◌, found}
 use Rattle.layout.specs.Records.{◌!◌, size_at, kind_at, body_at}
-use Rattle.layout.specs.declared.Found.{Found}
-use Rattle.layout.specs.declared.Found.TheVariants.{Nothing, At}
 use Rattle.program.specs.Program.{Version, Program, nowhere, find_version}
 use Rattle.program.specs.Search.{Question, free, first}
 use Rattle.program.specs.Places.{view_at, past, version_at, version_place}
@@ -83,27 +83,27 @@ no_part s (x ∷ vs) f w e = go (eqb x.function f and eqb x.version w) (no_part 
     go false ih g = ih g
 
 module _ (s : List ℕ) (f w : ℕ) where
-  pub bytes-at : (p : ℕ) → version_place s f w ≡ At p → bytes_of s f w ≡ some (part s p)
+  pub bytes-at : (p : ℕ) → version_place s f w ≡ Some p → bytes_of s f w ≡ some (part s p)
   unfolding version_place
   bytes-at p e =
       let r = place_found (λ (v : Version). v.at) (find_version (program_of s) f w) p e in
       part_in s (program_of s) f w r.0 (followed-from (length s) s 0 (omega arith)) r.1 ∙ ap (λ (n : ℕ). some (part s n)) r.2
 
-  pub no_bytes : version_place s f w ≡ Nothing → bytes_of s f w ≡ none
+  pub no_bytes : version_place s f w ≡ None → bytes_of s f w ≡ none
   unfolding version_place
   no_bytes e = no_part s (program_of s) f w (place-nothing (λ (v : Version). v.at) (find_version (program_of s) f w) e)
 
 -- whether it stays, by its places in both images
 module _ (old new : List ℕ) (f w : ℕ) where
-  pub stays_at : (p q : ℕ) → version_place old f w ≡ At p → version_place new f w ≡ At q → same_in old new f w ≡ same_bytes (part old p) (part new q)
+  pub stays_at : (p q : ℕ) → version_place old f w ≡ Some p → version_place new f w ≡ Some q → same_in old new f w ≡ same_bytes (part old p) (part new q)
   unfolding same_in found
   stays_at p q a b = rw (bytes-at old f w p a, bytes-at new f w q b) refl
 
-  pub not-in-old : version_place old f w ≡ Nothing → same_in old new f w ≡ false
+  pub not-in-old : version_place old f w ≡ None → same_in old new f w ≡ false
   unfolding same_in found
   not-in-old a = rw (no_bytes old f w a) refl
 
-  pub not-in-new : (p : ℕ) → version_place old f w ≡ At p → version_place new f w ≡ Nothing → same_in old new f w ≡ false
+  pub not-in-new : (p : ℕ) → version_place old f w ≡ Some p → version_place new f w ≡ None → same_in old new f w ≡ false
   unfolding same_in found
   not-in-new p a b = rw (bytes-at old f w p a, no_bytes new f w b) refl
 
@@ -167,28 +167,28 @@ module _ (old new : List ℕ) (s : State) (p f w : ℕ) (ef : f ≡ body_at new 
   asked-idle e = rw (← ef, ← ew, e) refl
 
 module _ (old new : List ℕ) (s : State) where
-  pub differs : (p : ℕ) → first (question15 old new s) (program_of new) ≡ At p → answer15 old new s ≡ At p
+  pub differs : (p : ℕ) → first (question15 old new s) (program_of new) ≡ Some p → answer15 old new s ≡ Some p
   unfolding answer15 missing
   differs p e = rw e refl
 
-  pub is-missing : first (question15 old new s) (program_of new) ≡ Nothing → all_there (program_of new) s ≡ false → answer15 old new s ≡ At (length new)
+  pub is-missing : first (question15 old new s) (program_of new) ≡ None → all_there (program_of new) s ≡ false → answer15 old new s ≡ Some (length new)
   unfolding answer15 missing
   is-missing e h = rw (e, h) refl
 
-  pub all_stay : first (question15 old new s) (program_of new) ≡ Nothing → all_there (program_of new) s ≡ true → answer15 old new s ≡ Nothing
+  pub all_stay : first (question15 old new s) (program_of new) ≡ None → all_there (program_of new) s ≡ true → answer15 old new s ≡ None
   unfolding answer15 missing
   all_stay e h = rw (e, h) refl
 
   -- its offset lies within the new image
-  answer-in : (p : ℕ) → answer15 old new s ≡ At p → p ≤ length new
+  answer-in : (p : ℕ) → answer15 old new s ≡ Some p → p ≤ length new
   unfolding answer15 missing
   answer-in p e = go (first (question15 old new s) (program_of new)) refl (all_there (program_of new) s) e
     where
-      go : (x : Found) → first (question15 old new s) (program_of new) ≡ x → (b : Bool) → missing new s x ≡ At p → p ≤ length new
-      go (At r) h b g = let y : r ≡ p = cc in omega (arith, first-low (question15 old new s) new r h)
-      go Nothing h b g = last (all_there (program_of new) s) g
+      go : (x : Found) → first (question15 old new s) (program_of new) ≡ x → (b : Bool) → missing new s x ≡ Some p → p ≤ length new
+      go (Some r) h b g = let y : r ≡ p = cc in omega (arith, first-low (question15 old new s) new r h)
+      go None h b g = last (all_there (program_of new) s) g
         where
-          last : (c : Bool) → cond c Nothing (At (length new)) ≡ At p → p ≤ length new
+          last : (c : Bool) → cond c None (Some (length new)) ≡ Some p → p ≤ length new
           last true k = let z : ◌≡◌ {A = ℕ} 0 1 = cc in absurd (omega arith)
           last false k = let y : length new ≡ p = cc in omega arith
 
@@ -198,15 +198,15 @@ module _ (old new : List ℕ) (s : State) where
   change-refused q p e = rw e refl
 
   module _ (k : ℕ) (e : verdict_of new ≡ Verdict.Accepted k) where
-    pub change-taken : answer15 old new s ≡ Nothing → change_of old new s ≡ Changed.Taken
+    pub change-taken : answer15 old new s ≡ None → change_of old new s ≡ Changed.Taken
     unfolding change_of change_after changed_by
     change-taken h = rw (e, h) refl
 
-    pub change-differs : (p : ℕ) → answer15 old new s ≡ At p → change_of old new s ≡ Changed.Refused 15 p
+    pub change-differs : (p : ℕ) → answer15 old new s ≡ Some p → change_of old new s ≡ Changed.Refused 15 p
     unfolding change_of change_after changed_by
     change-differs p h = rw (e, h) refl
 
-    pub answer-low : (p : ℕ) → answer15 old new s ≡ At p → p ≤ IMAGE
+    pub answer-low : (p : ℕ) → answer15 old new s ≡ Some p → p ≤ IMAGE
     answer-low p h = omega (arith, answer-in p h, accepted-short Form.Wide new k e)
 
 -- THE LAW: a change asks of a state only which versions have a live frame, and whether they are there
@@ -218,8 +218,8 @@ change-alike old new s t h g = go (verdict_of new)
     asks = λ i. record { of_version = λ v. not (h v.function v.version i) || same_in old new v.function v.version; of_block = free; of_instr = free }
 
     lacks : (x : Found) → missing new s x ≡ missing new t x
-    lacks (At p) = refl
-    lacks Nothing = ap (λ (b : Bool). cond b Nothing (At (length new))) (g (program_of new))
+    lacks (Some p) = refl
+    lacks None = ap (λ (b : Bool). cond b None (Some (length new))) (g (program_of new))
 
     answers : answer15 old new s ≡ answer15 old new t
     answers = lacks (first (question15 old new s) (program_of new)) ∙ ap (λ (q : Question). missing new t (first q (program_of new))) asks

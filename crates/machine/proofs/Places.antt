@@ -1,4 +1,5 @@
 -- Lists of places: what a read, a write and a search make of a place inside and of one outside.
+use Rattle.std.specs.Prelude.{None, Some}
 use mathlib.Core.Path.{◌≡◌, sym, ◌∙◌}
 use mathlib.Core.Bool.{Bool, true, false}
 use mathlib.Core.List.{List, map}
@@ -14,7 +15,6 @@ use Rattle.machine.specs.Frames.{read_of, written_of, holds}
 use Rattle.machine.specs.Try.{got, ◌>>=◌, ◌>>◌, at, put, or_stuck, stuck_unless}
 use Rattle.machine.specs.declared.Frame.{Frame}
 use Rattle.machine.specs.declared.Place.{Place}
-use Rattle.machine.specs.declared.Read.{Read}
 use Rattle.machine.specs.declared.Value.{Value}
 
 -- ---- look-ups and writes
@@ -25,11 +25,11 @@ length-mapped X Y f l n p = sym (length-map l f) ∙ p
 
 -- of n places, the one at i
 module _ (xs : List Place) (i n : ℕ) (sized : length xs ≡ n) where
-  pub read-inside : (d : Place) → i < n → Read.Holds (get_or xs i d).value ≡ read_of (at xs i >>= λ (c : Place). got c.value)
+  pub read-inside : (d : Place) → i < n → Some (get_or xs i d).value ≡ read_of (at xs i >>= λ (c : Place). got c.value)
   unfolding read_of at or_stuck ◌>>=◌
   read-inside d h = rw (get-some xs i d (omega arith))
 
-  pub read-outside : n ≤ i → Read.Outside ≡ read_of (at xs i >>= λ (c : Place). got c.value)
+  pub read-outside : n ≤ i → None ≡ read_of (at xs i >>= λ (c : Place). got c.value)
   unfolding read_of at or_stuck ◌>>=◌
   read-outside h = rw (get_none xs i (omega arith))
 

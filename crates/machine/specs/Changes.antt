@@ -1,9 +1,8 @@
 -- 02, 3: a state goes on under a newly accepted image where every version with a live frame has the same bytes and number in both.
-use Rattle.std.specs.Prelude.{List, [], ◌∷◌, Bool, true, false, cond, not, ◌||◌, ℕ, ◌-◌, length, drop, take, eqb}
+use Rattle.std.specs.Prelude.{List, [], ◌∷◌, Bool, true, false, cond, not, ◌||◌, ℕ, ◌-◌, length, drop, take, eqb, None, Some}
+use Rattle.layout.specs.Found.{Found}
 use Rattle.std.proofs.Math.Option.{Option, none, some}
 use Rattle.layout.specs.Tests.{◌and◌, all, any, found}
-use Rattle.layout.specs.declared.Found.{Found}
-use Rattle.layout.specs.declared.Found.TheVariants.{Nothing, At}
 use Rattle.program.specs.Program.{Version, Program, find_version}
 use Rattle.program.specs.Search.{Question, free, first}
 use Rattle.checker.specs.Verdicts.{verdict_of}
@@ -65,8 +64,8 @@ all_there P s = all (λ (k : Frame). found (find_version P k.function k.version)
 
 -- at the image's length where none differs and one is missing
 unfoldable pub missing : List ℕ → State → Found → Found
-missing new s (At p) = At p
-missing new s Nothing = cond (all_there (program_of new) s) Nothing (At (length new))
+missing new s (Some p) = Some p
+missing new s None = cond (all_there (program_of new) s) None (Some (length new))
 
 -- 15: is every version with a live frame the same in both images? The first that differs, or the length where one is missing
 unfoldable pub answer15 : List ℕ → List ℕ → State → Found
@@ -76,8 +75,8 @@ answer15 old new s = missing new s (first (question15 old new s) (program_of new
 
 -- a no gives 15 and its offset
 unfoldable pub changed_by : Found → Changed
-changed_by Nothing = Changed.Taken
-changed_by (At p) = Changed.Refused 15 p
+changed_by None = Changed.Taken
+changed_by (Some p) = Changed.Refused 15 p
 
 -- after the questions to the new image
 unfoldable pub change_after : Verdict → List ℕ → List ℕ → State → Changed

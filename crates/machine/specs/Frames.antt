@@ -1,20 +1,19 @@
 -- What the methods of a frame answer.
-use Rattle.std.specs.Prelude.{List, Bool, true, false}
+use Rattle.std.specs.Prelude.{List, Bool, true, false, None, Option, Some}
 use Rattle.layout.specs.Tests.{any}
 use Rattle.machine.specs.Try.{Try, got, stuck, stop}
 use Rattle.machine.specs.States.{is_vector, is_promise}
 use Rattle.machine.specs.declared.Frame.{Frame}
 use Rattle.machine.specs.declared.Place.{Place}
-use Rattle.machine.specs.declared.Read.{Read}
 use Rattle.machine.specs.declared.Referent.{Referent}
 use Rattle.machine.specs.declared.Value.{Value}
 use Rattle.machine.specs.declared.Written.{Written}
 
 -- a look-up as a reader answers it: no reading ends a run
-unfoldable pub read_of : Try Value → Read
-read_of (got v) = Read.Holds v
-read_of stuck = Read.Outside
-read_of (stop e) = Read.Outside
+unfoldable pub read_of : Try Value → Option Value
+read_of (got v) = Some v
+read_of stuck = None
+read_of (stop e) = None
 
 -- a write to the frame f as a writer answers it: no write ends a run
 unfoldable pub written_of : Frame → Try Frame → Written

@@ -233,13 +233,6 @@ pub enum Watch {
     Refused(u8, u16),
 }
 
-/// What reading a register or a name finds: its value, or that the frame has no such place.
-#[derive(Clone, Copy)]
-pub enum Read {
-    Outside,
-    Holds(Value),
-}
-
 /// What writing a register or a name leaves: the frame, as it was where it has no such place, and whether it has one.
 #[derive(Clone, Copy)]
 pub struct Written {
@@ -283,30 +276,30 @@ impl Frame {
     }
 
     /// Reads the register `r`.
-    pub fn register(self, r: u8) -> Read
+    pub fn register(self, r: u8) -> Option<Value>
         ensures { result ≡ read_of (register self r) }
     {
         let i = r as usize;
         if i < Frame::REGISTERS {
             let place = self.registers[i];
             let value = place.value;
-            Read::Holds(value)
+            Some(value)
         } else {
-            Read::Outside
+            None
         }
     }
 
     /// Reads the name `x`.
-    pub fn name(self, x: u8) -> Read
+    pub fn name(self, x: u8) -> Option<Value>
         ensures { result ≡ read_of (named self x) }
     {
         let i = x as usize;
         if i < Frame::NAMES {
             let place = self.names[i];
             let value = place.value;
-            Read::Holds(value)
+            Some(value)
         } else {
-            Read::Outside
+            None
         }
     }
 

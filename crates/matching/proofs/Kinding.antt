@@ -1,5 +1,8 @@
 -- Kinds by what the look-ups answered.
+use Rattle.std.specs.Prelude.{None, Some}
+use Rattle.loaded.specs.Answers.{BlockAt}
 use mathlib.Core.Path.{◌≡◌, refl, sym, ap, ◌∙◌}
+use Rattle.loaded.specs.Answers.{Number}
 use mathlib.Core.List.{List}
 use mathlib.Core.Option.{Option, none, some}
 use mathlib.Core.Logic.{◌⊎◌, inl, inr}
@@ -29,8 +32,6 @@ use Rattle.ending.specs.Ends.{returns_in}
 use Rattle.loaded.proofs.Finding as Find
 use Rattle.loaded.specs.Answers.{block_of, version_of}
 use Rattle.loaded.specs.Loaded.{block_in, entry_in, numbered_in, program_in, version_in}
-use Rattle.loaded.specs.declared.BlockAt.{BlockAt}
-use Rattle.loaded.specs.declared.Number.{Number}
 use Rattle.matching.specs.Kinds.{KindedCell, OfValue, kind_try, register_kind}
 
 -- ---- a kind as a number
@@ -63,11 +64,11 @@ promise-valued e l = (λ z. absurd (omega arith), omega arith)
 
 -- ---- what a look-up answered
 
-pub version-none : (s t : List ℕ) {r : Number} {o : Option Version} → version_of s t r ≡ o → r ≡ Number.Missing → o ≡ none
+pub version-none : (s t : List ℕ) {r : Number} {o : Option Version} → version_of s t r ≡ o → r ≡ None → o ≡ none
 unfolding version_of
 version-none s t e h = sym e ∙ ap (version_of s t) h
 
-pub version-some : (s t : List ℕ) {r : Number} {o : Option Version} {k : ℕ} → version_of s t r ≡ o → r ≡ Number.Of k → o ≡ some (version_in s t k)
+pub version-some : (s t : List ℕ) {r : Number} {o : Option Version} {k : ℕ} → version_of s t r ≡ o → r ≡ Some k → o ≡ some (version_in s t k)
 unfolding version_of
 version-some s t e h = sym e ∙ ap (version_of s t) h
 
@@ -76,7 +77,7 @@ unfolding version_in
 low-number s t f w k q a b = let x : (4 * f + w) / 4 ≡ k / 4 = ap (λ (X : Version). X.function) q in omega arith
 
 -- its number is one of the table
-pub version_low : (s t : List ℕ) (f w : ℕ) {r : Number} {k : ℕ} → version_of s t r ≡ find_version (program_in s t) f w → r ≡ Number.Of k → k < 128
+pub version_low : (s t : List ℕ) (f w : ℕ) {r : Number} {k : ℕ} → version_of s t r ≡ find_version (program_in s t) f w → r ≡ Some k → k < 128
 unfolding numbered_in
 version_low s t f w {k = k} e h = go (ltb f 32) (ltb w 4) refl refl
   where
@@ -122,18 +123,18 @@ module _ (s t b : List ℕ) (n : List ℤ) (p : ℕ) where
       unfolding kind_in ◌>>=◌ frame_in promise_in
       by-frame = rw (promise-at b n p h, sym of, live) refl
 
-      pub version-gone : {r : Number} → version_of s t r ≡ find_version (program_in s t) (b ! (32 * j + 24)) (b ! (32 * j + 25)) → r ≡ Number.Missing
+      pub version-gone : {r : Number} → version_of s t r ≡ find_version (program_in s t) (b ! (32 * j + 24)) (b ! (32 * j + 25)) → r ≡ None
           → kind_try 0 ≡ kind_in (program_in s t) (state_in b n) (Value.Promise p)
       unfolding ◌>>=◌ or_stuck kind_try
       version-gone v q = sym (by-frame ∙ rw (version-none s t v q) refl)
 
-      module _ {r : Number} (v : version_of s t r ≡ find_version (program_in s t) (b ! (32 * j + 24)) (b ! (32 * j + 25))) {k : ℕ} (q : r ≡ Number.Of k) where
-        pub block-gone : {r : BlockAt} → block_of s t r ≡ get_elem? (version_in s t k).blocks (b ! (2304 + 4 * p + 1)) → r ≡ BlockAt.Missing
+      module _ {r : Number} (v : version_of s t r ≡ find_version (program_in s t) (b ! (32 * j + 24)) (b ! (32 * j + 25))) {k : ℕ} (q : r ≡ Some k) where
+        pub block-gone : {r : BlockAt} → block_of s t r ≡ get_elem? (version_in s t k).blocks (b ! (2304 + 4 * p + 1)) → r ≡ None
             → kind_try 0 ≡ kind_in (program_in s t) (state_in b n) (Value.Promise p)
         unfolding ◌>>=◌ or_stuck kind_try at block_of
         block-gone x y = sym (by-frame ∙ rw (version-some s t v q, sym x, y) refl)
 
-        pub block-there : {r : BlockAt} {e m : ℕ} → block_of s t r ≡ get_elem? (version_in s t k).blocks (b ! (2304 + 4 * p + 1)) → r ≡ BlockAt.Entry e → m ≡ (block_in s t e).mark
+        pub block-there : {r : BlockAt} {e m : ℕ} → block_of s t r ≡ get_elem? (version_in s t k).blocks (b ! (2304 + 4 * p + 1)) → r ≡ Some e → m ≡ (block_in s t e).mark
             → kind_try (4 + m) ≡ kind_in (program_in s t) (state_in b n) (Value.Promise p)
         unfolding ◌>>=◌ or_stuck at block_of
         block-there {m = m} x y z = told m ∙ sym (by-frame ∙ rw (version-some s t v q, sym x, y, z) refl)

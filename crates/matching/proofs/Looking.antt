@@ -1,5 +1,7 @@
 -- 02, request 4: how many versions a search looks at.
+use Rattle.std.specs.Prelude.{None, Some, Option}
 use mathlib.Core.Path.{◌≡◌, refl, sym, ap, ◌∙◌}
+use Rattle.loaded.specs.Answers.{Number}
 use mathlib.Core.List.{List}
 use mathlib.Core.Bool.{Bool, true, false, false≢true}
 use Prim.Native.Nat.{ℕ, suc, ◌+◌, ◌-◌, ◌≤◌, ◌<◌}
@@ -10,10 +12,8 @@ use Rattle.program.specs.Program.{Program, Version, find_version}
 use Rattle.machine.specs.Calls.{looked, present, searched, versions_of}
 use Rattle.loaded.specs.Answers.{version_of}
 use Rattle.loaded.specs.Loaded.{program_in, version_in}
-use Rattle.loaded.specs.declared.Number.{Number}
 use Rattle.layout.specs.Records.{◌!◌}
 use Rattle.matching.specs.Arguments.{FitsIf, Passes, dispatches_at, searched_at}
-use Rattle.matching.specs.declared.Fit.{Fit}
 use Rattle.matching.proofs.Kinding.{version-none, version-some}
 
 module _ (P : Program) (f : ℕ) (p : Version → Bool) (n w : ℕ) where
@@ -61,7 +61,7 @@ module _ (s t : List ℕ) (f : ℕ) (p : Version → Bool) where
           record { most = omega arith; few = omega arith; rest = omega (arith, x, y, there) }
 
       module _ (r : Number) (found-by : version_of s t r ≡ find_version (program_in s t) f w) where
-        pub count-missing : r ≡ Number.Missing → Counting (program_in s t) f p (w + 1) c
+        pub count-missing : r ≡ None → Counting (program_in s t) f p (w + 1) c
         unfolding present
         count-missing e =
             let g = version-none s t found-by e in
@@ -69,7 +69,7 @@ module _ (s t : List ℕ) (f : ℕ) (p : Version → Bool) where
             let x = past (found_none p g) 0 (rw g refl) (omega arith) in
             rw z at x
 
-        module _ {k : ℕ} (e : r ≡ Number.Of k) where
+        module _ {k : ℕ} (e : r ≡ Some k) where
           pub count_past : p (version_in s t k) ≡ false → Counting (program_in s t) f p (w + 1) (c + 1)
           unfolding present
           count_past q = let g = version-some s t found-by e in past (found_some p g ∙ q) 1 (rw g refl) (omega arith)
@@ -78,12 +78,12 @@ module _ (s t : List ℕ) (f : ℕ) (p : Version → Bool) where
           count-here q = let g = version-some s t found-by e in sym (turn ∙ ap (λ m. c + m) (looked-here (program_in s t) f p (4 - (w + 1)) w (found_some p g ∙ q)))
 
 -- by the test of a DISPATCH
-module _ (s t : List ℕ) (own p j : ℕ) (ks : List ℕ) (x : Fit) (D : Passes x s t own p ks (version_in s t j)) where
-  pub passes-here : {m : ℕ} → x ≡ Fit.Yes m → dispatches_at s t own p ks (version_in s t j) ≡ true
+module _ (s t : List ℕ) (own p j : ℕ) (ks : List ℕ) (x : Option ℕ) (D : Passes x s t own p ks (version_in s t j)) where
+  pub passes-here : {m : ℕ} → x ≡ Some m → dispatches_at s t own p ks (version_in s t j) ≡ true
   unfolding FitsIf
   passes-here q = (rw q at D).0
 
-  pub passes-past : x ≡ Fit.No → dispatches_at s t own p ks (version_in s t j) ≡ false
+  pub passes-past : x ≡ None → dispatches_at s t own p ks (version_in s t j) ≡ false
   unfolding FitsIf
   passes-past q = rw q at D
 

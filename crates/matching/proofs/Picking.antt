@@ -1,5 +1,7 @@
 -- Matching place by place, and the search along the versions of a function.
+use Rattle.std.specs.Prelude.{None, Some, Option}
 use mathlib.Core.Path.{◌≡◌, refl, sym, ap, ◌∙◌, subst}
+use Rattle.loaded.specs.Answers.{Number}
 use mathlib.Core.List.{List, [], ◌∷◌}
 use mathlib.Core.Option.{Option, none, some}
 use mathlib.Core.Bool.{Bool, true, false, false≢true, cond, ◌&&◌}
@@ -23,11 +25,9 @@ use Rattle.loaded.proofs.Dispatching.{in_two}
 use Rattle.loaded.specs.Answers.{version_of}
 use Rattle.loaded.specs.Dispatching.{admits_at}
 use Rattle.loaded.specs.Loaded.{program_in, version_in}
-use Rattle.loaded.specs.declared.Number.{Number}
 use Rattle.matching.specs.Arguments.{FitsIf, Masks, Matches, Passes, bit_of, dispatches_at, picked_at}
 use Rattle.matching.specs.Choosing.{Decides, called_at, decided_at}
 use Rattle.matching.specs.declared.Choice.{Choice}
-use Rattle.matching.specs.declared.Fit.{Fit}
 use Rattle.matching.proofs.Kinding.{version_low, version-none, version-some}
 
 -- ---- kinds against types
@@ -183,16 +183,16 @@ module _ (W : Version) (ks : List ℕ) (n : ℕ) where
 
     module _ (h : n ≤ length ks) where
       -- as many kinds as parameters, or not
-      pub fit-uneven : (n ≡ most → ⊥) → Matches Fit.No (take n ks) W
+      pub fit-uneven : (n ≡ most → ⊥) → Matches None (take n ks) W
       unfolding FitsIf
       fit-uneven z = match-uneven (take n ks) (parameter_types W) (λ e. z (sym (first_of n ks h) ∙ e ∙ types_long))
 
       module _ (same : n ≡ most) where
-        pub fit-not : (i : ℕ) {x t : ℕ} {y : Bool} → i < n → x ≡ ks ! i → t ≡ W.types ! i → y ≡ within x (t % 16) → y ≡ false → Matches Fit.No (take n ks) W
+        pub fit-not : (i : ℕ) {x t : ℕ} {y : Bool} → i < n → x ≡ ks ! i → t ≡ W.types ! i → y ≡ within x (t % 16) → y ≡ false → Matches None (take n ks) W
         unfolding FitsIf
         fit-not i l k f g e = let q = first_of n ks h in match-not (take n ks) (parameter_types W) i (omega arith) (rw (type_at i (omega arith), get_or-take n ks i 0 l) (rest-clashes k f g e))
 
-        pub fit-done : (i m : ℕ) → Fitting W ks n i m → i ≡ 0 → Matches (Fit.Yes m) (take n ks) W
+        pub fit-done : (i m : ℕ) → Fitting W ks n i m → i ≡ 0 → Matches (Some m) (take n ks) W
         unfolding FitsIf
         fit-done i m F z =
             let q = first_of n ks h in
@@ -211,15 +211,15 @@ module _ (W : Version) (ks : List ℕ) (n : ℕ) where
 
 -- ---- a version passes
 
-fits-same : (r : Fit) {x y : Bool} (ts : List ℕ) (n : ℕ) → x ≡ y → FitsIf r x ts n → FitsIf r y ts n
+fits-same : (r : Option ℕ) {x y : Bool} (ts : List ℕ) (n : ℕ) → x ≡ y → FitsIf r x ts n → FitsIf r y ts n
 fits-same r ts n e F = subst (λ (z : Bool). FitsIf r z ts n) e F
 
 module _ (s t : List ℕ) (own p : ℕ) (ks : List ℕ) (W : Version) where
-  pub passes-not : {a : Bool} → a ≡ admits_at s t own p W → a ≡ false → Passes Fit.No s t own p ks W
+  pub passes-not : {a : Bool} → a ≡ admits_at s t own p W → a ≡ false → Passes None s t own p ks W
   unfolding dispatches_at admits_at FitsIf
   passes-not e f = in_two _ _ _ _ ks W ∙ and-off _ (sym e ∙ f)
 
-  pub passes-by : {a : Bool} (r : Fit) → a ≡ admits_at s t own p W → a ≡ true → Matches r ks W → Passes r s t own p ks W
+  pub passes-by : {a : Bool} (r : Option ℕ) → a ≡ admits_at s t own p W → a ≡ true → Matches r ks W → Passes r s t own p ks W
   unfolding dispatches_at admits_at
   passes-by r e f M = fits-same r _ _ (sym (in_two _ _ _ _ ks W ∙ and-on _ (sym e ∙ f))) M
 
@@ -272,15 +272,15 @@ module _ (s t : List ℕ) (own p : ℕ) (ks : List ℕ) where
       looked-up : version_of s t r ≡ find_version (program_in s t) (s ! (p + 3)) w
       looked-up = found-by ∙ ap (λ (g : ℕ). find_version (program_in s t) g w) of
 
-      pub left-missing : r ≡ Number.Missing → Left (w + 1)
+      pub left-missing : r ≡ None → Left (w + 1)
       left-missing e = past (found_none (dispatches_at s t own p ks) (version-none s t looked-up e))
 
-      module _ {j : ℕ} (e : r ≡ Number.Of j) (x : Fit) (D : Passes x s t own p ks (version_in s t j)) where
-        pub left-past : x ≡ Fit.No → Left (w + 1)
+      module _ {j : ℕ} (e : r ≡ Some j) (x : Option ℕ) (D : Passes x s t own p ks (version_in s t j)) where
+        pub left-past : x ≡ None → Left (w + 1)
         unfolding FitsIf
         left-past q = let M = rw q at D in past (found_some (dispatches_at s t own p ks) (version-some s t looked-up e) ∙ M)
 
-        pub left_here : (n m : ℕ) → length ks ≡ n → x ≡ Fit.Yes m → Decides (Choice.Version j m) s t n (picked_at s t own p ks)
+        pub left_here : (n m : ℕ) → length ks ≡ n → x ≡ Some m → Decides (Choice.Version j m) s t n (picked_at s t own p ks)
         unfolding FitsIf Decides or_stuck
         left_here n m long q =
             let M = rw q at D in (
@@ -296,16 +296,16 @@ module _ (s t : List ℕ) (p n : ℕ) (ks : List ℕ) {f w : ℕ} (of : f ≡ s 
   named : version_of s t r ≡ find_version (program_in s t) (s ! (p + 3)) (s ! (p + 4))
   named = found-by ∙ rw (of, to) refl
 
-  pub called-missing : r ≡ Number.Missing → Decides Choice.Stuck s t n (called_at s t p ks)
+  pub called-missing : r ≡ None → Decides Choice.Stuck s t n (called_at s t p ks)
   unfolding Decides called_at ◌>>=◌ or_stuck
   called-missing e = rw (version-none s t named e) refl
 
-  module _ {j : ℕ} (e : r ≡ Number.Of j) (x : Fit) (M : Matches x ks (version_in s t j)) where
-    pub called-clashes : x ≡ Fit.No → Decides Choice.Stuck s t n (called_at s t p ks)
+  module _ {j : ℕ} (e : r ≡ Some j) (x : Option ℕ) (M : Matches x ks (version_in s t j)) where
+    pub called-clashes : x ≡ None → Decides Choice.Stuck s t n (called_at s t p ks)
     unfolding Decides called_at ◌>>=◌ ◌>>◌ or_stuck stuck_unless FitsIf
     called-clashes q = let N = rw q at M in rw (version-some s t named e, N) refl
 
-    pub called-fits : (m : ℕ) → length ks ≡ n → x ≡ Fit.Yes m → Decides (Choice.Version j m) s t n (called_at s t p ks)
+    pub called-fits : (m : ℕ) → length ks ≡ n → x ≡ Some m → Decides (Choice.Version j m) s t n (called_at s t p ks)
     unfolding Decides called_at ◌>>=◌ ◌>>◌ or_stuck stuck_unless FitsIf
     called-fits m long q = let N = rw q at M in (rw (version-some s t named e, N.0) refl, version_low s t _ _ found-by e, λ i l. N.1 i (omega arith))
 

@@ -17,7 +17,7 @@ ghost use Rattle.matching.specs.Choosing.{Cached, Chooses, Decides, DecidesBy, H
 
 use acts::Typed;
 use layout::kinds;
-use loaded::{BlockAt, Number, dispatch, lookup};
+use loaded::{dispatch, lookup};
 use typing::types;
 
 /// A number above all codes of kinds: a register has none.
@@ -25,13 +25,6 @@ const KINDLESS: u32 = 65536;
 
 /// The rows of a cache of choices.
 const ROWS: usize = 64;
-
-/// Whether arguments fit a version: they do, with a bit for each that goes to an owned parameter; or not.
-#[derive(Clone, Copy)]
-pub enum Fit {
-    Yes(u8),
-    No,
-}
 
 /// What a CALL or DISPATCH comes to before it opens a call: the number of the version that it calls and a bit for each argument that goes
 /// to an owned parameter; UNDEF where none fits; or stuck.
@@ -64,10 +57,10 @@ fn promise_kind(image: &[u8], table: &[u8], bytes: &[u8; 2632], p: u8) -> u8
     }
     let j = layout::wide(bytes[2304 + 4 * i]);
     if frames::is_live(bytes, j) {
-        let Number::Of(k) = lookup::version(table, bytes[32 * j + 24], bytes[32 * j + 25]) else {
+        let Some(k) = lookup::version(table, bytes[32 * j + 24], bytes[32 * j + 25]) else {
             return 0;
         };
-        let BlockAt::Entry(e) = lookup::block(image, table, k, bytes[2304 + 4 * i + 1]) else {
+        let Some(e) = lookup::block(image, table, k, bytes[2304 + 4 * i + 1]) else {
             return 0;
         };
         (types::PROMISE + layout::wide(lookup::mark_at(table, e))) as u8
@@ -239,14 +232,14 @@ fn bit(t: u8) -> u8
 }
 
 /// Are the first `n` of these the kinds of arguments for the version `j`, and which of them go to owned parameters?
-fn matches(image: &[u8], table: &[u8], j: u8, kinds: &[u8; 8], n: usize) -> Fit
+fn matches(image: &[u8], table: &[u8], j: u8, kinds: &[u8; 8], n: usize) -> Option<u8>
     requires { (n ≤ 8) × (n ≤ length kinds.now) }
     ensures { Matches result (take n kinds.now) (version_in image.now table.now j) }
 {
     let registers = lookup::registers(image, table, j);
     let most = lesser(lookup::parameters(image, table, j), registers);
     if n != most as usize {
-        return Fit::No;
+        return None;
     }
     let mut i = n;
     let mut owned: u8 = 0;
@@ -256,21 +249,21 @@ fn matches(image: &[u8], table: &[u8], j: u8, kinds: &[u8; 8], n: usize) -> Fit
         if types::is_within(layout::wide(kinds[i]), (t % 16) as usize) {
             owned = 2 * owned + bit(t);
         } else {
-            return Fit::No;
+            return None;
         }
     }
-    Fit::Yes(owned)
+    Some(owned)
 }
 
 /// Does the DISPATCH at the place `p`, in the version `own`, with arguments of these kinds, pass the version `j`?
-fn passes(image: &[u8], table: &[u8], own: u8, p: u16, j: u8, kinds: &[u8; 8], n: usize) -> Fit
+fn passes(image: &[u8], table: &[u8], own: u8, p: u16, j: u8, kinds: &[u8; 8], n: usize) -> Option<u8>
     requires { (n ≤ 8) × (n ≤ length kinds.now) }
     ensures { Passes result image.now table.now own p (take n kinds.now) (version_in image.now table.now j) }
 {
     if dispatch::admits(image, table, own, p, j) {
         matches(image, table, j, kinds, n)
     } else {
-        Fit::No
+        None
     }
 }
 
@@ -283,11 +276,11 @@ fn pick(image: &[u8], table: &[u8], own: u8, p: u16, kinds: &[u8; 8], n: usize) 
     let mut w: u8 = 0;
     while w < 4 {
         match lookup::version(table, f, w) {
-            Number::Of(j) => match passes(image, table, own, p, j, kinds, n) {
-                Fit::Yes(owned) => return Choice::Version(j, owned),
-                Fit::No => w += 1,
+            Some(j) => match passes(image, table, own, p, j, kinds, n) {
+                Some(owned) => return Choice::Version(j, owned),
+                None => w += 1,
             },
-            Number::Missing => w += 1,
+            None => w += 1,
         }
     }
     Choice::Undef
@@ -301,12 +294,12 @@ fn called(image: &[u8], table: &[u8], p: u16, kinds: &[u8; 8], n: usize) -> Choi
     let at = p as usize;
     let f = loaded::byte(image, at + 3);
     let w = loaded::byte(image, at + 4);
-    let Number::Of(j) = lookup::version(table, f, w) else {
+    let Some(j) = lookup::version(table, f, w) else {
         return Choice::Stuck;
     };
     match matches(image, table, j, kinds, n) {
-        Fit::Yes(owned) => Choice::Version(j, owned),
-        Fit::No => Choice::Stuck,
+        Some(owned) => Choice::Version(j, owned),
+        None => Choice::Stuck,
     }
 }
 
@@ -415,14 +408,14 @@ pub fn searched(image: &[u8], table: &[u8], own: u8, p: u16, kinds: &[u8; 8], n:
     let mut c: u8 = 0;
     while w < 4 {
         match lookup::version(table, f, w) {
-            Number::Of(j) => match passes(image, table, own, p, j, kinds, n) {
-                Fit::Yes(_) => return c + 1,
-                Fit::No => {
+            Some(j) => match passes(image, table, own, p, j, kinds, n) {
+                Some(_) => return c + 1,
+                None => {
                     c += 1;
                     w += 1;
                 }
             },
-            Number::Missing => w += 1,
+            None => w += 1,
         }
     }
     c
@@ -436,11 +429,11 @@ pub fn versions(image: &[u8], table: &[u8], f: u8) -> u8
     let mut c: u8 = 0;
     while w < 4 {
         match lookup::version(table, f, w) {
-            Number::Of(_) => {
+            Some(_) => {
                 c += 1;
                 w += 1;
             }
-            Number::Missing => w += 1,
+            None => w += 1,
         }
     }
     c

@@ -1,4 +1,5 @@
 -- An image with one register type byte changed: its records and its program.
+use Rattle.std.specs.Prelude.{None}
 use mathlib.Core.Path.{◌≡◌, refl, sym, ap, ◌∙◌, subst}
 use mathlib.Core.Logic.{◌≢◌, ◌⊎◌, inl, inr}
 use mathlib.Core.List.{List, [], ◌∷◌, map}
@@ -16,7 +17,6 @@ use Rattle.layout.specs.Records.{Rec, ◌!◌, u16_at, size_at, kind_at, body_at
 use Rattle.layout.specs.Scan.{scan}
 use Rattle.layout.specs.Forms.{literal_kind, literal_length}
 use Rattle.layout.specs.Questions.{question2, question3, length_of, plain_length, fitting}
-use Rattle.layout.specs.declared.Found.TheVariants.{Nothing}
 use Rattle.layout.specs.declared.Form.{Form}
 use Rattle.layout.proofs.Bools.{and_both}
 use Rattle.layout.proofs.Walk.{rest_end, size-at, kind-at}
@@ -101,12 +101,12 @@ no-head p r e (inl a) = inl a
 no-head p r e (inr (inl a)) = inr (omega (arith, e, a))
 no-head p r e (inr (inr a)) = inr (omega (arith, a.1))
 
-rest-changed : (s : List ℕ) (p x m c : ℕ) → length s ≤ c + m → c ≤ length s → question2 (rest s c) ≡ Nothing → Chain c (rest s c) (length s) → Asides p (rest s c) → rest (set s p x) c ≡ map (set_rec p x) (rest s c)
+rest-changed : (s : List ℕ) (p x m c : ℕ) → length s ≤ c + m → c ≤ length s → question2 (rest s c) ≡ None → Chain c (rest s c) (length s) → Asides p (rest s c) → rest (set s p x) c ≡ map (set_rec p x) (rest s c)
 unfolding Chain Asides
 rest-changed s p x zero c f h q ch a = rw (rest_end s c (omega arith)) (rest_end (set s p x) c (rw (length-set s p x) (omega arith)))
 rest-changed s p x (suc m) c f h q ch a = go (dec_lt c (length s)) (λ n l r y z w. rest-changed s p x m (c + n) (omega (arith, l)) r y z w)
   where
-    go : Dec (c < length s) → ((n : ℕ) → 0 < n → c + n ≤ length s → question2 (rest s (c + n)) ≡ Nothing → Chain (c + n) (rest s (c + n)) (length s) → Asides p (rest s (c + n)) → rest (set s p x) (c + n) ≡ map (set_rec p x) (rest s (c + n)))
+    go : Dec (c < length s) → ((n : ℕ) → 0 < n → c + n ≤ length s → question2 (rest s (c + n)) ≡ None → Chain (c + n) (rest s (c + n)) (length s) → Asides p (rest s (c + n)) → rest (set s p x) (c + n) ≡ map (set_rec p x) (rest s (c + n)))
         → rest (set s p x) c ≡ map (set_rec p x) (rest s c)
     go (yes l) ih =
         let w = whole-at s c l q in
@@ -120,7 +120,7 @@ rest-changed s p x (suc m) c f h q ch a = go (dec_lt c (length s)) (λ n l r y z
         ∙ rw (rec-same s p x c nh, sz, ih (size_at s c) w.0 z.1 w.1 ch'.2 a'.1) (ap (map (set_rec p x)) (sym e))
     go (no l) ih = rw (rest_end s c (omega arith)) (rest_end (set s p x) c (rw (length-set s p x) (omega arith)))
 
-pub records-changed : (s : List ℕ) (p x : ℕ) → question2 (records s) ≡ Nothing → Asides p (records s) → records (set s p x) ≡ map (set_rec p x) (records s)
+pub records-changed : (s : List ℕ) (p x : ℕ) → question2 (records s) ≡ None → Asides p (records s) → records (set s p x) ≡ map (set_rec p x) (records s)
 records-changed s p x q a = rest-changed s p x (length s) 0 (omega arith) (omega arith) q (chained s q) a
 
 -- ---- the program
@@ -153,7 +153,7 @@ unfoldable pub Sets : List Rec → Type 0
 Sets [] = Unit {0}
 Sets (r ∷ rs) = Set r × Sets rs
 
-pub sets-from : (rs : List Rec) (c e : ℕ) → Chain c rs e → question3 Form.Wide rs ≡ Nothing → Sets rs
+pub sets-from : (rs : List Rec) (c e : ℕ) → Chain c rs e → question3 Form.Wide rs ≡ None → Sets rs
 unfolding question3 scan Chain Sets length_of plain_length literal_kind literal_length choose
 sets-from [] c e ch q = tt
 sets-from (r ∷ rs) c e ch q =
@@ -270,7 +270,7 @@ module _ (p x : ℕ) where
       ∙ sym (ap retype_view (view-whole r rs (omega (arith, f.0.size))))
 
 -- THE LAW of the program of a changed image
-pub program-changed : (s : List ℕ) (p x : ℕ) → question2 (records s) ≡ Nothing → question3 Form.Wide (records s) ≡ Nothing → Asides p (records s) → program (records (set s p x)) ≡ retype p x (program (records s))
+pub program-changed : (s : List ℕ) (p x : ℕ) → question2 (records s) ≡ None → question3 Form.Wide (records s) ≡ None → Asides p (records s) → program (records (set s p x)) ≡ retype p x (program (records s))
 unfolding retype_view
 program-changed s p x q2 q3 a = ap (λ (rs : List Rec). program rs) (records-changed s p x q2 a) ∙ ap (λ (w : View). w.versions) (view-changed p x (records s) (sets-from (records s) 0 (length s) (chained s q2) q3) a)
 

@@ -1,5 +1,7 @@
 -- Where a pass stands at the record that fails: after a change of a register type byte it stands there likewise.
+use Rattle.std.specs.Prelude.{None, Some}
 use mathlib.Core.Path.{◌≡◌, refl, sym, ap, ◌∙◌, subst}
+use Rattle.layout.specs.Found.{Found}
 use mathlib.Core.Logic.{◌⊎◌, inl, inr}
 use mathlib.Core.List.{List}
 use mathlib.Core.Bool.{Bool, true, false, cond}
@@ -9,8 +11,6 @@ use lib.ListN.{length, length-set, set}
 use lib.Dec.{eqb}
 use Rattle.layout.specs.Records.{size_at, kind_at, rec_at, rest, records, choose}
 use Rattle.layout.specs.Questions.{question2}
-use Rattle.layout.specs.declared.Found.{Found}
-use Rattle.layout.specs.declared.Found.TheVariants.{Nothing, At}
 use Rattle.layout.proofs.Behind.{whole-at, whole-size, rest-whole}
 use Rattle.layout.proofs.Printed.{body-long}
 use Rattle.program.specs.Program.{Program, program}
@@ -32,10 +32,10 @@ use Rattle.mends.proofs.Mending.{refused-behind, sound-records, accepted-some, a
 
 -- ---- what refuses, and what an accepted image passed
 
-ask-cases : (n q r : ℕ) (x : Found) (more : Verdict) → ask n x more ≡ Refused q r → ((n ≡ q) × (x ≡ At r)) ⊎ ((x ≡ Nothing) × (more ≡ Refused q r))
+ask-cases : (n q r : ℕ) (x : Found) (more : Verdict) → ask n x more ≡ Refused q r → ((n ≡ q) × (x ≡ Some r)) ⊎ ((x ≡ None) × (more ≡ Refused q r))
 unfolding ask
-ask-cases n q r Nothing more e = inr (refl, e)
-ask-cases n q r (At p) more e = let z : n ≡ q = cc in let y : p ≡ r = cc in inl (z, ap At y)
+ask-cases n q r None more e = inr (refl, e)
+ask-cases n q r (Some p) more e = let z : n ≡ q = cc in let y : p ≡ r = cc in inl (z, ap Some y)
 
 -- the question that refused found the record at r
 module _ (s : List ℕ) (q r : ℕ) (m : mendable q ≡ true) where
@@ -43,16 +43,16 @@ module _ (s : List ℕ) (q r : ℕ) (m : mendable q ≡ true) where
   P = program (records s)
 
   abbrev Goal : Type 0
-  Goal = first (question_by q P) P ≡ At r
+  Goal = first (question_by q P) P ≡ Some r
 
-  by : (n : ℕ) → n ≡ q → first (question_by n P) P ≡ At r → Goal
-  by n z h = subst (λ (i : ℕ). first (question_by i P) P ≡ At r) z h
+  by : (n : ℕ) → n ≡ q → first (question_by n P) P ≡ Some r → Goal
+  by n z h = subst (λ (i : ℕ). first (question_by i P) P ≡ Some r) z h
 
   ten : from10 s ≡ Refused q r → Goal
   unfolding question_by choose
   ten e = go (ask-cases 10 q r (first (question10 P) P) _ e)
     where
-      go : ((10 ≡ q) × (first (question10 P) P ≡ At r)) ⊎ ((first (question10 P) P ≡ Nothing) × (Accepted (length P) ≡ Refused q r)) → Goal
+      go : ((10 ≡ q) × (first (question10 P) P ≡ Some r)) ⊎ ((first (question10 P) P ≡ None) × (Accepted (length P) ≡ Refused q r)) → Goal
       go (inl z) = by 10 z.0 z.1
       go (inr z) = let y = z.1 in let w : ◌≡◌ {A = ℕ} 0 1 = cc in absurd (omega arith)
 
@@ -60,7 +60,7 @@ module _ (s : List ℕ) (q r : ℕ) (m : mendable q ≡ true) where
   unfolding question_by choose
   nine e = go (ask-cases 9 q r (first (question9 P) P) _ e)
     where
-      go : ((9 ≡ q) × (first (question9 P) P ≡ At r)) ⊎ ((first (question9 P) P ≡ Nothing) × (from10 s ≡ Refused q r)) → Goal
+      go : ((9 ≡ q) × (first (question9 P) P ≡ Some r)) ⊎ ((first (question9 P) P ≡ None) × (from10 s ≡ Refused q r)) → Goal
       go (inl z) = by 9 z.0 z.1
       go (inr z) = ten z.1
 
@@ -68,7 +68,7 @@ module _ (s : List ℕ) (q r : ℕ) (m : mendable q ≡ true) where
   unfolding question_by choose mendable
   eight e = go (ask-cases 8 q r (first (question8 P) P) _ e)
     where
-      go : ((8 ≡ q) × (first (question8 P) P ≡ At r)) ⊎ ((first (question8 P) P ≡ Nothing) × (from18 s ≡ Refused q r)) → Goal
+      go : ((8 ≡ q) × (first (question8 P) P ≡ Some r)) ⊎ ((first (question8 P) P ≡ None) × (from18 s ≡ Refused q r)) → Goal
       go (inl z) = by 8 z.0 z.1
       go (inr z) = nine (refused-behind 18 q r _ _ refl m z.1).1
 
@@ -76,11 +76,11 @@ module _ (s : List ℕ) (q r : ℕ) (m : mendable q ≡ true) where
   unfolding question_by choose mendable
   six e = go (ask-cases 6 q r (first question6 P) _ e)
     where
-      go : ((6 ≡ q) × (first question6 P ≡ At r)) ⊎ ((first question6 P ≡ Nothing) × (from7 s ≡ Refused q r)) → Goal
+      go : ((6 ≡ q) × (first question6 P ≡ Some r)) ⊎ ((first question6 P ≡ None) × (from7 s ≡ Refused q r)) → Goal
       go (inl z) = by 6 z.0 z.1
       go (inr z) = eight (refused-behind 14 q r _ _ refl m (refused-behind 7 q r _ _ refl m z.1).1).1
 
-  pub refused-first : verdict_of s ≡ Refused q r → first (question_by q (program (records s))) (program (records s)) ≡ At r
+  pub refused-first : verdict_of s ≡ Refused q r → first (question_by q (program (records s))) (program (records s)) ≡ Some r
   unfolding verdict_in mendable
   refused-first e =
       let e1 = refused-behind 1 q r _ _ refl m e in
@@ -91,12 +91,12 @@ module _ (s : List ℕ) (q r : ℕ) (m : mendable q ≡ true) where
       six e5.1
 
 -- an accepted image passed it
-pub accepted-first : (s : List ℕ) (q : ℕ) → is_accepted (verdict_of s) ≡ true → first (question_by q (program (records s))) (program (records s)) ≡ Nothing
+pub accepted-first : (s : List ℕ) (q : ℕ) → is_accepted (verdict_of s) ≡ true → first (question_by q (program (records s))) (program (records s)) ≡ None
 unfolding question_by choose
 accepted-first s q e = let k = accepted-some (verdict_of s) e in let w = passed s k.0 k.1 in go (eqb q 6) (eqb q 8) (eqb q 9) w.q6 w.q8 w.q9 w.q10
   where
-    go : (x y z : Bool) → first question6 (program (records s)) ≡ Nothing → first (question8 (program (records s))) (program (records s)) ≡ Nothing → first (question9 (program (records s))) (program (records s)) ≡ Nothing → first (question10 (program (records s))) (program (records s)) ≡ Nothing
-        → first (cond x question6 (cond y (question8 (program (records s))) (cond z (question9 (program (records s))) (question10 (program (records s)))))) (program (records s)) ≡ Nothing
+    go : (x y z : Bool) → first question6 (program (records s)) ≡ None → first (question8 (program (records s))) (program (records s)) ≡ None → first (question9 (program (records s))) (program (records s)) ≡ None → first (question10 (program (records s))) (program (records s)) ≡ None
+        → first (cond x question6 (cond y (question8 (program (records s))) (cond z (question9 (program (records s))) (question10 (program (records s)))))) (program (records s)) ≡ None
     go true y z a b c d = a
     go false true z a b c d = b
     go false false true a b c d = c
@@ -106,10 +106,10 @@ accepted-first s q e = let k = accepted-some (verdict_of s) e in let w = passed 
 
 -- a pass along s has come to c and stands at h, and so does one along s after each change
 pub record Walking (s : List ℕ) (q r c : ℕ) (h : Here) : Type 0 where
-  pub own : Asking (question_by q (program (records s))) (At r) s c h
-  pub whole : question2 (rest s c) ≡ Nothing
+  pub own : Asking (question_by q (program (records s))) (Some r) s c h
+  pub whole : question2 (rest s c) ≡ None
   pub aside : (p : ℕ) → Among p (places (program (records s))) → Asides p (rest s c)
-  pub comes : (p x : ℕ) → Among p (places (program (records s))) → (k : Question) → first k (program (records (set s p x))) ≡ Nothing → Asking k Nothing (set s p x) c h
+  pub comes : (p x : ℕ) → Among p (places (program (records s))) → (k : Question) → first k (program (records (set s p x))) ≡ None → Asking k None (set s p x) c h
 
 pub walk_first : (s : List ℕ) (q r : ℕ) → mendable q ≡ true → verdict_of s ≡ Refused q r → Walking s q r 0 (record { version = length s; blocks = 0 })
 walk_first s q r m e = record {
@@ -117,14 +117,14 @@ walk_first s q r m e = record {
   whole = (sound-records s q r m e).1;
   aside = λ p a. apart s q r m e p a;
   comes = λ p x a k f.
-      subst (λ (n : ℕ). Asking k Nothing (set s p x) 0 (record { version = n; blocks = 0 })) (length-set s p x)
+      subst (λ (n : ℕ). Asking k None (set s p x) 0 (record { version = n; blocks = 0 })) (length-set s p x)
       (subst (λ (y : Found). Asking k y (set s p x) 0 (record { version = length (set s p x); blocks = 0 })) f (start k (set s p x)));
 }
 
-pub no_place : (p : ℕ) → At p ≡ Nothing → ⊥
+pub no_place : (p : ℕ) → Some p ≡ None → ⊥
 no_place p e = let z : ◌≡◌ {A = ℕ} 0 1 = cc in omega (arith, z)
 
-other_place : (p r : ℕ) → At p ≡ At r → (p ≡ r → ⊥) → ⊥
+other_place : (p r : ℕ) → Some p ≡ Some r → (p ≡ r → ⊥) → ⊥
 other_place p r e n = let z : p ≡ r = cc in n z
 
 is_true : (b : Bool) → (b ≡ false → ⊥) → b ≡ true
@@ -156,7 +156,7 @@ module _ {s : List ℕ} {q r c : ℕ} {h : Here} (w : Walking s q r c h) (l : c 
     its-move : {g : Here} → g ≡ moved_to s h c → g ≡ moved_to (set s p x) h c
     its-move e = e ∙ sym (moved_same s (set s p x) h c (kind-same s p x c (near p a)) (length-set s p x))
 
-    its-answer : {n : ℕ} {g : Here} → n ≡ size_at s c → g ≡ moved_to s h c → (k : Question) → first k (program (records (set s p x))) ≡ Nothing → asked k (set s p x) g c ≡ true
+    its-answer : {n : ℕ} {g : Here} → n ≡ size_at s c → g ≡ moved_to s h c → (k : Question) → first k (program (records (set s p x))) ≡ None → asked k (set s p x) g c ≡ true
     its-answer e f k y = is_true _ (λ z. no_place c (say-no (w.comes p x a k y) (its-whole e) (its-move f) z))
 
   -- at the record that fails: an image that passes the question after a change passes there

@@ -1,5 +1,7 @@
 -- 02, 14: a place and a value that mend: the byte is a register type of a VERSION, and the value is a type byte.
+use Rattle.std.specs.Prelude.{None, Some}
 use mathlib.Core.Path.{◌≡◌, refl, sym, ap, ◌∙◌, subst}
+use Rattle.layout.specs.Found.{Found}
 use mathlib.Core.Logic.{◌⊎◌, inl, inr}
 use mathlib.Core.List.{List, [], ◌∷◌, ◌++◌, map, flat_map}
 use mathlib.Core.Bool.{Bool, true, false, true≢false}
@@ -13,8 +15,6 @@ use Rattle.layout.specs.Tests.{◌and◌}
 use Rattle.layout.specs.Records.{Rec, ◌!◌, records, fields}
 use Rattle.layout.specs.Questions.{question1, question2, question3}
 use Rattle.layout.specs.declared.Form.{Form}
-use Rattle.layout.specs.declared.Found.{Found}
-use Rattle.layout.specs.declared.Found.TheVariants.{Nothing, At}
 use Rattle.layout.proofs.Behind.{chained}
 use Rattle.layout.proofs.Bools.{and_both}
 use Rattle.layout.proofs.Fields.{length-every}
@@ -38,13 +38,13 @@ use Rattle.mends.proofs.Searches.{kept, places-kept}
 
 -- ---- an image that is refused by 6, 8, 9 or 10
 
-pub refused-behind : (n q r : ℕ) (x : Found) (more : Verdict) → mendable n ≡ false → mendable q ≡ true → ask n x more ≡ Refused q r → (x ≡ Nothing) × (more ≡ Refused q r)
+pub refused-behind : (n q r : ℕ) (x : Found) (more : Verdict) → mendable n ≡ false → mendable q ≡ true → ask n x more ≡ Refused q r → (x ≡ None) × (more ≡ Refused q r)
 unfolding ask
-refused-behind n q r Nothing more a b e = (refl, e)
-refused-behind n q r (At p) more a b e = let z : n ≡ q = cc in absurd (true≢false (sym b ∙ ap mendable (sym z) ∙ a))
+refused-behind n q r None more a b e = (refl, e)
+refused-behind n q r (Some p) more a b e = let z : n ≡ q = cc in absurd (true≢false (sym b ∙ ap mendable (sym z) ∙ a))
 
 -- it passed 1, 2 and 3
-pub sound-records : (s : List ℕ) (q r : ℕ) → mendable q ≡ true → verdict_of s ≡ Refused q r → (question1 s ≡ Nothing) × (question2 (records s) ≡ Nothing) × (question3 Form.Wide (records s) ≡ Nothing)
+pub sound-records : (s : List ℕ) (q r : ℕ) → mendable q ≡ true → verdict_of s ≡ Refused q r → (question1 s ≡ None) × (question2 (records s) ≡ None) × (question3 Form.Wide (records s) ≡ None)
 unfolding verdict_in mendable
 sound-records s q r m e =
     let e1 = refused-behind 1 q r _ _ refl m e in
@@ -128,7 +128,7 @@ accepted-some (Refused q p) e = absurd (true≢false (sym e))
 
 -- a register type byte of an image that is refused by 6, 8, 9 or 10
 module _ (s : List ℕ) (q r : ℕ) (m : mendable q ≡ true) (e : verdict_of s ≡ Refused q r) (p : ℕ) (a : Among p (places (program (records s)))) where
-  sound : (question1 s ≡ Nothing) × (question2 (records s) ≡ Nothing) × (question3 Form.Wide (records s) ≡ Nothing)
+  sound : (question1 s ≡ None) × (question2 (records s) ≡ None) × (question3 Form.Wide (records s) ≡ None)
   sound = sound-records s q r m e
 
   sets : Sets (records s)
@@ -150,7 +150,7 @@ module _ (s : List ℕ) (q r : ℕ) (m : mendable q ≡ true) (e : verdict_of s 
   unfolding mends_by
   a-type x good =
       let k = accepted-some (verdict_of (set s p x)) (and_both _ _ good).1 in
-      let six : first question6 (retype p x (program (records s))) ≡ Nothing = subst (λ (R : Program). first question6 R ≡ Nothing) (changed x) (passed (set s p x) k.0 k.1).q6 in
+      let six : first question6 (retype p x (program (records s))) ≡ None = subst (λ (R : Program). first question6 R ≡ None) (changed x) (passed (set s p x) k.0 k.1).q6 in
       let v = typed-version p (records s) sets all_typed in
       own-type p x v.0 v.1 (held_in question6 (retype_one p x) v.0 (program (records s)) v.2 (helds question6 (retype p x (program (records s))) six))
 

@@ -1,11 +1,11 @@
 -- Flow looks at a register type by whether it is owned: of two values that agree in that, both let question 10 pass or neither does.
+use Rattle.std.specs.Prelude.{None}
 use mathlib.Core.Path.{◌≡◌, refl, sym, ap, ◌∙◌}
 use mathlib.Core.List.{List, [], ◌∷◌, map}
 use mathlib.Core.Option.{Option, none, some, Option-elim}
 use mathlib.Core.Bool.{Bool, true, false, cond}
 use Prim.Native.Nat.{ℕ, zero, suc, ◌+◌, ◌-◌}
 use lib.ListN.{length, set, take}
-use Rattle.layout.specs.declared.Found.TheVariants.{Nothing}
 use Rattle.program.specs.Program.{Instr, LIT, MOVE, USE, DUP, VEC, LEN, GET, SET, ARITH, SELECT, CAST, NAMED, STORE, PROM, FORCE, PEEK, POKE, CALL, DISPATCH, SKIP, Line, Block, Version, Program, find_version, beside, given}
 use Rattle.program.specs.Search.{first}
 use Rattle.program.proofs.Held.{Helds, helds, helds-back}
@@ -113,5 +113,5 @@ module _ (x y : ℕ) (o : is_owned x ≡ is_owned y) where
         (record { of_version = sym e ∙ h.0.of_version; of_block = λ n b g. refl; of_instr = λ n b i l g k. refl }, helds-same P vs h.1)
 
     -- THE LAW: 10 goes by whether the byte is owned
-    pub flow-by-ownership : (P : Program) → first (question10 (retype p x P)) (retype p x P) ≡ Nothing → first (question10 (retype p y P)) (retype p y P) ≡ Nothing
+    pub flow-by-ownership : (P : Program) → first (question10 (retype p x P)) (retype p x P) ≡ None → first (question10 (retype p y P)) (retype p y P) ≡ None
     flow-by-ownership P e = helds-back (question10 (retype p y P)) (retype p y P) (helds-same P P (helds (question10 (retype p x P)) (retype p x P) e))

@@ -1,4 +1,5 @@
 -- What the parts of the search for a mend know on their way.
+use Rattle.std.specs.Prelude.{None}
 use mathlib.Core.Path.{◌≡◌, refl, sym, ap, ◌∙◌, subst}
 use mathlib.Core.Logic.{inl, inr}
 use mathlib.Core.List.{List, [], ◌∷◌, ◌++◌, flat_map, append-nil}
@@ -14,7 +15,6 @@ use Rattle.layout.specs.Kinds as kind
 use Rattle.layout.specs.Tests.{◌and◌}
 use Rattle.layout.specs.Records.{Rec, ◌!◌, size_at, kind_at, records, choose}
 use Rattle.layout.specs.Questions.{question1}
-use Rattle.layout.specs.declared.Found.TheVariants.{Nothing}
 use Rattle.layout.proofs.Behind.{Chain, chained}
 use Rattle.layout.proofs.Bools.{and_both, and-on, and-off}
 use Rattle.layout.proofs.Walk.{size_in}
@@ -121,7 +121,7 @@ is-refused s e = rw e refl
 -- the byte at p of an image that 10 refuses
 module _ {s t : List ℕ} {r : ℕ} {h : Here} (f : Failing s t 10 r h) (p : ℕ) (a : Among p (places (program (records s)))) where
   abbrev Allowed : Program → Type 0
-  Allowed P = first (question10 P) P ≡ Nothing
+  Allowed P = first (question10 P) P ≡ None
 
   program-with : (x : ℕ) → program (records (set s p x)) ≡ retype p x (program (records s))
   program-with x = changed s 10 r f.refusal.may f.refusal.refused p a x
@@ -330,7 +330,7 @@ copied s out e f =
 -- it is no longer than an image may be
 pub refused-short : {s : List ℕ} {q r : ℕ} → Refusal s q r → length s ≤ IMAGE
 unfolding question1
-refused-short {s} {q} {r} f = leb-true _ _ (and_both _ _ (passed (ltb 0 (length s) and leb (length s) IMAGE) Nothing 0 (sound-records s q r f.may f.refused).0).0).1
+refused-short {s} {q} {r} f = leb-true _ _ (and_both _ _ (passed (ltb 0 (length s) and leb (length s) IMAGE) None 0 (sound-records s q r f.may f.refused).0).0).1
 
 pub found-short : {s : List ℕ} {q r : ℕ} {c : Change} → Refusal s q r → c ≡ first_place (mends_by s) TYPES (places (program (records s))) → c ≡ first_place (mends_by s) VALUES (places (program (records s)))
 found-short {s} {q} {r} f e = e ∙ short s q r f.may f.refused

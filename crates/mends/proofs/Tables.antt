@@ -1,5 +1,7 @@
 -- A change of a register type byte leaves the table of versions as it is.
+use Rattle.std.specs.Prelude.{None, Some}
 use mathlib.Core.Path.{◌≡◌, refl, ap, ap₂, ◌∙◌}
+use Rattle.layout.specs.Found.{Found}
 use mathlib.Core.List.{List, [], ◌∷◌, map}
 use mathlib.Core.Option.{Option, none, some}
 use mathlib.Core.Bool.{true}
@@ -7,8 +9,6 @@ use Prim.Native.Nat.{ℕ, ◌*◌, ◌/◌, ◌%◌}
 use lib.ListN.{length, length-set, set}
 use Rattle.layout.specs.Bounds.{VERSIONS, FUNCTIONS}
 use Rattle.layout.specs.Records.{records}
-use Rattle.layout.specs.declared.Found.{Found}
-use Rattle.layout.specs.declared.Found.TheVariants.{Nothing, At}
 use Rattle.program.specs.Program.{Version, Program, program, find_version}
 use Rattle.program.specs.Places.{place_of, version_place, offset_of, numbers, table_entry, table_of}
 use Rattle.checker.specs.Verdicts.{verdict_of}
@@ -22,12 +22,12 @@ use Rattle.mends.proofs.Mending.{changed}
 place_kept : (p x : ℕ) (o : Option Version) → place_of (λ (v : Version). v.at) (mapped (retype_one p x) o) ≡ place_of (λ (v : Version). v.at) o
 unfolding place_of mapped
 place_kept p x none = refl
-place_kept p x (some v) = ap At (stays p x v).at
+place_kept p x (some v) = ap Some (stays p x v).at
 
 offset-kept : (s t : List ℕ) → length t ≡ length s → (f : Found) → offset_of t f ≡ offset_of s f
 unfolding offset_of
-offset-kept s t e Nothing = e
-offset-kept s t e (At p) = refl
+offset-kept s t e None = e
+offset-kept s t e (Some p) = refl
 
 map_same : (f g : ℕ → ℕ) → ((k : ℕ) → f k ≡ g k) → (l : List ℕ) → map f l ≡ map g l
 map_same f g h [] = refl

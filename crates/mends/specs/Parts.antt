@@ -1,7 +1,6 @@
 -- What the parts of the search for a mend state to each other.
-use Rattle.std.specs.Prelude.{◌≡◌, ◌⊎◌, List, [], ◌∷◌, Bool, true, false, ℕ, set}
+use Rattle.std.specs.Prelude.{◌≡◌, ◌⊎◌, List, [], ◌∷◌, Bool, true, false, ℕ, set, None}
 use Rattle.layout.specs.Records.{records, choose}
-use Rattle.layout.specs.declared.Found.TheVariants.{Nothing}
 use Rattle.program.specs.Program.{Program, program}
 use Rattle.program.specs.Search.{Question, first}
 use Rattle.program.specs.Places.{asked, numbers, table_of}
@@ -27,7 +26,7 @@ Among p (q ∷ ps) = (p ≡ q) ⊎ Among p ps
 
 -- an image that passes the question q passes what it asks of the record at r, where a pass stands at h
 unfoldable pub Passing : ℕ → Here → ℕ → List ℕ → Type 0
-Passing q h r s = let P = program (records s) in first (question_by q P) P ≡ Nothing → asked (question_by q P) s h r ≡ true
+Passing q h r s = let P = program (records s) in first (question_by q P) P ≡ None → asked (question_by q P) s h r ≡ true
 
 -- so it is after each change of a register type byte
 unfoldable pub Told : ℕ → Here → ℕ → List ℕ → Type 0

@@ -1,5 +1,7 @@
 -- What a pass along the records of an image that it moves knows at each record.
+use Rattle.std.specs.Prelude.{None, Some}
 use mathlib.Core.Path.{◌≡◌, refl, sym, ap, ◌∙◌}
+use Rattle.layout.specs.Found.{Found}
 use mathlib.Core.List.{List, [], ◌∷◌, ◌++◌, append_assoc}
 use mathlib.Core.Bool.{Bool, true, false, cond}
 use Prim.Native.Nat.{ℕ, zero, suc, ◌+◌, ◌-◌, ◌*◌, ◌/◌, ◌%◌, ◌≤◌, ◌<◌}
@@ -15,8 +17,6 @@ use Rattle.layout.specs.Records.{◌!◌, size_at, kind_at, body_at, rec_at, res
 use Rattle.layout.specs.Forms.{literal_kind, literal_length, record_bytes, printed, other, moved_number, moved_kind, moved_body, moved}
 use Rattle.layout.specs.Questions.{length_of, fitting, same, nothing, question3}
 use Rattle.layout.specs.declared.Form.{Form}
-use Rattle.layout.specs.declared.Found.{Found}
-use Rattle.layout.specs.declared.Found.TheVariants.{Nothing, At}
 use Rattle.layout.proofs.Printed.{body-long, record-slice}
 use Rattle.layout.proofs.Walk.{Along, ended, broken, refused, passed, rest-cons, rest_end, size-head, size_room}
 use Rattle.runs.proofs.Moved.{number-long}
@@ -35,13 +35,13 @@ use Rattle.moves.specs.declared.Extent.TheVariants.{Long, Unfit}
 
 -- where question 3 found nothing, it finds nothing from p on
 abbrev pub Rest : Form → List ℕ → ℕ → Type 0
-Rest form s p = Along (fitting form) same nothing Nothing s p tt
+Rest form s p = Along (fitting form) same nothing None s p tt
 
-pub rest-first : (form : Form) (s : List ℕ) → question3 form (records s) ≡ Nothing → Rest form s 0
+pub rest-first : (form : Form) (s : List ℕ) → question3 form (records s) ≡ None → Rest form s 0
 unfolding question3
 rest-first form s e = record { inside = omega arith; left = sym e }
 
-no_place : (p : ℕ) → At p ≡ Nothing → ⊥
+no_place : (p : ℕ) → Some p ≡ None → ⊥
 no_place p e = let z : ◌≡◌ {A = ℕ} 0 1 = cc in omega (arith, z)
 
 -- so a whole record stands at p
@@ -255,7 +255,7 @@ module _ (n places : ℕ) (out t : List ℕ) where
   unfolding asking question17 leaves ◌and◌
   says-short h = (rw (lt-leb n places h) (go (leb n IMAGE)), refl)
     where
-      go : (b : Bool) → Refused 17 0 ≡ asking 17 (cond (b and false) Nothing (At 0)) (Written n)
+      go : (b : Bool) → Refused 17 0 ≡ asking 17 (cond (b and false) None (Some 0)) (Written n)
       go true = refl
       go false = refl
 
@@ -264,21 +264,21 @@ module _ (n places : ℕ) (out t : List ℕ) where
   says-written h l e = (rw (le-leb n IMAGE h, le-leb n places l) refl, e)
 
 -- what was measured says what 16 found
-pub found-unfit : (f : Found) (n p : ℕ) → Unfit p ≡ measured f n → f ≡ At p
+pub found-unfit : (f : Found) (n p : ℕ) → Unfit p ≡ measured f n → f ≡ Some p
 unfolding measured
-found-unfit Nothing n p e = let z : ◌≡◌ {A = ℕ} 0 1 = cc in absurd (omega (arith, z))
-found-unfit (At q) n p e = let z : q ≡ p = cc in ap At z
+found-unfit None n p e = let z : ◌≡◌ {A = ℕ} 0 1 = cc in absurd (omega (arith, z))
+found-unfit (Some q) n p e = let z : q ≡ p = cc in ap Some z
 
-pub found_none : (f : Found) (n m : ℕ) → Long m ≡ measured f n → (f ≡ Nothing) × (m ≡ n)
+pub found_none : (f : Found) (n m : ℕ) → Long m ≡ measured f n → (f ≡ None) × (m ≡ n)
 unfolding measured
-found_none Nothing n m e = let z : m ≡ n = cc in (refl, z)
-found_none (At q) n m e = let z : ◌≡◌ {A = ℕ} 0 1 = cc in absurd (omega (arith, z))
+found_none None n m e = let z : m ≡ n = cc in (refl, z)
+found_none (Some q) n m e = let z : ◌≡◌ {A = ℕ} 0 1 = cc in absurd (omega (arith, z))
 
-pub unfit-says : (form : Form) (s out t : List ℕ) (p : ℕ) → question16 form (records s) ≡ At p → (Refused 16 p ≡ from16 form s (length out)) × (out ≡ leaves (Refused 16 p) out t)
+pub unfit-says : (form : Form) (s out t : List ℕ) (p : ℕ) → question16 form (records s) ≡ Some p → (Refused 16 p ≡ from16 form s (length out)) × (out ≡ leaves (Refused 16 p) out t)
 unfolding asking leaves
 unfit-says form s out t p e = (rw e refl, refl)
 
-pub fit-says : (form : Form) (s : List ℕ) (n places : ℕ) {r : Moving} → question16 form (records s) ≡ Nothing → n ≡ length (moved form (records s)) → r ≡ asking 17 (question17 n places) (Written n) → r ≡ from16 form s places
+pub fit-says : (form : Form) (s : List ℕ) (n places : ℕ) {r : Moving} → question16 form (records s) ≡ None → n ≡ length (moved form (records s)) → r ≡ asking 17 (question17 n places) (Written n) → r ≡ from16 form s places
 unfolding asking
 fit-says form s n places e f g = g ∙ rw (e, f) refl
 

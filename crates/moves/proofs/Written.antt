@@ -1,5 +1,7 @@
 -- 02, 6: a move that is written gives an image that is asked, printed and run as the one that it was, and there and back is that image.
+use Rattle.std.specs.Prelude.{None, Some}
 use mathlib.Core.Path.{◌≡◌, refl, sym, ap, ◌∙◌}
+use Rattle.layout.specs.Found.{Found}
 use mathlib.Core.Logic.{◌⊎◌, inl, inr}
 use mathlib.Core.List.{List, [], ◌∷◌, map}
 use mathlib.Core.Bool.{Bool, true, false, cond}
@@ -15,8 +17,6 @@ use Rattle.layout.specs.Scan.{scan}
 use Rattle.layout.specs.Forms.{literal_kind, literal_length, other}
 use Rattle.layout.specs.Questions.{plain_length, question1, question4}
 use Rattle.layout.specs.declared.Form.{Form}
-use Rattle.layout.specs.declared.Found.{Found}
-use Rattle.layout.specs.declared.Found.TheVariants.{Nothing, At}
 use Rattle.layout.proofs.Bools.{and_both}
 use Rattle.layout.proofs.Lists.{Each, each_both, each-then}
 use Rattle.layout.proofs.Printed.{all_pass}
@@ -46,20 +46,20 @@ unfolding after
 after-written (Verdict.Accepted n) more m e = ((n, refl), e)
 after-written (Verdict.Refused q p) more m e = let z : ◌≡◌ {A = ℕ} 0 1 = cc in absurd (omega arith)
 
-asking-written : (n : ℕ) (f : Found) (more : Moving) (m : ℕ) → asking n f more ≡ Written m → (f ≡ Nothing) × (more ≡ Written m)
+asking-written : (n : ℕ) (f : Found) (more : Moving) (m : ℕ) → asking n f more ≡ Written m → (f ≡ None) × (more ≡ Written m)
 unfolding asking
-asking-written n Nothing more m e = (refl, e)
-asking-written n (At p) more m e = let z : ◌≡◌ {A = ℕ} 0 1 = cc in absurd (omega arith)
+asking-written n None more m e = (refl, e)
+asking-written n (Some p) more m e = let z : ◌≡◌ {A = ℕ} 0 1 = cc in absurd (omega arith)
 
-short-enough : (n places : ℕ) → question17 n places ≡ Nothing → (n ≤ IMAGE) × (n ≤ places)
+short-enough : (n places : ℕ) → question17 n places ≡ None → (n ≤ IMAGE) × (n ≤ places)
 unfolding question17
 short-enough n places e = go (leb n IMAGE and leb n places) refl e
   where
-    go : (b : Bool) → (leb n IMAGE and leb n places) ≡ b → cond b Nothing (At 0) ≡ Nothing → (n ≤ IMAGE) × (n ≤ places)
+    go : (b : Bool) → (leb n IMAGE and leb n places) ≡ b → cond b None (Some 0) ≡ None → (n ≤ IMAGE) × (n ≤ places)
     go true x y = let z = and_both _ _ x in (leb-true n IMAGE z.0, leb-true n places z.1)
     go false x y = let z : ◌≡◌ {A = ℕ} 0 1 = cc in absurd (omega arith)
 
-pub asks-17 : (n places : ℕ) → n ≤ IMAGE → n ≤ places → question17 n places ≡ Nothing
+pub asks-17 : (n places : ℕ) → n ≤ IMAGE → n ≤ places → question17 n places ≡ None
 unfolding question17 ◌and◌
 asks-17 n places h l = rw (le-leb n IMAGE h, le-leb n places l) refl
 
@@ -70,7 +70,7 @@ fit-returns r k e l =
     let f : fits32 (number_in Form.Wide r.body) ≡ true = rw (eq-eqb r.kind (literal_kind Form.Wide) l) at e in
     fitting-returns r.body (omega (arith, literal-long k l)) k.is.bytes f
 
-all_fit : (form : Form) (rs : List Rec) → Each (Known form) rs → question16 form rs ≡ Nothing → Each (Returns form) rs
+all_fit : (form : Form) (rs : List Rec) → Each (Known form) rs → question16 form rs ≡ None → Each (Returns form) rs
 unfolding question16
 all_fit Form.Narrow rs k e = all-return rs k
 all_fit Form.Wide rs k e =
@@ -127,7 +127,7 @@ unfolding narrow_of wide_of
 widened Form.Narrow s places m a = records-wider (records s) a.known
 widened Form.Wide s places m a = records-narrower (records s) a.known a.returns
 
-result-one : (form : Form) (s : List ℕ) (places m : ℕ) → Made form s places m → question1 (result form s) ≡ Nothing
+result-one : (form : Form) (s : List ℕ) (places m : ℕ) → Made form s places m → question1 (result form s) ≡ None
 result-one form s places m a = moved-one form s (passed s a.versions a.accepted).q1 a.back (omega (arith, a.short, a.size))
 
 result-accepted : (form : Form) (s : List ℕ) (places m : ℕ) (a : Made form s places m) → verdict_in (other form) (result form s) ≡ Verdict.Accepted a.versions
@@ -142,7 +142,7 @@ fits-plain form r h e = rw (not-literal form r.kind r.body (omega (arith, h, e))
 fits-literal : (form : Form) (r : Rec) → r.kind ≡ literal_kind form → fits32 (number_in form r.body) ≡ true → fitting32 form tt r ≡ true
 fits-literal form r e f = rw (eq-eqb r.kind (literal_kind form) e, f) refl
 
-both-16 : (rs qs : List Rec) → Widened rs qs → (question16 Form.Narrow rs ≡ Nothing) × (question16 Form.Wide qs ≡ Nothing)
+both-16 : (rs qs : List Rec) → Widened rs qs → (question16 Form.Narrow rs ≡ None) × (question16 Form.Wide qs ≡ None)
 unfolding question16 scan Widened ◌and◌
 both-16 [] [] h = (refl, refl)
 both-16 [] (q ∷ qs) h = absurd h
@@ -161,7 +161,7 @@ both-16 (r ∷ rs) (q ∷ qs) h =
         let w : 0 < q.size = omega (arith, k.whole, k.same_size) in
         (k.whole, fits-plain Form.Narrow r k.whole k.known, w, fits-plain Form.Wide q w e)
 
-back-16 : (form : Form) (s : List ℕ) (places m : ℕ) → Made form s places m → question16 (other form) (records (result form s)) ≡ Nothing
+back-16 : (form : Form) (s : List ℕ) (places m : ℕ) → Made form s places m → question16 (other form) (records (result form s)) ≡ None
 unfolding other narrow_of wide_of
 back-16 Form.Narrow s places m a = (both-16 _ _ (widened Form.Narrow s places m a)).1
 back-16 Form.Wide s places m a = (both-16 _ _ (widened Form.Wide s places m a)).0
@@ -207,7 +207,7 @@ runs-agree Form.Wide s places m h level f v words budget buffer u =
     ∙ sixty-four t (moved-bytes Form.Wide (records s) a.known) a.versions a.versions (result-accepted Form.Wide s places m a) e level f v words budget buffer u
 
 -- the records of the 32-bit form are in order
-narrow-4 : (form : Form) (s : List ℕ) (places m : ℕ) → Made form s places m → question4 (length (narrow_of form s)) (records (narrow_of form s)) ≡ Nothing
+narrow-4 : (form : Form) (s : List ℕ) (places m : ℕ) → Made form s places m → question4 (length (narrow_of form s)) (records (narrow_of form s)) ≡ None
 unfolding narrow_of other
 narrow-4 Form.Narrow s places m a = (passed s a.versions a.accepted).q4
 narrow-4 Form.Wide s places m a = (passed (result Form.Wide s) a.versions (result-accepted Form.Wide s places m a)).q4

@@ -1,10 +1,9 @@
 -- 02, 6: what is promised of a move that was written: the statements alone.
-use Rattle.std.specs.Prelude.{◌≡◌, ◌≢◌, List, [], ◌∷◌, cond, ℕ, ◌+◌, ◌*◌, ◌≤◌, ◌<◌, ℤ, length, eqb}
+use Rattle.std.specs.Prelude.{◌≡◌, ◌≢◌, List, [], ◌∷◌, cond, ℕ, ◌+◌, ◌*◌, ◌≤◌, ◌<◌, ℤ, length, eqb, None}
 use Rattle.layout.specs.Bounds.{IMAGE}
 use Rattle.layout.specs.Records.{Rec, ◌!◌, records}
 use Rattle.layout.specs.Forms.{literal_kind, moved, other}
 use Rattle.layout.specs.declared.Form.{Form}
-use Rattle.layout.specs.declared.Found.TheVariants.{Nothing}
 use Rattle.program.specs.Program.{program_by}
 use Rattle.checker.specs.Verdicts.{verdict_in}
 use Rattle.checker.specs.Reports.{report_in}
@@ -41,7 +40,7 @@ NarrowedLength = (s : List ℕ) (places m : ℕ) → Moves Form.Wide s places m 
 -- so 17 refuses no accepted image that is narrowed into a buffer as long as the image
 unfoldable pub NarrowedFits : Type 0
 NarrowedFits =
-    (s : List ℕ) → ((i : ℕ) → s ! i < 256) → (n : ℕ) → verdict_in Form.Wide s ≡ Verdict.Accepted n → (places : ℕ) → length s ≤ places → question17 (length (result Form.Wide s)) places ≡ Nothing
+    (s : List ℕ) → ((i : ℕ) → s ! i < 256) → (n : ℕ) → verdict_in Form.Wide s ≡ Verdict.Accepted n → (places : ℕ) → length s ≤ places → question17 (length (result Form.Wide s)) places ≡ None
 
 -- a widened image is 4 bytes longer for each literal: it has at most 13 bytes for each 9 of its source
 unfoldable pub WidenedLength : Type 0

@@ -1,5 +1,6 @@
 -- 02, 6: an image moved to the other form, into a lent buffer.
-use Rattle.std.specs.Prelude.{List, Bool, cond, not, ◌||◌, ℕ, ℤ, pos, negsuc, length, eqb, ltb, leb}
+use Rattle.std.specs.Prelude.{List, Bool, cond, not, ◌||◌, ℕ, ℤ, pos, negsuc, length, eqb, ltb, leb, None, Some}
+use Rattle.layout.specs.Found.{Found}
 use Rattle.layout.specs.Bounds.{IMAGE}
 use Rattle.layout.specs.Tests.{◌and◌}
 use Rattle.layout.specs.Records.{Rec, records}
@@ -7,8 +8,6 @@ use Rattle.layout.specs.Scan.{scan}
 use Rattle.layout.specs.Questions.{same, nothing}
 use Rattle.layout.specs.Forms.{literal_kind, moved}
 use Rattle.layout.specs.declared.Form.{Form}
-use Rattle.layout.specs.declared.Found.{Found}
-use Rattle.layout.specs.declared.Found.TheVariants.{Nothing, At}
 use Rattle.writer.specs.Text.{placed}
 use Rattle.program.specs.Program.{number_in}
 use Rattle.checker.specs.Verdicts.{verdict_in}
@@ -32,12 +31,12 @@ question16 form rs = scan (fitting32 form) same nothing tt rs
 
 -- 17: has the result, of so many bytes, at most as many as an image may have, and as the buffer has places?
 unfoldable pub question17 : ℕ → ℕ → Found
-question17 n places = cond (leb n IMAGE and leb n places) Nothing (At 0)
+question17 n places = cond (leb n IMAGE and leb n places) None (Some 0)
 
 -- the questions behind the image's own: a no refuses, else those that follow are put
 unfoldable pub asking : ℕ → Found → Moving → Moving
-asking n Nothing more = more
-asking n (At p) more = Refused n p
+asking n None more = more
+asking n (Some p) more = Refused n p
 
 -- the image's own questions come first
 unfoldable pub after : Verdict → Moving → Moving

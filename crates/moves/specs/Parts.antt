@@ -1,12 +1,11 @@
 -- What the parts of a move state to each other.
-use Rattle.std.specs.Prelude.{◌≡◌, List, [], ◌∷◌, ℕ, ◌≤◌, ◌<◌, length}
+use Rattle.std.specs.Prelude.{◌≡◌, List, [], ◌∷◌, ℕ, ◌≤◌, ◌<◌, length, None, Some}
+use Rattle.layout.specs.Found.{Found}
 use Rattle.layout.specs.Bounds.{IMAGE}
 use Rattle.layout.specs.Records.{◌!◌, size_at, kind_at, body_at, records}
 use Rattle.layout.specs.Forms.{literal_kind, literal_length, record_bytes, sign_byte, moved_kind, moved_body}
 use Rattle.layout.specs.Questions.{length_of, question3}
 use Rattle.layout.specs.declared.Form.{Form}
-use Rattle.layout.specs.declared.Found.{Found}
-use Rattle.layout.specs.declared.Found.TheVariants.{Nothing, At}
 use Rattle.moves.specs.declared.Extent.{Extent}
 use Rattle.moves.specs.declared.Extent.TheVariants.{Long, Unfit}
 
@@ -18,7 +17,7 @@ Bytes s = (i : ℕ) → s ! i < 256
 pub record Ready (form : Form) (s : List ℕ) : Type 0 where
   pub bytes : Bytes s
   pub short : length s ≤ IMAGE
-  pub known : question3 form (records s) ≡ Nothing
+  pub known : question3 form (records s) ≡ None
 
 -- a whole record stands at p, known in the form
 pub record Stands (form : Form) (s : List ℕ) (p : ℕ) : Type 0 where
@@ -33,8 +32,8 @@ moved_at form s p = record_bytes (moved_kind form (kind_at s p)) (moved_body for
 
 -- what is measured: the first literal that 16 found, or the length
 unfoldable pub measured : Found → ℕ → Extent
-measured Nothing n = Long n
-measured (At p) n = Unfit p
+measured None n = Long n
+measured (Some p) n = Unfit p
 
 -- the head of a form's literal
 unfoldable pub head_of : Form → List ℕ

@@ -1,4 +1,5 @@
 -- Question 7: registers that exist, and PROMs that name a block.
+use Rattle.std.specs.Prelude.{None, Some}
 use mathlib.Core.Path.{◌≡◌, refl, sym, ap, ◌∙◌}
 use mathlib.Core.List.{List}
 use mathlib.Core.Bool.{Bool, true, false, cond}
@@ -16,7 +17,6 @@ use Rattle.program.specs.Program.{Argument, Instr, Line, View, nowhere, argument
 use Rattle.program.proofs.Forms.{argument-registers}
 use Rattle.program.specs.Places.{view_at, past, version_at, block_at, instr_at, block_place}
 use Rattle.program.specs.Questions.{names_block, namings}
-use Rattle.layout.specs.declared.Found.TheVariants.{Nothing, At}
 use Rattle.layout.proofs.Lists.{none-past, get_in}
 use Rattle.program.proofs.Lookups.{block-found, block-missing}
 use Rattle.program.proofs.Views.{view-end, Whole, at-version, at_block, at-line}
@@ -27,10 +27,10 @@ pub registers-count : (s : List ℕ) (v : ℕ) → length (version_at s v).types
 unfolding version_at
 registers-count s v = length-every (body_at s v) 6 1 (body_at s v ! 3)
 
-pub block-exists : (s : List ℕ) (v b q : ℕ) → block_place s v b ≡ At q → b < length (version_at s v).blocks
+pub block-exists : (s : List ℕ) (v b q : ℕ) → block_place s v b ≡ Some q → b < length (version_at s v).blocks
 block-exists s v b q e = (get_in (version_at s v).blocks b (block_at s q) (block_at s q) (block-found s v b q e)).0
 
-pub block-lacks : (s : List ℕ) (v b : ℕ) → block_place s v b ≡ Nothing → length (version_at s v).blocks ≤ b
+pub block-lacks : (s : List ℕ) (v b : ℕ) → block_place s v b ≡ None → length (version_at s v).blocks ≤ b
 block-lacks s v b e = none-past (version_at s v).blocks b (block-missing s v b e)
 
 -- ---- PROMs that name a block

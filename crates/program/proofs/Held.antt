@@ -1,5 +1,7 @@
 -- What a question that found nothing to refuse gives: its test as a fact, for every version, block and instruction that is looked up.
+use Rattle.std.specs.Prelude.{None, Some}
 use mathlib.Core.Path.{◌≡◌, refl, ap, ◌∙◌, subst}
+use Rattle.layout.specs.Found.{Found}
 use mathlib.Core.List.{List, [], ◌∷◌}
 use mathlib.Core.Option.{none, some}
 use mathlib.Core.Bool.{Bool, true, false, cond}
@@ -11,8 +13,6 @@ use lib.Dec.{eqb}
 use borrow.Author.Tests.{eqb-true}
 use Rattle.layout.proofs.Bools.{and_both}
 use Rattle.layout.specs.Tests.{◌and◌}
-use Rattle.layout.specs.declared.Found.{Found}
-use Rattle.layout.specs.declared.Found.TheVariants.{Nothing, At}
 use Rattle.program.specs.Program.{Line, Block, Version, Program, find_version}
 use Rattle.program.specs.Search.{Question, first_line, first_block, first}
 pub use Rattle.program.specs.Held.{Held}
@@ -31,7 +31,7 @@ module _ (q : Question) (v : Version) where
   abbrev Code : ℕ → List Line → Type 0
   Code n ls = (i : ℕ) (l : Line) → get_elem? ls i ≡ some l → q.of_instr v n l.does ≡ true
 
-  lines : (n : ℕ) (ls : List Line) (k : Found) → first_line q v n ls k ≡ Nothing → Code n ls × (k ≡ Nothing)
+  lines : (n : ℕ) (ls : List Line) (k : Found) → first_line q v n ls k ≡ None → Code n ls × (k ≡ None)
   unfolding first_line
   lines n [] k e = (nowhere (λ i l. q.of_instr v n l.does ≡ true), e)
   lines n (x ∷ ls) k e =
@@ -43,7 +43,7 @@ module _ (q : Question) (v : Version) where
   abbrev Whole : ℕ → Block → Type 0
   Whole n b = (q.of_block v n b ≡ true) × Code n b.code
 
-  blocks : (n : ℕ) (bs : List Block) (k : Found) → first_block q v n bs k ≡ Nothing → ((i : ℕ) (b : Block) → get_elem? bs i ≡ some b → Whole (n + i) b) × (k ≡ Nothing)
+  blocks : (n : ℕ) (bs : List Block) (k : Found) → first_block q v n bs k ≡ None → ((i : ℕ) (b : Block) → get_elem? bs i ≡ some b → Whole (n + i) b) × (k ≡ None)
   unfolding first_block
   blocks n [] k e = (nowhere (λ i b. Whole (n + i) b), e)
   blocks n (x ∷ bs) k e =
@@ -52,7 +52,7 @@ module _ (q : Question) (v : Version) where
       let ih = blocks (n + 1) bs k c.1 in
       (each (λ i b. Whole (n + i) b) x bs (rw add-zero (p.0, c.0)) (λ i b h. let m : n + suc i ≡ n + 1 + i = omega arith in rw m (ih.0 i b h)), ih.1)
 
-  held : (more : Found) → cond (q.of_version v) (first_block q v 0 v.blocks more) (At v.at) ≡ Nothing → Held q v × (more ≡ Nothing)
+  held : (more : Found) → cond (q.of_version v) (first_block q v 0 v.blocks more) (Some v.at) ≡ None → Held q v × (more ≡ None)
   held more e =
       let p = passed (q.of_version v) (first_block q v 0 v.blocks more) v.at e in
       let b = blocks 0 v.blocks more p.1 in
@@ -76,18 +76,18 @@ unfoldable pub Helds : Question → Program → Type 0
 Helds q [] = Unit {0}
 Helds q (v ∷ vs) = Held q v × Helds q vs
 
-pub helds : (q : Question) (P : Program) → first q P ≡ Nothing → Helds q P
+pub helds : (q : Question) (P : Program) → first q P ≡ None → Helds q P
 unfolding first Helds
 helds q [] e = tt
 helds q (v ∷ vs) e = let h = held q v (first q vs) e in (h.0, helds q vs h.1)
 
-pub helds-back : (q : Question) (P : Program) → Helds q P → first q P ≡ Nothing
+pub helds-back : (q : Question) (P : Program) → Helds q P → first q P ≡ None
 unfolding first Helds
 helds-back q [] h = refl
 helds-back q (v ∷ vs) h = rw h.0.of_version (blocks-back q v 0 v.blocks _ (λ i b e. rw zero-add (h.0.of_block i b e, λ j l g. h.0.of_instr i b j l e g)) ∙ helds-back q vs h.1)
 
 -- a question that found nothing to refuse holds of every version
-pub holds : (q : Question) (P : Program) → first q P ≡ Nothing → (f w : ℕ) (v : Version) → find_version P f w ≡ some v → Held q v
+pub holds : (q : Question) (P : Program) → first q P ≡ None → (f w : ℕ) (v : Version) → find_version P f w ≡ some v → Held q v
 unfolding first find_version
 holds q [] e f w v h = let z : ◌≡◌ {A = ℕ} 0 1 = cc in absurd (omega arith)
 holds q (x ∷ P) e f w v h =

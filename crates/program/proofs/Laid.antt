@@ -1,5 +1,7 @@
 -- What question 4 gives of the program: numbers, counts, marks, op and n are in bounds, and as many blocks and instructions stand there as are announced.
+use Rattle.std.specs.Prelude.{None, Some}
 use mathlib.Core.Path.{◌≡◌, refl, sym, ap, ◌∙◌, subst}
+use Rattle.layout.specs.Found.{Found}
 use mathlib.Core.List.{List, [], ◌∷◌}
 use mathlib.Core.Bool.{Bool, true, false, cond}
 use Prim.Native.Nat.{ℕ, suc, ◌+◌, ◌-◌}
@@ -13,8 +15,6 @@ use Rattle.layout.specs.Tests.{◌and◌}
 use Rattle.layout.specs.Records.{Rec, ◌!◌, choose}
 use Rattle.layout.specs.Scan.{scan}
 use Rattle.layout.specs.Questions.{version_in_bounds, in_bounds, in_order, due_after, none_due, placed, question4}
-use Rattle.layout.specs.declared.Found.{Found}
-use Rattle.layout.specs.declared.Found.TheVariants.{Nothing, At}
 use Rattle.layout.specs.declared.Due.{Due}
 use Rattle.layout.proofs.Bools.{and_both, and-on}
 use Rattle.layout.proofs.Fields.{length-every}
@@ -25,7 +25,7 @@ unfoldable pub use Rattle.program.specs.Held.{version_bounded, block_bounded, in
 use Rattle.program.proofs.Forms.{length-arguments}
 
 -- a test that a search passed
-pub passed : (t : Bool) (more : Found) (p : ℕ) → cond t more (At p) ≡ Nothing → (t ≡ true) × (more ≡ Nothing)
+pub passed : (t : Bool) (more : Found) (p : ℕ) → cond t more (Some p) ≡ None → (t ≡ true) × (more ≡ None)
 passed true more p e = (refl, e)
 passed false more p e = let z : ◌≡◌ {A = ℕ} 0 1 = cc in absurd (omega arith)
 
@@ -36,7 +36,7 @@ pub record Laid (d : Due) (w : View) : Type 0 where
   pub blocks : length w.blocks ≡ d.blocks
   pub lines : d.levels ≡ 0 → (v : Version) (n : ℕ) (more : Found) → first_line bounds v n w.code more ≡ more
   pub inside : (v : Version) (n : ℕ) (more : Found) → first_block bounds v n w.blocks more ≡ more
-  pub versions : first bounds w.versions ≡ Nothing
+  pub versions : first bounds w.versions ≡ None
 
 no_lines : (v : Version) (n : ℕ) (more : Found) → first_line bounds v n [] more ≡ more
 unfolding first_line
@@ -171,9 +171,9 @@ module _ (r : Rec) (d : Due) (w : View) (a : Laid (due_after d r) w) (bound : in
       go false false true ex ez ey = at_block (eqb-true r.kind kind.BLOCK ey)
       go false false false ex ez ey = at-line ex ez ey
 
-laid : (end : ℕ) (rs : List Rec) (d : Due) → scan placed due_after (none_due end) d rs ≡ Nothing → Laid d (view rs)
+laid : (end : ℕ) (rs : List Rec) (d : Due) → scan placed due_after (none_due end) d rs ≡ None → Laid d (view rs)
 unfolding scan none_due view_by first
-laid end [] d h = let p = and_both _ _ (and_both _ _ (passed _ Nothing end h).0).1 in record { level = refl; code = λ z. sym (eqb-true _ 0 p.1); blocks = sym (eqb-true _ 0 p.0); lines = λ z. no_lines; inside = no_blocks; versions = refl }
+laid end [] d h = let p = and_both _ _ (and_both _ _ (passed _ None end h).0).1 in record { level = refl; code = λ z. sym (eqb-true _ 0 p.1); blocks = sym (eqb-true _ 0 p.0); lines = λ z. no_lines; inside = no_blocks; versions = refl }
 laid end (r ∷ rs) d h = let p = passed _ _ r.at h in let t = and_both _ _ p.0 in let q = and_both _ _ t.1 in
     whole (ne_eqb r.size 0 (λ z. absurd (omega (arith, ltb-true 0 r.size t.0)))) (at-record r d (view rs) (laid end rs (due_after d r) p.1) q.0 q.1)
   where
@@ -181,6 +181,6 @@ laid end (r ∷ rs) d h = let p = passed _ _ r.at h in let t = and_both _ _ p.0 
     whole e x = rw e x
 
 -- an image that question 4 passes has a program within bounds
-pub in_bounds_lem : (end : ℕ) (rs : List Rec) → question4 end rs ≡ Nothing → first bounds (program rs) ≡ Nothing
+pub in_bounds_lem : (end : ℕ) (rs : List Rec) → question4 end rs ≡ None → first bounds (program rs) ≡ None
 unfolding question4
 in_bounds_lem end rs h = (laid end rs _ h).versions

@@ -1,5 +1,7 @@
 -- Look-ups: what stands at a place that was found, and what a loop that looks for it meets.
+use Rattle.std.specs.Prelude.{None, Some}
 use mathlib.Core.Path.{◌≡◌, refl, sym, ap, ◌∙◌, subst}
+use Rattle.layout.specs.Found.{Found}
 use mathlib.Core.List.{List, [], ◌∷◌}
 use mathlib.Core.Option.{Option, none, some}
 use mathlib.Core.Bool.{Bool, true, false, cond}
@@ -11,8 +13,6 @@ use borrow.Author.Tests.{le-leb, ne_eqb, ltb-true, ltb-false, eqb-true, eqb-fals
 use Rattle.layout.specs.Kinds as kind
 use Rattle.layout.specs.Tests.{◌and◌}
 use Rattle.layout.specs.Records.{◌!◌, size_at, kind_at, body_at, rec_at, records}
-use Rattle.layout.specs.declared.Found.{Found}
-use Rattle.layout.specs.declared.Found.TheVariants.{Nothing, At}
 use Rattle.layout.proofs.Fields.{fields_at, every-past}
 use Rattle.layout.proofs.Lists.{Each, each-get}
 use Rattle.layout.proofs.Walk.{kind-outside, body-at, body-past}
@@ -96,35 +96,35 @@ seen s p = seen-from (length s - p) s p (omega arith)
 
 -- ---- FROM A PLACE TO WHAT STANDS THERE
 
-pub place_found : {A : Type 0} (at : A → ℕ) (o : Option A) (q : ℕ) → place_of at o ≡ At q → (x : A) × (o ≡ some x) × (at x ≡ q)
+pub place_found : {A : Type 0} (at : A → ℕ) (o : Option A) (q : ℕ) → place_of at o ≡ Some q → (x : A) × (o ≡ some x) × (at x ≡ q)
 unfolding place_of
 place_found at none q e = let z : ◌≡◌ {A = ℕ} 0 1 = cc in absurd (omega arith)
 place_found at (some x) q e = (x, refl, cc)
 
-pub place-nothing : {A : Type 0} (at : A → ℕ) (o : Option A) → place_of at o ≡ Nothing → o ≡ none
+pub place-nothing : {A : Type 0} (at : A → ℕ) (o : Option A) → place_of at o ≡ None → o ≡ none
 unfolding place_of
 place-nothing at none e = refl
 place-nothing at (some x) e = let z : ◌≡◌ {A = ℕ} 0 1 = cc in absurd (omega arith)
 
-pub version-found : (s : List ℕ) (f w q : ℕ) → version_place s f w ≡ At q → (find_version (program (records s)) f w ≡ some (version_at s q)) × (q < length s)
+pub version-found : (s : List ℕ) (f w q : ℕ) → version_place s f w ≡ Some q → (find_version (program (records s)) f w ≡ some (version_at s q)) × (q < length s)
 unfolding version_place
 version-found s f w q e =
     let r = place_found (λ (v : Version). v.at) (find_version (program (records s)) f w) q e in
     let t = each-find (VersionThere s) (program (records s)) f w r.0 (seen s 0).versions r.1 in
     (r.1 ∙ ap (λ (x : Version). some x) (t.0 ∙ ap (version_at s) r.2), subst (λ (n : ℕ). n < length s) r.2 t.1)
 
-pub version-missing : (s : List ℕ) (f w : ℕ) → version_place s f w ≡ Nothing → find_version (program (records s)) f w ≡ none
+pub version-missing : (s : List ℕ) (f w : ℕ) → version_place s f w ≡ None → find_version (program (records s)) f w ≡ none
 unfolding version_place
 version-missing s f w e = place-nothing (λ (v : Version). v.at) (find_version (program (records s)) f w) e
 
-pub block-found : (s : List ℕ) (v b q : ℕ) → block_place s v b ≡ At q → get_elem? (version_at s v).blocks b ≡ some (block_at s q)
+pub block-found : (s : List ℕ) (v b q : ℕ) → block_place s v b ≡ Some q → get_elem? (version_at s v).blocks b ≡ some (block_at s q)
 unfolding block_place version_at
 block-found s v b q e =
     let r = place_found (λ (x : Block). x.at) (get_elem? (view_at s (past s v)).blocks b) q e in
     let t = each-get (BlockThere s) (view_at s (past s v)).blocks b r.0 (seen s (past s v)).blocks r.1 in
     r.1 ∙ ap (λ (x : Block). some x) (t ∙ ap (block_at s) r.2)
 
-pub block-missing : (s : List ℕ) (v b : ℕ) → block_place s v b ≡ Nothing → get_elem? (version_at s v).blocks b ≡ none
+pub block-missing : (s : List ℕ) (v b : ℕ) → block_place s v b ≡ None → get_elem? (version_at s v).blocks b ≡ none
 unfolding block_place
 block-missing s v b e = place-nothing (λ (x : Block). x.at) (get_elem? (version_at s v).blocks b) e
 
@@ -137,11 +137,11 @@ unfoldable pub block_from : List ℕ → ℕ → ℕ → Found
 block_from s p b = place_of (λ (x : Block). x.at) (get_elem? (view_at s p).blocks b)
 
 -- nothing, where nothing is seen
-pub version-nowhere : (s : List ℕ) (p f w : ℕ) → view_at s p ≡ nowhere → version_from s p f w ≡ Nothing
+pub version-nowhere : (s : List ℕ) (p f w : ℕ) → view_at s p ≡ nowhere → version_from s p f w ≡ None
 unfolding version_from place_of find_version
 version-nowhere s p f w e = rw e
 
-pub block-nowhere : (s : List ℕ) (p b : ℕ) → view_at s p ≡ nowhere → block_from s p b ≡ Nothing
+pub block-nowhere : (s : List ℕ) (p b : ℕ) → view_at s p ≡ nowhere → block_from s p b ≡ None
 unfolding block_from place_of
 block-nowhere s p b e = rw e
 
@@ -159,7 +159,7 @@ module _ {s : List ℕ} {p n k : ℕ} (m : Whole s p n k) where
       go false true ea eb = rw (at_block m (eqb-true _ _ eb), ap (λ (x : ℕ). eqb x kind.VERSION) (sym m.kind) ∙ ea)
       go false false ea eb = rw (at-line m (eqb-false _ _ ea) (eqb-false _ _ eb), ap (λ (x : ℕ). eqb x kind.VERSION) (sym m.kind) ∙ ea)
 
-  pub version-here : (f w : ℕ) → is_version s p f w ≡ true → version_from s p f w ≡ At p
+  pub version-here : (f w : ℕ) → is_version s p f w ≡ true → version_from s p f w ≡ Some p
   unfolding version_from place_of version_at
   version-here f w e = rw (find_at f w, e)
 
@@ -168,11 +168,11 @@ module _ {s : List ℕ} {p n k : ℕ} (m : Whole s p n k) where
   version-later f w e = rw (find_at f w, e)
 
   -- a block: none behind a VERSION, this one or those behind it at a BLOCK, those behind it at an instruction
-  pub no_block : (b : ℕ) → k ≡ kind.VERSION → block_from s p b ≡ Nothing
+  pub no_block : (b : ℕ) → k ≡ kind.VERSION → block_from s p b ≡ None
   unfolding block_from place_of
   no_block b e = rw (at-version m e)
 
-  pub block_here : (b : ℕ) → k ≡ kind.BLOCK → b ≡ 0 → block_from s p b ≡ At p
+  pub block_here : (b : ℕ) → k ≡ kind.BLOCK → b ≡ 0 → block_from s p b ≡ Some p
   unfolding block_from place_of block_at
   block_here b e z = rw (at_block m e, z)
 
@@ -188,7 +188,7 @@ module _ {s : List ℕ} {p n k : ℕ} (m : Whole s p n k) where
 past-outside : (s : List ℕ) (p : ℕ) → length s ≤ p → view_at s (past s p) ≡ nowhere
 past-outside s p h = view-end s (past s p) (omega arith)
 
-pub block-outside : (s : List ℕ) (v b : ℕ) → length s ≤ v → block_place s v b ≡ Nothing
+pub block-outside : (s : List ℕ) (v b : ℕ) → length s ≤ v → block_place s v b ≡ None
 unfolding block_place place_of version_at
 block-outside s v b h = rw (past-outside s v h)
 

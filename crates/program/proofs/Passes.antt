@@ -1,5 +1,7 @@
 -- A question to the program, as a pass along the records puts it.
+use Rattle.std.specs.Prelude.{None, Some}
 use mathlib.Core.Path.{◌≡◌, refl, sym, ap, ◌∙◌}
+use Rattle.layout.specs.Found.{Found}
 use mathlib.Core.List.{List, [], ◌∷◌}
 use mathlib.Core.Bool.{Bool, true, false, cond, true≢false}
 use Prim.Native.Nat.{ℕ, zero, suc, ◌+◌, ◌-◌, ◌≤◌, ◌<◌}
@@ -13,8 +15,6 @@ use Rattle.layout.specs.Tests.{◌and◌}
 use Rattle.layout.specs.Records.{size_at, kind_at, rec_at, records, choose}
 use Rattle.layout.proofs.Bools.{and-on, and-off}
 use Rattle.layout.proofs.Walk.{size_room}
-use Rattle.layout.specs.declared.Found.{Found}
-use Rattle.layout.specs.declared.Found.TheVariants.{Nothing, At}
 use Rattle.program.specs.Program.{Line, Block, Version, View, nowhere, level_of, line_of, program}
 use Rattle.program.specs.Search.{Question, first_line, first_block, first}
 use Rattle.program.specs.Places.{view_at, version_at, block_at, instr_at, moved_to, asked}
@@ -40,40 +40,40 @@ pub start : (q : Question) (s : List ℕ) → Asking q (first q (program (record
 unfolding left
 start q s = record { inside = omega arith; few = omega arith; left = simp (le-ltb (length s) (length s) (omega arith)) }
 
-left-nowhere : (q : Question) (i : Bool) (v : Version) (b : ℕ) → left q i v b nowhere ≡ Nothing
+left-nowhere : (q : Question) (i : Bool) (v : Version) (b : ℕ) → left q i v b nowhere ≡ None
 unfolding left first first_block first_line
 left-nowhere q false v b = refl
 left-nowhere q true v zero = refl
 left-nowhere q true v (suc n) = refl
 
 module _ {q : Question} {answer : Found} {s : List ℕ} {p : ℕ} {h : Here} (a : Asking q answer s p h) where
-  ended : view_at s p ≡ nowhere → Nothing ≡ answer
+  ended : view_at s p ≡ nowhere → None ≡ answer
   ended e = sym (a.left ∙ ap (left q (ltb h.version (length s)) (version_at s h.version) h.blocks) e ∙ left-nowhere q _ _ _)
 
-  pub at-end : length s ≤ p → Nothing ≡ answer
+  pub at-end : length s ≤ p → None ≡ answer
   at-end l = ended (view-end s p l)
 
-  pub at-broken : {n : ℕ} → n ≡ size_at s p → n ≡ 0 → Nothing ≡ answer
+  pub at-broken : {n : ℕ} → n ≡ size_at s p → n ≡ 0 → None ≡ answer
   at-broken e z = ended (view-past s p (sym e ∙ z))
 
 -- ---- what is left at a VERSION, at a BLOCK and at an instruction
 
 module _ (q : Question) (v : Version) (w : View) where
   at-a-version : (i : Bool) (b : ℕ) (x : Version) → x.blocks ≡ w.blocks
-      → left q i v b (record { level = 0; code = []; blocks = []; versions = x ∷ w.versions }) ≡ cond (q.of_version x) (left q true x 0 w) (At x.at)
+      → left q i v b (record { level = 0; code = []; blocks = []; versions = x ∷ w.versions }) ≡ cond (q.of_version x) (left q true x 0 w) (Some x.at)
   unfolding left first first_block first_line
   at-a-version false b x e = rw e
   at-a-version true zero x e = rw e
   at-a-version true (suc n) x e = rw e
 
   at-a-block : (b : ℕ) (x : Block) → x.code ≡ w.code
-      → left q true v b (record { level = 0; code = []; blocks = x ∷ w.blocks; versions = w.versions }) ≡ cond (q.of_block v b x) (left q true v (suc b) w) (At x.at)
+      → left q true v b (record { level = 0; code = []; blocks = x ∷ w.blocks; versions = w.versions }) ≡ cond (q.of_block v b x) (left q true v (suc b) w) (Some x.at)
   unfolding left first first_block first_line
   at-a-block zero x e = rw e
   at-a-block (suc n) x e = simp (e, add-one)
 
   at-a-line : (n g : ℕ) (l : Line)
-      → left q true v (suc n) (record { level = g; code = l ∷ w.code; blocks = w.blocks; versions = w.versions }) ≡ cond (q.of_instr v n l.does) (left q true v (suc n) w) (At l.at)
+      → left q true v (suc n) (record { level = g; code = l ∷ w.code; blocks = w.blocks; versions = w.versions }) ≡ cond (q.of_instr v n l.does) (left q true v (suc n) w) (Some l.at)
   unfolding left first first_block first_line
   at-a-line n g l = refl
 
@@ -92,7 +92,7 @@ module _ (q : Question) (v : Version) (w : View) where
 
 -- what a pass that stands at h behind the record at p goes on with
 abbrev onward : Question → List ℕ → Here → ℕ → ℕ → Found
-onward q s h p n = cond (asked q s h p) (left_at q s h (p + n)) (At p)
+onward q s h p n = cond (asked q s h p) (left_at q s h (p + n)) (Some p)
 
 module _ {s : List ℕ} {p n k : ℕ} (m : Whole s p n k) (q : Question) (h : Here) where
   version-case : k ≡ kind.VERSION → left_at q s h p ≡ onward q s (record { version = p; blocks = 0 }) p n
@@ -115,7 +115,7 @@ module _ {s : List ℕ} {p n k : ℕ} (m : Whole s p n k) (q : Question) (h : He
       some = lt-ltb 0 (h.blocks + 1) (omega arith)
 
       go : (i : Bool) → left q i (version_at s h.version) h.blocks (record { level = 0; code = []; blocks = block_at s p ∷ (view_at s (p + n)).blocks; versions = (view_at s (p + n)).versions })
-          ≡ cond (cond (i and ltb 0 (h.blocks + 1)) (q.of_block (version_at s h.version) (h.blocks + 1 - 1) (block_at s p)) true) (left q i (version_at s h.version) (h.blocks + 1) (view_at s (p + n))) (At p)
+          ≡ cond (cond (i and ltb 0 (h.blocks + 1)) (q.of_block (version_at s h.version) (h.blocks + 1 - 1) (block_at s p)) true) (left q i (version_at s h.version) (h.blocks + 1) (view_at s (p + n))) (Some p)
       go true = rw (some, less, add-one) (at-a-block q (version_at s h.version) (view_at s (p + n)) h.blocks (block_at s p) (ap (λ (x : ℕ). (view_at s (p + x)).code) (sym m.size)))
       go false = stray-block q (version_at s h.version) (view_at s (p + n)) h.blocks (h.blocks + 1) (block_at s p)
 
@@ -128,7 +128,7 @@ module _ {s : List ℕ} {p n k : ℕ} (m : Whole s p n k) (q : Question) (h : He
     where
       go : (i : Bool) (b : ℕ) (c : Bool) → (i and ltb 0 b) ≡ c
           → left q i (version_at s h.version) b (record { level = level_of (rec_at s p); code = line_of (rec_at s p) ∷ (view_at s (p + n)).code; blocks = (view_at s (p + n)).blocks; versions = (view_at s (p + n)).versions })
-          ≡ cond (cond c (q.of_instr (version_at s h.version) (b - 1) (instr_at s p)) true) (left q i (version_at s h.version) b (view_at s (p + n))) (At p)
+          ≡ cond (cond c (q.of_instr (version_at s h.version) (b - 1) (instr_at s p)) true) (left q i (version_at s h.version) b (view_at s (p + n))) (Some p)
       go i b false e = stray-line q (version_at s h.version) (view_at s (p + n)) i b (level_of (rec_at s p)) (line_of (rec_at s p)) e
       go false b true e = absurd (true≢false (sym e))
       go true zero true e = absurd (true≢false (sym e))
@@ -155,7 +155,7 @@ moved-few s h p e = go (eqb (kind_at s p) kind.VERSION) (eqb (kind_at s p) kind.
     go false false c = omega arith
 
 module _ {q : Question} {answer : Found} {s : List ℕ} {p n k : ℕ} {h g : Here} (a : Asking q answer s p h) (m : Whole s p n k) (e : g ≡ moved_to s h p) where
-  pub say-no : asked q s g p ≡ false → At p ≡ answer
+  pub say-no : asked q s g p ≡ false → Some p ≡ answer
   say-no r = sym (a.left ∙ meets m q h (omega (arith, a.few, m.inside)) ∙ rw (← e, r))
 
   pub go_on : asked q s g p ≡ true → Asking q answer s (p + n) g

@@ -1,5 +1,7 @@
 -- The table of versions, and whether a function has one.
+use Rattle.std.specs.Prelude.{None, Some}
 use mathlib.Core.Path.{◌≡◌, refl, sym, ap, ◌∙◌, subst}
+use Rattle.layout.specs.Found.{Found}
 use mathlib.Core.List.{List, [], ◌∷◌, map}
 use mathlib.Core.Option.{some}
 use mathlib.Core.Bool.{Bool, true, false, cond, ◌||◌}
@@ -13,8 +15,6 @@ use borrow.Author.Tests.{eq-eqb, ne_eqb, ltb-true, ltb-false, eqb-true, eqb-fals
 use Rattle.layout.specs.Kinds as kind
 use Rattle.layout.specs.Tests.{◌and◌, any}
 use Rattle.layout.specs.Records.{◌!◌, kind_at, body_at, records}
-use Rattle.layout.specs.declared.Found.{Found}
-use Rattle.layout.specs.declared.Found.TheVariants.{Nothing, At}
 use Rattle.program.specs.Program.{Version, Program, nowhere, program, find_version, has_function}
 use Rattle.program.specs.Places.{view_at, version_at, version_place, offset_of, numbers, table_entry, table_of, slot_of, place_in, listed_in, function_in}
 use Rattle.program.proofs.Views.{Whole, at-version, at_block, at-line}
@@ -112,7 +112,7 @@ pub filled-last : (s : List ℕ) (p : ℕ) (t : List ℕ) → Filled s p t → v
 unfolding table_of offset_of
 filled-last s p t h e = sym (ext_get_or 0 (table_of s) t (numbers-length 0 128 (table_entry s) ∙ sym h.size) (λ k b. at k (subst (λ (n : ℕ). k < n) (numbers-length 0 128 (table_entry s)) b)))
   where
-    done : (k : ℕ) (b : Bool) → eqb (get_or t k 0) (length s) ≡ b → cond b (offset_of s Nothing) (get_or t k 0) ≡ get_or t k 0
+    done : (k : ℕ) (b : Bool) → eqb (get_or t k 0) (length s) ≡ b → cond b (offset_of s None) (get_or t k 0) ≡ get_or t k 0
     done k true x = sym (eqb-true (get_or t k 0) (length s) x)
     done k false x = refl
 
@@ -148,7 +148,7 @@ module _ {s : List ℕ} {p n : ℕ} {t : List ℕ} (m : Whole s p n (kind_at s p
           let i : k ≡ slot_of s p = sym (eqb-true (slot_of s p) k e) in
           let there : get_or (set t (slot_of s p) p) k 0 ≡ p = rw i (get_or-set_same t (slot_of s p) p 0 (rw h.size o)) in
           let was : get_or t k 0 ≡ length s = rw i z in
-          let found : version_from s p (k / 4) (k % 4) ≡ At p = version-here m (k / 4) (k % 4) (is-version-slot s p k b ∙ e) in
+          let found : version_from s p (k / 4) (k % 4) ≡ Some p = version-here m (k / 4) (k % 4) (is-version-slot s p k b ∙ e) in
           let inside : eqb p (length s) ≡ false = ne_eqb p (length s) (λ y. absurd (omega (arith, m.inside))) in
           h.entries k b ∙ simp (eq-eqb (get_or t k 0) (length s) was, found, there, inside)
       go k b false e =
@@ -165,18 +165,18 @@ listed_at s t f w e hf hw =
     let j : (4 * f + w) % 4 ≡ w = omega arith in
     sym (ap (λ (l : List ℕ). get_or l (4 * f + w) 0) e ∙ table_at s (4 * f + w) (omega arith) ∙ simp (i, j))
 
-offset-inside : (s : List ℕ) (o : Found) (q : ℕ) → offset_of s o ≡ q → q < length s → o ≡ At q
+offset-inside : (s : List ℕ) (o : Found) (q : ℕ) → offset_of s o ≡ q → q < length s → o ≡ Some q
 unfolding offset_of
-offset-inside s Nothing q e h = absurd (omega arith)
-offset-inside s (At p) q e h = ap At e
+offset-inside s None q e h = absurd (omega arith)
+offset-inside s (Some p) q e h = ap Some e
 
-offset-outside : (s : List ℕ) (f w : ℕ) → length s ≤ offset_of s (version_place s f w) → version_place s f w ≡ Nothing
+offset-outside : (s : List ℕ) (f w : ℕ) → length s ≤ offset_of s (version_place s f w) → version_place s f w ≡ None
 unfolding offset_of
 offset-outside s f w h = go (version_place s f w) refl h
   where
-    go : (o : Found) → version_place s f w ≡ o → length s ≤ offset_of s o → version_place s f w ≡ Nothing
-    go Nothing e l = e
-    go (At p) e l = absurd (omega (arith, (version-found s f w p e).1))
+    go : (o : Found) → version_place s f w ≡ o → length s ≤ offset_of s o → version_place s f w ≡ None
+    go None e l = e
+    go (Some p) e l = absurd (omega (arith, (version-found s f w p e).1))
 
 find-function : (P : Program) (f w : ℕ) (v : Version) → find_version P f w ≡ some v → has_function f P ≡ true
 unfolding find_version any ◌and◌
@@ -187,7 +187,7 @@ find-function (x ∷ P) f w v e = go (eqb x.function f) (eqb x.version w) (λ g.
     go true b ih g = refl
     go false b ih g = ih g
 
-function-listed : (s : List ℕ) (f w q : ℕ) → version_place s f w ≡ At q → has_function f (program (records s)) ≡ true
+function-listed : (s : List ℕ) (f w q : ℕ) → version_place s f w ≡ Some q → has_function f (program (records s)) ≡ true
 function-listed s f w q e = find-function (program (records s)) f w (version_at s q) (version-found s f w q e).0
 
 -- a table in which every entry is the image length
@@ -199,11 +199,11 @@ pub listed-right : (s t : List ℕ) (f w : ℕ) → t ≡ table_of s → listed_
 unfolding listed_in place_in ◌and◌
 listed-right s t f w e = go (ltb f 32) (ltb w 4) refl refl
   where
-    place : (b : Bool) → ltb (get_or t (4 * f + w) 0) (length s) ≡ b → f < 32 → w < 4 → cond b (At (get_or t (4 * f + w) 0)) Nothing ≡ version_place s f w
+    place : (b : Bool) → ltb (get_or t (4 * f + w) 0) (length s) ≡ b → f < 32 → w < 4 → cond b (Some (get_or t (4 * f + w) 0)) None ≡ version_place s f w
     place true x hf hw = sym (offset-inside s (version_place s f w) (get_or t (4 * f + w) 0) (listed_at s t f w e hf hw) (ltb-true (get_or t (4 * f + w) 0) (length s) x))
     place false x hf hw = sym (offset-outside s f w (omega (arith, listed_at s t f w e hf hw, ltb-false (get_or t (4 * f + w) 0) (length s) x)))
 
-    go : (a b : Bool) → ltb f 32 ≡ a → ltb w 4 ≡ b → cond (a and b) (cond (ltb (get_or t (4 * f + w) 0) (length s)) (At (get_or t (4 * f + w) 0)) Nothing) (version_place s f w) ≡ version_place s f w
+    go : (a b : Bool) → ltb f 32 ≡ a → ltb w 4 ≡ b → cond (a and b) (cond (ltb (get_or t (4 * f + w) 0) (length s)) (Some (get_or t (4 * f + w) 0)) None) (version_place s f w) ≡ version_place s f w
     go true true ea eb = place (ltb (get_or t (4 * f + w) 0) (length s)) refl (ltb-true f 32 ea) (ltb-true w 4 eb)
     go true false ea eb = refl
     go false b ea eb = refl

@@ -1,13 +1,12 @@
 -- The program by offsets: what code that goes along the records has in hand.
-use Rattle.std.specs.Prelude.{List, [], ◌∷◌, map, Bool, true, cond, not, ℕ, zero, suc, ◌+◌, ◌-◌, ◌*◌, ◌/◌, ◌%◌, length, ltb, eqb}
+use Rattle.std.specs.Prelude.{List, [], ◌∷◌, map, Bool, true, cond, not, ℕ, zero, suc, ◌+◌, ◌-◌, ◌*◌, ◌/◌, ◌%◌, length, ltb, eqb, None, Some}
+use Rattle.layout.specs.Found.{Found}
 use Rattle.std.proofs.Math.Option.{Option, none, some}
 use Rattle.std.proofs.Math.ListN.{get_elem?}
 use Rattle.layout.specs.Bounds.{FUNCTIONS, VERSIONS}
 use Rattle.layout.specs.Kinds as kind
 use Rattle.layout.specs.Tests.{◌and◌}
 use Rattle.layout.specs.Records.{◌!◌, size_at, kind_at, body_at, rec_at, rest, records, choose}
-use Rattle.layout.specs.declared.Found.{Found}
-use Rattle.layout.specs.declared.Found.TheVariants.{Nothing, At}
 use Rattle.program.specs.Program.{Instr, Block, Version, View, instr_of, block_of, version_of, view, program, find_version, has_function}
 use Rattle.program.specs.Search.{Question}
 use Rattle.program.specs.declared.Here.{Here}
@@ -42,8 +41,8 @@ is_line s p = ltb p (length s) and not (eqb (size_at s p) 0) and not (eqb (kind_
 
 -- where what was looked up stands
 unfoldable pub place_of : {A : Type 0} → (A → ℕ) → Option A → Found
-place_of at none = Nothing
-place_of at (some x) = At (at x)
+place_of at none = None
+place_of at (some x) = Some (at x)
 
 -- where the version w of the function f stands
 unfoldable pub version_place : List ℕ → ℕ → ℕ → Found
@@ -55,8 +54,8 @@ block_place s v b = place_of (λ (x : Block). x.at) (get_elem? (version_at s v).
 
 -- the offset that stands for a place in a table: the image length for none
 unfoldable pub offset_of : List ℕ → Found → ℕ
-offset_of s Nothing = length s
-offset_of s (At p) = p
+offset_of s None = length s
+offset_of s (Some p) = p
 
 -- n numbers from k on
 unfoldable pub numbers : ℕ → ℕ → List ℕ
@@ -79,7 +78,7 @@ slot_of s p =
 
 -- an entry of a table as a place; the image length and more stand for none
 unfoldable pub place_in : List ℕ → ℕ → Found
-place_in s p = cond (ltb p (length s)) (At p) Nothing
+place_in s p = cond (ltb p (length s)) (Some p) None
 
 -- where a table says that the version w of the function f stands; what lies outside of the bounds is looked up
 unfoldable pub listed_in : List ℕ → List ℕ → ℕ → ℕ → Found

@@ -1,12 +1,12 @@
 -- Question 14: how far a SKIP goes.
 use Rattle.std.specs.Prelude.{List, [], ◌∷◌, ◌++◌, Bool, true, false, not, ◌||◌, ℕ, zero, suc, ◌+◌, ◌/◌, ◌%◌, take, drop, set, replicate, eqb}
+use Rattle.layout.specs.Found.{Found}
 use Rattle.layout.specs.Bounds.{INSTRUCTIONS}
 use Rattle.layout.specs.Kinds as kind
 use Rattle.layout.specs.Tests.{all}
 use Rattle.layout.specs.Records.{Rec, ◌!◌, choose}
 use Rattle.layout.specs.Scan.{scan}
 use Rattle.layout.specs.Questions.{nothing}
-use Rattle.layout.specs.declared.Found.{Found}
 
 -- of each place ahead, from the record here on: does the block, or a part that a SKIP passes over, end in front of it?
 abbrev pub Ends : Type 0

@@ -6,7 +6,6 @@ ghost use Rattle.layout.specs.Kinds as kind;
 ghost use Rattle.program.specs.Program.{program, has_function, mark_of};
 ghost use Rattle.program.specs.Places.{version_at, version_place, block_place, is_line, table_of, slot_of, listed_in, function_in};
 
-use layout::Found;
 
 /// The entries of the table of versions: 4 for each function.
 pub const TABLE: usize = 128;
@@ -25,44 +24,44 @@ fn is_version(image: &[u8], p: usize, f: usize, w: usize) -> bool
 }
 
 /// Where the version `w` of the function `f` stands.
-pub fn version(image: &[u8], f: usize, w: usize) -> Found
+pub fn version(image: &[u8], f: usize, w: usize) -> Option<usize>
     ensures { result ≡ version_place image.now f w }
 {
     let mut p: usize = 0;
     while p < image.len() {
         let n = layout::size_at(image, p);
         if n == 0 {
-            return Found::Nothing;
+            return None;
         }
         if is_version(image, p, f, w) {
-            return Found::At(p);
+            return Some(p);
         }
         p += n;
     }
-    Found::Nothing
+    None
 }
 
 /// Where the block `b` of the version at `v` stands.
-pub fn block(image: &[u8], v: usize, b: usize) -> Found
+pub fn block(image: &[u8], v: usize, b: usize) -> Option<usize>
     ensures { result ≡ block_place image.now v b }
 {
     if image.len() <= v {
-        return Found::Nothing;
+        return None;
     }
     let mut p = v + layout::size_at(image, v);
     let mut left = b;
     while p < image.len() {
         let n = layout::size_at(image, p);
         if n == 0 {
-            return Found::Nothing;
+            return None;
         }
         let k = layout::kind_at(image, p);
         if k == layout::kinds::VERSION {
-            return Found::Nothing;
+            return None;
         }
         if k == layout::kinds::BLOCK {
             if left == 0 {
-                return Found::At(p);
+                return Some(p);
             }
             left -= 1;
             p += n;
@@ -70,7 +69,7 @@ pub fn block(image: &[u8], v: usize, b: usize) -> Found
             p += n;
         }
     }
-    Found::Nothing
+    None
 }
 
 /// Does an instruction's record stand at `p`?
@@ -119,7 +118,7 @@ pub fn type_of(image: &[u8], v: usize, r: usize) -> usize
 pub fn mark(image: &[u8], v: usize) -> usize
     ensures { (result ≡ mark_of (version_at image.now v)) × (result < 256) }
 {
-    let Found::At(b) = block(image, v, 0) else {
+    let Some(b) = block(image, v, 0) else {
         return 0;
     };
     layout::field(image, b, 0)
@@ -226,7 +225,7 @@ fn slot(image: &[u8], p: usize) -> usize
 }
 
 /// Where the table says that the version `w` of the function `f` stands. By the image's own table it is where the version stands.
-pub fn listed(image: &[u8], table: &[usize; 128], f: usize, w: usize) -> Found
+pub fn listed(image: &[u8], table: &[usize; 128], f: usize, w: usize) -> Option<usize>
     ensures { result ≡ listed_in image.now table.now f w }
 {
     if layout::bounds::FUNCTIONS <= f {
@@ -237,9 +236,9 @@ pub fn listed(image: &[u8], table: &[usize; 128], f: usize, w: usize) -> Found
     }
     let p = table[layout::bounds::VERSIONS * f + w];
     if p < image.len() {
-        Found::At(p)
+        Some(p)
     } else {
-        Found::Nothing
+        None
     }
 }
 

@@ -4,7 +4,7 @@ ghost use Rattle.layout.specs.Tests.{all};
 ghost use Rattle.layout.specs.Records.{records, rec_at};
 ghost use Rattle.program.specs.Skips.{PLACES, ends_of, ends_after, ends_within, question14};
 
-use layout::{Found, bounds, kinds};
+use layout::{bounds, kinds};
 
 /// The places ahead that are kept: those of a block's instructions, and the one behind them.
 const PLACES: usize = bounds::INSTRUCTIONS + 1;
@@ -54,7 +54,7 @@ fn ends_after(image: &[u8], p: usize, ends: u64) -> u64
 }
 
 /// Question 14: does n of no SKIP go past the end of the block or of a skipped part that the SKIP stands in?
-pub fn question_14(image: &[u8]) -> Found
+pub fn question_14(image: &[u8]) -> Option<usize>
     ensures { result ≡ question14 (records image.now) }
 {
     let mut p: usize = 0;
@@ -62,14 +62,14 @@ pub fn question_14(image: &[u8]) -> Found
     while p < image.len() {
         let n = layout::size_at(image, p);
         if n == 0 {
-            return Found::At(p);
+            return Some(p);
         }
         if ends_within(image, p, ends) {
             ends = ends_after(image, p, ends);
             p += n;
         } else {
-            return Found::At(p);
+            return Some(p);
         }
     }
-    Found::Nothing
+    None
 }

@@ -9,7 +9,7 @@ ghost use Rattle.program.specs.Places.{version_at, block_at, instr_at, table_of,
 ghost use Rattle.program.specs.Questions.{exists, names_block, namings, block_named, question7};
 
 use crate::{Here, lookup, pass};
-use layout::{Found, bounds, kinds};
+use layout::{bounds, kinds};
 
 /// Are `n` fields of the record at `p` below `registers`, from the field `from` on, each `step` behind the one before?
 fn all_exist(image: &[u8], p: usize, from: usize, step: usize, n: usize, registers: usize) -> bool
@@ -86,7 +86,7 @@ fn prom_exists(image: &[u8], v: usize, b: usize, p: usize) -> bool
     if block <= b {
         return false;
     }
-    let Found::At(_) = lookup::block(image, v, block) else {
+    let Some(_) = lookup::block(image, v, block) else {
         return false;
     };
     true
@@ -135,7 +135,7 @@ fn call_exists(image: &[u8], table: &[usize; 128], v: usize, b: usize, p: usize)
     if all_exist(image, p, 4, 1, n, registers) {
         let f = layout::field(image, p, 1);
         let w = layout::field(image, p, 2);
-        let Found::At(q) = lookup::listed(image, table, f, w) else {
+        let Some(q) = lookup::listed(image, table, f, w) else {
             return false;
         };
         n == layout::field(image, q, 2)
@@ -276,7 +276,7 @@ fn exists_at(image: &[u8], table: &[usize; 128], here: Here, p: usize) -> bool
 }
 
 /// Question 7: does all exist that the records name, and is every block but 0 named by exactly one PROM in its version?
-pub fn question_7(image: &[u8]) -> Found
+pub fn question_7(image: &[u8]) -> Option<usize>
     ensures { result ≡ first (question7 (program (records image.now))) (program (records image.now)) }
 {
     let table = lookup::versions(image);
@@ -288,14 +288,14 @@ pub fn question_7(image: &[u8]) -> Found
     while p < image.len() {
         let n = layout::size_at(image, p);
         if n == 0 {
-            return Found::Nothing;
+            return None;
         }
         here = pass::moved(image, here, p);
         if exists_at(image, &table, here, p) {
             p += n;
         } else {
-            return Found::At(p);
+            return Some(p);
         }
     }
-    Found::Nothing
+    None
 }

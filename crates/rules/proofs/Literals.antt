@@ -1,5 +1,7 @@
 -- Two programs that differ in the numbers of literals alone, as those do that the two forms make of the same records: each question finds the same record in both.
+use Rattle.std.specs.Prelude.{Some}
 use mathlib.Core.Path.{◌≡◌, refl, sym, ap, ap₂, ◌∙◌, subst}
+use Rattle.layout.specs.Found.{Found}
 use mathlib.Core.List.{List, [], ◌∷◌, map}
 use mathlib.Core.Bool.{Bool, true, false, cond}
 use Prim.Native.Nat.{ℕ, ◌+◌}
@@ -9,8 +11,6 @@ use lib.Dec.{eqb}
 use Rattle.layout.specs.Kinds as kind
 use Rattle.layout.specs.Records.{Rec, choose}
 use Rattle.layout.specs.declared.Form.{Form}
-use Rattle.layout.specs.declared.Found.{Found}
-use Rattle.layout.specs.declared.Found.TheVariants.{At}
 use Rattle.program.specs.Program.{Instr, Line, Block, Version, Program, View, nowhere, block_of, instr_by, level_of, line_by, put_by, version_of, view_by, program_by}
 use Rattle.program.specs.Search.{Question, first_line, first_block, first}
 use Rattle.program.specs.Questions.{question7}
@@ -70,7 +70,7 @@ heads f x y l m e = (cc, cc)
 empty-not : {A B C : Type 0} (f : A → B) (x : A) (l : List A) → [] ≡ map f (x ∷ l) → C
 empty-not f x l e = let z : ◌≡◌ {A = ℕ} 0 1 = cc in absurd (omega arith)
 
-either_same : (a b : Bool) (x y : Found) (p p' : ℕ) → a ≡ b → x ≡ y → p ≡ p' → cond a x (At p) ≡ cond b y (At p')
+either_same : (a b : Bool) (x y : Found) (p p' : ℕ) → a ≡ b → x ≡ y → p ≡ p' → cond a x (Some p) ≡ cond b y (Some p')
 either_same a b x y p p' e h l = rw (e, h, l) refl
 
 module _ (q q' r : Question) (s : Same q q') (t : Same r q') where

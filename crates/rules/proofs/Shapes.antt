@@ -1,5 +1,7 @@
 -- Questions 6 to 10 and 18 look at no offset and at no literal's number: of two programs of the same shape, both pass or none does.
+use Rattle.std.specs.Prelude.{None, Some}
 use mathlib.Core.Path.{◌≡◌, refl, sym, ap, ap₂, ◌∙◌}
+use Rattle.layout.specs.Found.{Found}
 use mathlib.Core.List.{List, [], ◌∷◌, map}
 use mathlib.Core.Option.{Option, none, some, Option-elim}
 use mathlib.Core.Bool.{Bool, true, false, cond, not, ◌||◌}
@@ -9,8 +11,6 @@ use lib.ListN.{length, take, get_elem?, replicate, get_or}
 use lib.Dec.{eqb, leb, ltb}
 use Rattle.layout.specs.Bounds.{INSTRUCTIONS}
 use Rattle.layout.specs.Tests.{◌and◌, all, any, count, found}
-use Rattle.layout.specs.declared.Found.{Found}
-use Rattle.layout.specs.declared.Found.TheVariants.{Nothing, At}
 use Rattle.program.specs.Program.{Argument, Instr, LIT, MOVE, USE, DUP, VEC, LEN, GET, SET, ARITH, SELECT, CAST, NAMED, STORE, PROM, FORCE, PEEK, POKE, CALL, DISPATCH, SKIP, Line, Block, Version, Program, find_version, first_mark, given}
 use Rattle.program.specs.Search.{Question, first_line, first_block, first}
 use Rattle.program.specs.Questions.{register_exists, exists, names_block, namings, block_named, question7}
@@ -308,8 +308,8 @@ module _ (P : Program) where
 
 -- that none fails
 unfoldable pub quiet : Found → Bool
-quiet Nothing = true
-quiet (At p) = false
+quiet None = true
+quiet (Some p) = false
 
 -- a question, and one to the shapes, that say the same
 pub record Same (q q' : Question) : Type 0 where
@@ -317,7 +317,7 @@ pub record Same (q q' : Question) : Type 0 where
   pub block : (v : Version) (n : ℕ) (b : Block) → q.of_block v n b ≡ q'.of_block (shape v) n (shape_block b)
   pub instr : (v : Version) (n : ℕ) (i : Instr) → q.of_instr v n i ≡ q'.of_instr (shape v) n (blank i)
 
-either-quiet : (b c : Bool) (x y : Found) (p p' : ℕ) → b ≡ c → quiet x ≡ quiet y → quiet (cond b x (At p)) ≡ quiet (cond c y (At p'))
+either-quiet : (b c : Bool) (x y : Found) (p p' : ℕ) → b ≡ c → quiet x ≡ quiet y → quiet (cond b x (Some p)) ≡ quiet (cond c y (Some p'))
 unfolding quiet
 either-quiet true c x y p p' e h = rw (sym e) h
 either-quiet false c x y p p' e h = rw (sym e) refl

@@ -1,4 +1,5 @@
 -- No step enters a version above the level of the calls that are live, and none is begun above the run's level.
+use Rattle.std.specs.Prelude.{None}
 use mathlib.Core.Path.{◌≡◌, refl, sym, ap, ◌∙◌, subst}
 use mathlib.Core.Logic.{◌≢◌, ◌⊎◌, inl, inr}
 use mathlib.Core.List.{List, [], ◌∷◌}
@@ -13,7 +14,6 @@ use lib.Dec.{leb, ltb}
 use borrow.Author.Tests.{leb-true, le-leb, ltb-true, ltb-false}
 use Rattle.layout.specs.Bounds.{INSTRUCTIONS, VERSIONS, LEVELS}
 use Rattle.layout.specs.Tests.{◌and◌, found}
-use Rattle.layout.specs.declared.Found.TheVariants.{Nothing}
 use Rattle.layout.proofs.Bools.{and_both}
 use Rattle.program.specs.Program.{Argument, Instr, LIT, MOVE, USE, DUP, VEC, LEN, GET, SET, ARITH, SELECT, CAST, NAMED, STORE, PROM, FORCE, PEEK, POKE, CALL, DISPATCH, SKIP, Line, Version, Program, find_version, parameter_types}
 use Rattle.program.specs.Search.{first}
@@ -66,7 +66,7 @@ some_pair e = (ap one e, ap two e)
     two none = 0
     two (some q) = q.1
 
-module _ (P : Program) (l : ℕ) (down : first (question18 P) P ≡ Nothing) where
+module _ (P : Program) (l : ℕ) (down : first (question18 P) P ≡ None) where
   abbrev Q : State → Type 0
   Q s = NoneAbove P l s
 

@@ -1,5 +1,7 @@
 -- Two images whose records are those of both forms are asked alike: the one is accepted in its form exactly when the other is.
+use Rattle.std.specs.Prelude.{None, Some}
 use mathlib.Core.Path.{◌≡◌, refl, sym, ap, ap₂, ◌∙◌}
+use Rattle.layout.specs.Found.{Found}
 use mathlib.Core.Logic.{◌⊎◌, inl, inr}
 use mathlib.Core.List.{List, [], ◌∷◌, map}
 use mathlib.Core.Option.{Option, none, some}
@@ -18,8 +20,6 @@ use Rattle.layout.specs.Forms.{literal_kind, literal_length, other, printed, mov
 use Rattle.layout.specs.Questions.{question1, question2, question3, question4, question5, plain_length, length_of, whole, same, nothing, in_bounds, in_order, placed, due_after, none_due, start, follows, following, last_version}
 use Rattle.layout.specs.declared.Due.{Due}
 use Rattle.layout.specs.declared.Form.{Form}
-use Rattle.layout.specs.declared.Found.{Found}
-use Rattle.layout.specs.declared.Found.TheVariants.{Nothing, At}
 use Rattle.program.specs.Program.{Program, program}
 use Rattle.program.specs.Skips.{Ends, ends_after, ends_within, no_ends, question14}
 use Rattle.rules.proofs.Shapes.{map-length, shape, quiet, shape-6, shape-7, shape-8, shape-18, shape-9, shape-10}
@@ -33,17 +33,17 @@ use Rattle.runs.proofs.Widened.{Literal, Kept, Widened, old-whole, new-whole, fo
 
 -- ---- what fails nowhere
 
-quiet-nothing : (f : Found) → quiet f ≡ true → f ≡ Nothing
+quiet-nothing : (f : Found) → quiet f ≡ true → f ≡ None
 unfolding quiet
-quiet-nothing Nothing e = refl
-quiet-nothing (At p) e = let z : ◌≡◌ {A = ℕ} 0 1 = cc in absurd (omega arith)
+quiet-nothing None e = refl
+quiet-nothing (Some p) e = let z : ◌≡◌ {A = ℕ} 0 1 = cc in absurd (omega arith)
 
-nothing-quiet : {f : Found} → f ≡ Nothing → quiet f ≡ true
+nothing-quiet : {f : Found} → f ≡ None → quiet f ≡ true
 unfolding quiet
 nothing-quiet e = rw e refl
 
 -- where one of two that say the same fails nowhere, the other does
-too : {f g : Found} → quiet f ≡ quiet g → f ≡ Nothing → g ≡ Nothing
+too : {f g : Found} → quiet f ≡ quiet g → f ≡ None → g ≡ None
 too {f} {g} e h = quiet-nothing g (sym e ∙ nothing-quiet h)
 
 -- ---- a record in both forms
@@ -68,7 +68,7 @@ rec_by k b = record { at = 0; size = 0; kind = k; body = b }
 
 module _ {S : Type 0} (T : S → S → Type 0) (ok : S → Rec → Bool) (next : S → Rec → S) (end end' : S → Found)
     (judged : (s t : S) (r q : Rec) → T s t → Moved r q → ok s r ≡ ok t q) (left : (s t : S) (r q : Rec) → T s t → Moved r q → T (next s r) (next t q)) (ended : (s t : S) → T s t → quiet (end s) ≡ quiet (end' t)) where
-  either-quiet : (b c : Bool) (x y : Found) (p p' : ℕ) → b ≡ c → quiet x ≡ quiet y → quiet (cond b x (At p)) ≡ quiet (cond c y (At p'))
+  either-quiet : (b c : Bool) (x y : Found) (p p' : ℕ) → b ≡ c → quiet x ≡ quiet y → quiet (cond b x (Some p)) ≡ quiet (cond c y (Some p'))
   unfolding quiet
   either-quiet true c x y p p' e h = rw (sym e) h
   either-quiet false c x y p p' e h = rw (sym e) refl
@@ -94,7 +94,7 @@ module _ (rs qs : List Rec) (h : Widened rs qs) where
       (λ s t r q e w. ap (λ (d : Due). due_after d r) e ∙ moved_same (λ k b. due_after t (rec_by k b)) (λ b c. refl) r q w)
       (λ s t e. ap (λ (d : Due). quiet (none_due n d)) e ∙ at-end (eqb t.levels 0 and eqb t.blocks 0 and eqb t.instructions 0)) rs qs h start start refl
     where
-      at-end : (b : Bool) → quiet (cond b Nothing (At n)) ≡ quiet (cond b Nothing (At m))
+      at-end : (b : Bool) → quiet (cond b None (Some n)) ≡ quiet (cond b None (Some m))
       at-end true = refl
       at-end false = refl
 
@@ -154,7 +154,7 @@ both-whole : (r q : Rec) → Moved r q → (0 < r.size) × (0 < q.size)
 both-whole r q (inl l) = (old-whole r q l, new-whole r q l)
 both-whole r q (inr k) = (k.whole, omega (arith, k.whole, k.same_size))
 
-both-3 : (rs qs : List Rec) → Widened rs qs → (question3 Form.Narrow rs ≡ Nothing) × (question3 Form.Wide qs ≡ Nothing)
+both-3 : (rs qs : List Rec) → Widened rs qs → (question3 Form.Narrow rs ≡ None) × (question3 Form.Wide qs ≡ None)
 unfolding question3 scan Widened ◌and◌
 both-3 [] [] h = (refl, refl)
 both-3 [] (q ∷ qs) h = absurd h
@@ -172,7 +172,7 @@ abbrev Both : Found → Found → Type 0
 Both f g = quiet f ≡ quiet g
 
 -- what an image passed, and the other one too, from what they say alike
-carried : {F : Form} {s : List ℕ} {n : ℕ} (G : Form) (t : List ℕ) → Passed F s n → question1 t ≡ Nothing → question3 G (records t) ≡ Nothing → map shape (program (records s)) ≡ map shape (program (records t))
+carried : {F : Form} {s : List ℕ} {n : ℕ} (G : Form) (t : List ℕ) → Passed F s n → question1 t ≡ None → question3 G (records t) ≡ None → map shape (program (records s)) ≡ map shape (program (records t))
     → Both (question2 (records s)) (question2 (records t)) → Both (question4 (length s) (records s)) (question4 (length t) (records t)) → Both (question5 (records s)) (question5 (records t)) → Both (question14 (records s)) (question14 (records t))
     → verdict_in G t ≡ Verdict.Accepted n
 carried {F} {s} {n} G t a one three e two four five fourteen =
@@ -199,28 +199,28 @@ carried {F} {s} {n} G t a one three e two four five fourteen =
 
 -- THE LAWS: images in both forms are accepted alike, with as many versions, where neither is too long
 module _ (s t : List ℕ) (h : Widened (records s) (records t)) where
-  pub wide-accepted : (n : ℕ) → verdict_in Form.Narrow s ≡ Verdict.Accepted n → question1 t ≡ Nothing → verdict_in Form.Wide t ≡ Verdict.Accepted n
+  pub wide-accepted : (n : ℕ) → verdict_in Form.Narrow s ≡ Verdict.Accepted n → question1 t ≡ None → verdict_in Form.Wide t ≡ Verdict.Accepted n
   wide-accepted n e one =
       let rs = records s in
       let qs = records t in
       carried Form.Wide t (passed s n e) one (both-3 rs qs h).1 (forms-shape rs qs h) (alike-2 rs qs h) (alike-4 rs qs h (length s) (length t)) (alike-5 rs qs h) (alike-14 rs qs h)
 
-  pub narrow-accepted : (n : ℕ) → verdict_in Form.Wide t ≡ Verdict.Accepted n → question1 s ≡ Nothing → verdict_in Form.Narrow s ≡ Verdict.Accepted n
+  pub narrow-accepted : (n : ℕ) → verdict_in Form.Wide t ≡ Verdict.Accepted n → question1 s ≡ None → verdict_in Form.Narrow s ≡ Verdict.Accepted n
   narrow-accepted n e one =
       let rs = records s in
       let qs = records t in
       carried Form.Narrow s (passed t n e) one (both-3 rs qs h).0 (sym (forms-shape rs qs h)) (sym (alike-2 rs qs h)) (sym (alike-4 rs qs h (length s) (length t))) (sym (alike-5 rs qs h)) (sym (alike-14 rs qs h))
 
 -- an image that passes question 1 has a byte and is not too long, and back
-pub long-enough : (s : List ℕ) → question1 s ≡ Nothing → (0 < length s) × (length s ≤ IMAGE)
+pub long-enough : (s : List ℕ) → question1 s ≡ None → (0 < length s) × (length s ≤ IMAGE)
 unfolding question1
 long-enough s e = go (ltb 0 (length s) and leb (length s) IMAGE) refl e
   where
-    go : (b : Bool) → (ltb 0 (length s) and leb (length s) IMAGE) ≡ b → cond b Nothing (At 0) ≡ Nothing → (0 < length s) × (length s ≤ IMAGE)
+    go : (b : Bool) → (ltb 0 (length s) and leb (length s) IMAGE) ≡ b → cond b None (Some 0) ≡ None → (0 < length s) × (length s ≤ IMAGE)
     go true x y = let z = and_both _ _ x in (ltb-true 0 (length s) z.0, leb-true (length s) IMAGE z.1)
     go false x y = let z : ◌≡◌ {A = ℕ} 0 1 = cc in absurd (omega arith)
 
-pub asks-one : (s : List ℕ) → 0 < length s → length s ≤ IMAGE → question1 s ≡ Nothing
+pub asks-one : (s : List ℕ) → 0 < length s → length s ≤ IMAGE → question1 s ≡ None
 unfolding question1 ◌and◌
 asks-one s h l = rw (lt-ltb 0 (length s) h, le-leb (length s) IMAGE l) refl
 
@@ -230,7 +230,7 @@ unfolding moved rest walk printed
 some_byte form s [] e h = let z : length s ≡ 0 = ap length (sym e) in absurd (omega (arith, h, z))
 some_byte form s (x ∷ t) e h = omega arith
 
-pub moved-one : (form : Form) (s : List ℕ) → question1 s ≡ Nothing → moved (other form) (records (moved form (records s))) ≡ s → length (moved form (records s)) ≤ IMAGE → question1 (moved form (records s)) ≡ Nothing
+pub moved-one : (form : Form) (s : List ℕ) → question1 s ≡ None → moved (other form) (records (moved form (records s))) ≡ s → length (moved form (records s)) ≤ IMAGE → question1 (moved form (records s)) ≡ None
 moved-one form s one back l = asks-one (moved form (records s)) (some_byte form s (moved form (records s)) back (long-enough s one).0) l
 
 -- the longer image, where it is not too long

@@ -1,4 +1,5 @@
 -- 02, 6: an image in the other form: its records are those of the image in both forms, and there and back is the image.
+use Rattle.std.specs.Prelude.{None}
 use mathlib.Core.Path.{◌≡◌, refl, sym, ap, ap₂, ◌∙◌}
 use mathlib.Core.Logic.{◌⊎◌, inl, inr}
 use mathlib.Core.List.{List, [], ◌∷◌, ◌++◌, map}
@@ -15,7 +16,6 @@ use Rattle.layout.specs.Records.{Rec, ◌!◌, choose, records}
 use Rattle.layout.specs.Forms.{literal_kind, literal_length, record_bytes, printed, other, sign_byte, moved_number, moved_kind, moved_body, moved_record, moved}
 use Rattle.layout.specs.Questions.{length_of, plain_length, fitting, question2, question3}
 use Rattle.layout.specs.declared.Form.{Form}
-use Rattle.layout.specs.declared.Found.TheVariants.{Nothing}
 use Rattle.layout.proofs.Lists.{Each, each_both, each-then}
 use Rattle.layout.proofs.Printed.{Whole, all_pass, all_whole, both_bytes, laid, part_bytes, printed-bytes, printed-laid, records-printed, verbatim}
 use Rattle.program.specs.Program.{number_in}
@@ -28,7 +28,7 @@ pub record Known (form : Form) (r : Rec) : Type 0 where
   pub is : Whole r
   pub fits : r.size ≡ length_of form r.kind r.body
 
-pub all_known : (form : Form) (s : List ℕ) → ((i : ℕ) → s ! i < 256) → question2 (records s) ≡ Nothing → question3 form (records s) ≡ Nothing → Each (Known form) (records s)
+pub all_known : (form : Form) (s : List ℕ) → ((i : ℕ) → s ! i < 256) → question2 (records s) ≡ None → question3 form (records s) ≡ None → Each (Known form) (records s)
 unfolding question3
 all_known form s bytes e f = each-then (λ r. Whole r × Passes r) (Known form) (records s) (λ r h. record { is = h.0; fits = eqb-true _ _ h.1.1 }) (each_both Whole Passes (records s) (all_whole s bytes e) (all_pass (fitting form) (records s) f))
   where
@@ -197,7 +197,7 @@ module _ (form : Form) where
   printed-back (r ∷ rs) p k b = let z = record-back r k.0 b.0 in ap₂ ◌++◌ (ap₂ record_bytes z.0 z.1) (printed-back rs _ k.1 b.1)
 
 -- THE LAW: there and back is the image
-pub there_and_back : (form : Form) (s : List ℕ) → ((i : ℕ) → s ! i < 256) → question2 (records s) ≡ Nothing → Each (Known form) (records s) → Each (Returns form) (records s)
+pub there_and_back : (form : Form) (s : List ℕ) → ((i : ℕ) → s ! i < 256) → question2 (records s) ≡ None → Each (Known form) (records s) → Each (Returns form) (records s)
     → moved (other form) (records (moved form (records s))) ≡ s
 unfolding moved
 there_and_back form s bytes e k b =

@@ -1,5 +1,7 @@
 -- The versions of an accepted image: those of a function have the numbers from 0 on, without a gap.
+use Rattle.std.specs.Prelude.{None, Some}
 use mathlib.Core.Path.{◌≡◌, refl, sym, ap, ◌∙◌}
+use Rattle.layout.specs.Found.{Found}
 use mathlib.Core.List.{List, [], ◌∷◌}
 use mathlib.Core.Logic.{◌⊎◌, inl, inr}
 use mathlib.Core.Option.{Option, none, some}
@@ -14,8 +16,6 @@ use Rattle.layout.specs.Questions.{question5, follows, following, last_version, 
 use Rattle.layout.specs.Records.{Rec, records, ◌!◌}
 use Rattle.layout.specs.Scan.{scan}
 use Rattle.layout.specs.Tests.{◌and◌, count}
-use Rattle.layout.specs.declared.Found.{Found}
-use Rattle.layout.specs.declared.Found.TheVariants.{Nothing, At}
 use Rattle.layout.proofs.Bools.{and_both}
 use Rattle.checker.specs.Verdicts.{verdict_of}
 use Rattle.checker.specs.declared.Verdict.TheVariants.{Accepted}
@@ -27,7 +27,7 @@ use Rattle.runs.specs.Searches.{of_function}
 -- ---- the numbers follow on each other
 
 -- a scan that found nothing passed its tests
-passed : (t u : Bool) (x : Found) (p : ℕ) → cond (t and u) x (At p) ≡ Nothing → (u ≡ true) × (x ≡ Nothing)
+passed : (t u : Bool) (x : Found) (p : ℕ) → cond (t and u) x (Some p) ≡ None → (u ≡ true) × (x ≡ None)
 unfolding ◌and◌
 passed true true x p e = (refl, e)
 passed true false x p e = let z : ◌≡◌ {A = ℕ} 0 1 = cc in absurd (omega arith)
@@ -43,15 +43,15 @@ Ordered t [] = Unit {0}
 Ordered t (W ∷ P) = (t W.function W.version ≡ true) × Ordered (after W.function W.version) P
 
 -- question 5 of records is that of their versions
-ordered : (o : Option Rec) (rs : List Rec) → scan following last_version nothing o rs ≡ Nothing → Ordered (λ f w. follows o f w) (view rs).versions
+ordered : (o : Option Rec) (rs : List Rec) → scan following last_version nothing o rs ≡ None → Ordered (λ f w. follows o f w) (view rs).versions
 unfolding scan view_by put_by Ordered after ◌and◌ follows
 ordered o [] e = tt
 ordered o (r ∷ rs) e = go (eqb r.size 0) (ltb 0 r.size) (eqb r.kind kind.VERSION) (eqb r.kind kind.BLOCK) (ordered o rs) (ordered (some r) rs) e
   where
     go : (z t v b : Bool)
-        → (scan following last_version nothing o rs ≡ Nothing → Ordered (λ f w. follows o f w) (view rs).versions)
-        → (scan following last_version nothing (some r) rs ≡ Nothing → Ordered (λ f w. follows (some r) f w) (view rs).versions)
-        → cond (t and (not v || follows o (r.body ! 0) (r.body ! 1))) (scan following last_version nothing (cond v (some r) o) rs) (At r.at) ≡ Nothing
+        → (scan following last_version nothing o rs ≡ None → Ordered (λ f w. follows o f w) (view rs).versions)
+        → (scan following last_version nothing (some r) rs ≡ None → Ordered (λ f w. follows (some r) f w) (view rs).versions)
+        → cond (t and (not v || follows o (r.body ! 0) (r.body ! 1))) (scan following last_version nothing (cond v (some r) o) rs) (Some r.at) ≡ None
         → Ordered (λ f w. follows o f w)
         (cond z nowhere (cond v (record { level = 0; code = []; blocks = []; versions = version_of r (view rs).level (view rs).blocks ∷ (view rs).versions })
         (cond b (record { level = 0; code = []; blocks = block_of r (view rs).code ∷ (view rs).blocks; versions = (view rs).versions }) (record { level = level_of r; code = line_of r ∷ (view rs).code; blocks = (view rs).blocks; versions = (view rs).versions })))).versions

@@ -1,4 +1,5 @@
 -- Records in both forms make programs that are alike.
+use Rattle.std.specs.Prelude.{None}
 use mathlib.Core.Path.{◌≡◌, refl, sym, ap, ap₂, ◌∙◌, subst}
 use mathlib.Core.Logic.{◌⊎◌, inl, inr}
 use mathlib.Core.List.{List, [], ◌∷◌, map}
@@ -14,7 +15,6 @@ use Rattle.layout.specs.Questions.{plain_length, in_order, due_after, none_due, 
 use Rattle.layout.specs.Scan.{scan}
 use Rattle.layout.specs.Tests.{◌and◌}
 use Rattle.layout.specs.declared.Due.{Due}
-use Rattle.layout.specs.declared.Found.TheVariants.{Nothing}
 use Rattle.layout.proofs.Bools.{and_both}
 use Rattle.layout.specs.declared.Form.{Form}
 use Rattle.program.specs.Program.{Instr, LIT, Line, Block, Version, View, block_of, instr_by, level_of, nowhere, number_in, program, program_by, put_by, version_of, view_by}
@@ -229,7 +229,7 @@ turn_near d r q x y (inr k) order a =
     rw (k.same_kind, k.same_size, k.same_body, whole-eqb k.whole) (kept_near d r.kind r.body x y a order (omega (arith, k.whole, k.known)))
 
 -- views of records in both forms, where the records are in order
-views-near : (end : ℕ) (rs qs : List Rec) (d : Due) → Widened rs qs → scan placed due_after (none_due end) d rs ≡ Nothing → Near d (view_with (λ i. i) (view_by Form.Narrow rs)) (view_with (λ i. i) (view_by Form.Wide qs))
+views-near : (end : ℕ) (rs qs : List Rec) (d : Due) → Widened rs qs → scan placed due_after (none_due end) d rs ≡ None → Near d (view_with (λ i. i) (view_by Form.Narrow rs)) (view_with (λ i. i) (view_by Form.Wide qs))
 unfolding Widened scan view_by
 views-near end [] [] d h o = record { level = refl; code = λ z. refl; blocks = refl; versions = refl }
 views-near end [] (q ∷ qs) d h o = absurd h
@@ -247,7 +247,7 @@ turn-shape r q (inl l) x = rw (whole-eqb (old-whole r q l), whole-eqb (new-whole
 turn-shape r q (inr k) x = rw (k.same_kind, k.same_size, k.same_body) refl
 
 -- THE LAW: records in both forms, in the order that question 4 asks for, make alike programs
-pub forms-alike : (rs qs : List Rec) → Widened rs qs → (end : ℕ) → question4 end rs ≡ Nothing → AllAlike (program_by Form.Narrow rs) (program_by Form.Wide qs)
+pub forms-alike : (rs qs : List Rec) → Widened rs qs → (end : ℕ) → question4 end rs ≡ None → AllAlike (program_by Form.Narrow rs) (program_by Form.Wide qs)
 unfolding question4
 forms-alike rs qs h end o = bare_alike _ _ (views-near end rs qs start h o).versions
 

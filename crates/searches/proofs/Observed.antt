@@ -1,5 +1,8 @@
 -- What a state looks at, by where its run stands.
+use Rattle.std.specs.Prelude.{None, Some}
+use Rattle.loaded.specs.Answers.{BlockAt}
 use mathlib.Core.Path.{◌≡◌, refl, sym, ap, ◌∙◌, subst}
+use Rattle.loaded.specs.Answers.{Number}
 use mathlib.Core.List.{List}
 use mathlib.Core.Option.{none, some}
 use mathlib.Core.Bool.{Bool, true, false, cond}
@@ -35,9 +38,7 @@ use Rattle.loaded.proofs.Reading.{arguments-behind, long-dispatch}
 use Rattle.loaded.specs.Answers.{block_of, next_of, version_of}
 use Rattle.loaded.specs.Dispatching.{pairs_at}
 use Rattle.loaded.specs.Loaded.{block_in, few, instr_in, is_short, long_in, place_in, program_in, read_by, record_at, version_in}
-use Rattle.loaded.specs.declared.BlockAt.{BlockAt}
 use Rattle.loaded.specs.declared.Next.{Next}
-use Rattle.loaded.specs.declared.Number.{Number}
 use Rattle.matching.proofs.Joined.{dispatch-here, pair-registers}
 use Rattle.matching.proofs.Kinding.{version-none, version-some}
 use Rattle.matching.specs.Arguments.{searched_at}
@@ -86,16 +87,16 @@ module _ (s t b : List ℕ) (k own j : ℕ) {m : ℕ} (of : m ≡ t ! record_at 
 -- ---- by where a run stands
 
 module _ (s t b : List ℕ) (k : ℕ) (a : Activation) (r : Number) (found : (u : List ℕ) → version_of u t r ≡ find_version (program_in u t) (b ! (32 * k + 24)) (b ! (32 * k + 25))) where
-  pub in-nothing : r ≡ Number.Missing → LooksIn Search.Elsewhere s t b k a
+  pub in-nothing : r ≡ None → LooksIn Search.Elsewhere s t b k a
   unfolding here_by search_from ◌>>=◌ or_stuck frame_in
   in-nothing e n = rw (version-none s t (found s) e) refl
 
-  module _ {own : ℕ} (e : r ≡ Number.Of own) (o : BlockAt) (block : block_of s t o ≡ get_elem? (version_in s t own).blocks a.block) where
-    pub in-no-block : o ≡ BlockAt.Missing → LooksIn Search.Elsewhere s t b k a
+  module _ {own : ℕ} (e : r ≡ Some own) (o : BlockAt) (block : block_of s t o ≡ get_elem? (version_in s t own).blocks a.block) where
+    pub in-no-block : o ≡ None → LooksIn Search.Elsewhere s t b k a
     unfolding here_by search_from ◌>>=◌ or_stuck at block_of frame_in
     in-no-block q n = rw (version-some s t (found s) e, ← block, q) refl
 
-    module _ {i : ℕ} (q : o ≡ BlockAt.Entry i) (y : Next) (next : (u : List ℕ) → next_of u t y ≡ position (take INSTRUCTIONS (block_in u t i).code) a.next) where
+    module _ {i : ℕ} (q : o ≡ Some i) (y : Next) (next : (u : List ℕ) → next_of u t y ≡ position (take INSTRUCTIONS (block_in u t i).code) a.next) where
       by-position : (n : List ℤ) → search_from (program_in s t) (state_in b n) (here_by (program_in s t) a (frame_in b n k)) ≡ search_at (program_in s t) (state_in b n) (frame_in b n k) (version_in s t own).level (next_of s t y)
       unfolding here_by search_from ◌>>=◌ or_stuck at block_of frame_in position_of
       by-position n = rw (version-some s t (found s) e, ← block, q, next s) refl

@@ -6,7 +6,7 @@ ghost use Rattle.loaded.specs.Loaded.{few};
 ghost use Rattle.searches.specs.Observing.{Looks, LooksAt, LooksIn, Observes};
 
 use layout::kinds;
-use loaded::{BlockAt, Next, Number, lookup};
+use loaded::{Next, lookup};
 use machine::{Activation, Search};
 use store::stack;
 
@@ -64,10 +64,10 @@ fn looks_in(image: &[u8], table: &[u8], bytes: &[u8; 2632], k: usize, a: Activat
     requires { k < 32 }
     ensures { LooksIn result image.now table.now bytes.now k a }
 {
-    let Number::Of(own) = lookup::version(table, bytes[32 * k + 24], bytes[32 * k + 25]) else {
+    let Some(own) = lookup::version(table, bytes[32 * k + 24], bytes[32 * k + 25]) else {
         return Search::Elsewhere;
     };
-    let BlockAt::Entry(e) = lookup::block(image, table, own, a.block) else {
+    let Some(e) = lookup::block(image, table, own, a.block) else {
         return Search::Elsewhere;
     };
     match lookup::next(table, e, a.next) {

@@ -1,5 +1,7 @@
 -- No refusal has the number 0, so that an answer in numbers says whether there was one.
+use Rattle.std.specs.Prelude.{None, Some}
 use mathlib.Core.Path.{◌≡◌, refl}
+use Rattle.layout.specs.Found.{Found}
 use mathlib.Core.List.{List}
 use mathlib.Core.Bool.{Bool, true, false}
 use mathlib.Core.Option.{Option, none, some}
@@ -7,8 +9,6 @@ use Prim.Native.Nat.{ℕ}
 use native.Mathlib.Omega.{arith}
 use lib.Dec.{eqb, leb}
 use lib.IntN.{ℤ}
-use Rattle.layout.specs.declared.Found.{Found}
-use Rattle.layout.specs.declared.Found.TheVariants.{Nothing, At}
 use Rattle.program.specs.Program.{Program, Version, find_version, parameter_types}
 use Rattle.checker.specs.Verdicts.{ask, verdict_of, verdict_in}
 use Rattle.checker.specs.declared.Verdict.{Verdict}
@@ -43,8 +43,8 @@ Changes Changed.Taken = Unit {0}
 
 asks : (n : ℕ) (x : Found) (more : Verdict) → eqb n 0 ≡ false → Asked more → Asked (ask n x more)
 unfolding ask Asked
-asks n Nothing more h m = m
-asks n (At p) more h m = h
+asks n None more h m = m
+asks n (Some p) more h m = h
 
 verdict-asked : (image : List ℕ) → Asked (verdict_of image)
 unfolding verdict_in Asked
@@ -59,8 +59,8 @@ unfolding change_of change_after changed_by Changes Asked
 change-numbered old new s = go (verdict_of new) (verdict-asked new)
   where
     by15 : (x : Found) → Changes (changed_by x)
-    by15 Nothing = tt
-    by15 (At p) = refl
+    by15 None = tt
+    by15 (Some p) = refl
 
     go : (a : Verdict) → Asked a → Changes (change_after a old new s)
     go (Verdict.Refused q p) h = h

@@ -1,4 +1,5 @@
 -- The bytes of a version make an image of that version alone: so the same bytes make the same version.
+use Rattle.std.specs.Prelude.{None}
 use mathlib.Core.Path.{◌≡◌, refl, sym, ap, ap₂, ◌∙◌, subst}
 use mathlib.Core.List.{List, [], ◌∷◌, map}
 use mathlib.Core.Option.{none, some}
@@ -16,7 +17,6 @@ use Rattle.layout.specs.Tests.{◌and◌}
 use Rattle.layout.specs.Records.{◌!◌, Rec, u16_at, size_at, kind_at, body_at, rec_at, rest, records, fields}
 use Rattle.layout.specs.Scan.{scan}
 use Rattle.layout.specs.Questions.{question2}
-use Rattle.layout.specs.declared.Found.TheVariants.{Nothing}
 use Rattle.layout.proofs.Bools.{and_both}
 use Rattle.layout.proofs.Walk.{rest-cons, size-at, whole_length}
 use Rattle.program.specs.Program.{Line, Block, Version, Program, View, block_of, level_of, line_of, version_of, nowhere, program, find_version}
@@ -36,10 +36,10 @@ drop-take (suc i) (suc m) (x ∷ l) = let z : suc m - suc i ≡ m - i = omega ar
 
 -- ---- records that are whole
 
-whole-at : (s : List ℕ) (p : ℕ) → p < length s → question2 (rest s p) ≡ Nothing → (0 < size_at s p) × (question2 (rest s (p + size_at s p)) ≡ Nothing)
+whole-at : (s : List ℕ) (p : ℕ) → p < length s → question2 (rest s p) ≡ None → (0 < size_at s p) × (question2 (rest s (p + size_at s p)) ≡ None)
 unfolding question2 scan
 whole-at s p h q =
-    let e : question2 (rec_at s p ∷ cond (eqb (size_at s p) 0) [] (rest s (p + size_at s p))) ≡ Nothing = sym (ap question2 (rest-cons s p h)) ∙ q in
+    let e : question2 (rec_at s p ∷ cond (eqb (size_at s p) 0) [] (rest s (p + size_at s p))) ≡ None = sym (ap question2 (rest-cons s p h)) ∙ q in
     let t = passed (ltb 0 (size_at s p) and true) (question2 (cond (eqb (size_at s p) 0) [] (rest s (p + size_at s p)))) p e in
     let l : 0 < size_at s p = ltb-true 0 (size_at s p) (and_both (ltb 0 (size_at s p)) true t.0).0 in
     (l, rw (ne_eqb (size_at s p) 0 (λ z. absurd (omega (arith, l, z)))) at t.1)
@@ -111,24 +111,24 @@ module _ (s : List ℕ) (a e : ℕ) (ae : a ≤ e) (es : e ≤ length s) where
 -- nothing more, a VERSION, a BLOCK or another record, whole
 data Seen (s : List ℕ) (p : ℕ) : Type 0 where
   at_none : length s ≤ p → view_at s p ≡ nowhere → Seen s p
-  at-a-version : p < length s → 0 < size_at s p → question2 (rest s (past s p)) ≡ Nothing → kind_at s p ≡ kind.VERSION
+  at-a-version : p < length s → 0 < size_at s p → question2 (rest s (past s p)) ≡ None → kind_at s p ≡ kind.VERSION
       → view_at s p ≡ record { level = 0; code = []; blocks = []; versions = version_at s p ∷ (view_at s (past s p)).versions } → Seen s p
-  at-a-block : p < length s → 0 < size_at s p → question2 (rest s (past s p)) ≡ Nothing → kind_at s p ≡ kind.BLOCK
+  at-a-block : p < length s → 0 < size_at s p → question2 (rest s (past s p)) ≡ None → kind_at s p ≡ kind.BLOCK
       → view_at s p ≡ record { level = 0; code = []; blocks = block_at s p ∷ (view_at s (past s p)).blocks; versions = (view_at s (past s p)).versions } → Seen s p
-  at-a-line : p < length s → 0 < size_at s p → question2 (rest s (past s p)) ≡ Nothing → (kind_at s p ≡ kind.VERSION → ⊥) → (kind_at s p ≡ kind.BLOCK → ⊥)
+  at-a-line : p < length s → 0 < size_at s p → question2 (rest s (past s p)) ≡ None → (kind_at s p ≡ kind.VERSION → ⊥) → (kind_at s p ≡ kind.BLOCK → ⊥)
       → view_at s p ≡ record { level = level_of (rec_at s p); code = line_of (rec_at s p) ∷ (view_at s (past s p)).code; blocks = (view_at s (past s p)).blocks; versions = (view_at s (past s p)).versions } → Seen s p
 
 whole_here : (s : List ℕ) (p : ℕ) → p < length s → 0 < size_at s p → Whole s p (size_at s p) (kind_at s p)
 whole_here s p h w = record { inside = h; size = refl; whole = λ z. absurd (omega (arith, w, z)); kind = refl }
 
-see : (s : List ℕ) (p : ℕ) → question2 (rest s p) ≡ Nothing → Seen s p
+see : (s : List ℕ) (p : ℕ) → question2 (rest s p) ≡ None → Seen s p
 see s p q = go (dec_lt p (length s))
   where
     go : Dec (p < length s) → Seen s p
     go (no h) = at_none (omega arith) (view-end s p (omega arith))
     go (yes h) = kinds (ℕ_discrete (kind_at s p) kind.VERSION) (ℕ_discrete (kind_at s p) kind.BLOCK)
       where
-        t : (0 < size_at s p) × (question2 (rest s (p + size_at s p)) ≡ Nothing)
+        t : (0 < size_at s p) × (question2 (rest s (p + size_at s p)) ≡ None)
         t = whole-at s p h q
 
         kinds : Dec (kind_at s p ≡ kind.VERSION) → Dec (kind_at s p ≡ kind.BLOCK) → Seen s p
@@ -143,7 +143,7 @@ ahead s p = start_of (length s) (view_at s p).versions
 abbrev AheadIn : List ℕ → ℕ → Type 0
 AheadIn s p = (p ≤ ahead s p) × (ahead s p ≤ length s)
 
-ahead_step : (s : List ℕ) (p : ℕ) → p ≤ length s → Seen s p → ((p' : ℕ) → p < p' → p' ≤ length s → question2 (rest s p') ≡ Nothing → AheadIn s p') → AheadIn s p
+ahead_step : (s : List ℕ) (p : ℕ) → p ≤ length s → Seen s p → ((p' : ℕ) → p < p' → p' ≤ length s → question2 (rest s p') ≡ None → AheadIn s p') → AheadIn s p
 unfolding start_of version_at
 ahead_step s p h (at_none l e) ih = rw e (h, omega arith)
 ahead_step s p h (at-a-version l w q k e) ih = rw e (omega arith, h)
@@ -156,11 +156,11 @@ ahead_step s p h (at-a-line l w q k b e) ih =
     let t = ih (past s p) (omega (arith, w)) z.1 q in
     rw e (omega (arith, t.0), t.1)
 
-ahead-fuel : (s : List ℕ) (m p : ℕ) → length s - p ≤ m → p ≤ length s → question2 (rest s p) ≡ Nothing → AheadIn s p
+ahead-fuel : (s : List ℕ) (m p : ℕ) → length s - p ≤ m → p ≤ length s → question2 (rest s p) ≡ None → AheadIn s p
 ahead-fuel s zero p f h q = ahead_step s p h (see s p q) (λ p' l l' q'. absurd (omega arith))
 ahead-fuel s (suc m) p f h q = ahead_step s p h (see s p q) (λ p' l l' q'. ahead-fuel s m p' (omega arith) l' q')
 
-ahead_in : (s : List ℕ) (p : ℕ) → p ≤ length s → question2 (rest s p) ≡ Nothing → AheadIn s p
+ahead_in : (s : List ℕ) (p : ℕ) → p ≤ length s → question2 (rest s p) ≡ None → AheadIn s p
 ahead_in s p h q = ahead-fuel s (length s - p) p (omega arith) h q
 
 -- ---- records with the same body make the same, but for offsets
@@ -202,8 +202,8 @@ module _ (s : List ℕ) (a e : ℕ) (ae : a ≤ e) (es : e ≤ length s) where
     blocks : map bare_block (view_at s (past s (a + i))).blocks ≡ map bare_block (view_at (slice s a e) (past (slice s a e) i)).blocks
     alone : (view_at (slice s a e) (past (slice s a e) i)).versions ≡ []
 
-  behind : (i : ℕ) → a + i < length s → 0 < size_at s (a + i) → question2 (rest s (past s (a + i))) ≡ Nothing → ahead s (past s (a + i)) ≡ e
-      → ((j : ℕ) → i < j → a + j ≤ length s → question2 (rest s (a + j)) ≡ Nothing → ahead s (a + j) ≡ e → Shown s a e j) → Behind i
+  behind : (i : ℕ) → a + i < length s → 0 < size_at s (a + i) → question2 (rest s (past s (a + i))) ≡ None → ahead s (past s (a + i)) ≡ e
+      → ((j : ℕ) → i < j → a + j ≤ length s → question2 (rest s (a + j)) ≡ None → ahead s (a + j) ≡ e → Shown s a e j) → Behind i
   behind i l w q d ih =
       let z = whole-size s (a + i) w in
       let t = ahead_in s (past s (a + i)) z.1 q in
@@ -243,14 +243,14 @@ module _ (s : List ℕ) (a e : ℕ) (ae : a ≤ e) (es : e ≤ length s) where
         alone = rw u n.alone;
       }
 
-  shown-step : (i : ℕ) → a + i ≤ length s → question2 (rest s (a + i)) ≡ Nothing → ahead s (a + i) ≡ e → Seen s (a + i) → ((j : ℕ) → i < j → a + j ≤ length s → question2 (rest s (a + j)) ≡ Nothing → ahead s (a + j) ≡ e → Shown s a e j) → Shown s a e i
+  shown-step : (i : ℕ) → a + i ≤ length s → question2 (rest s (a + i)) ≡ None → ahead s (a + i) ≡ e → Seen s (a + i) → ((j : ℕ) → i < j → a + j ≤ length s → question2 (rest s (a + j)) ≡ None → ahead s (a + j) ≡ e → Shown s a e j) → Shown s a e i
   unfolding start_of version_at
   shown-step i h q d (at_none l v) ih = shown-end i (omega (arith, l, h, (rw v at d))) (rw v refl) (rw v refl) (rw v refl)
   shown-step i h q d (at-a-version l w q' k v) ih = shown-end i (rw v at d) (rw v refl) (rw v refl) (rw v refl)
   shown-step i h q d (at-a-block l w q' k v) ih = shown-block i k v (behind i l w q' (rw v at d) ih)
   shown-step i h q d (at-a-line l w q' k b v) ih = shown-line i k b v (behind i l w q' (rw v at d) ih)
 
-  shown-fuel : (m i : ℕ) → length s - (a + i) ≤ m → a + i ≤ length s → question2 (rest s (a + i)) ≡ Nothing → ahead s (a + i) ≡ e → Shown s a e i
+  shown-fuel : (m i : ℕ) → length s - (a + i) ≤ m → a + i ≤ length s → question2 (rest s (a + i)) ≡ None → ahead s (a + i) ≡ e → Shown s a e i
   shown-fuel zero i f h q d = shown-step i h q d (see s (a + i) q) (λ j l l' q' d'. absurd (omega arith))
   shown-fuel (suc m) i f h q d = shown-step i h q d (see s (a + i) q) (λ j l l' q' d'. shown-fuel m j (omega arith) l' q' d')
 
@@ -262,7 +262,7 @@ pub record Own (v : Version) (b : List ℕ) : Type 0 where
   pub only : program (records b) ≡ version ∷ []
   pub alike : Alike v version
 
-own-version : (s : List ℕ) (p : ℕ) → p < length s → 0 < size_at s p → question2 (rest s (past s p)) ≡ Nothing → kind_at s p ≡ kind.VERSION → Own (version_at s p) (slice s p (ahead s (past s p)))
+own-version : (s : List ℕ) (p : ℕ) → p < length s → 0 < size_at s p → question2 (rest s (past s p)) ≡ None → kind_at s p ≡ kind.VERSION → Own (version_at s p) (slice s p (ahead s (past s p)))
 unfolding version_at
 own-version s p l w q k =
     let z : p + 0 ≡ p = add-zero p in
@@ -290,7 +290,7 @@ module _ (s : List ℕ) (f w : ℕ) (v : Version) (b : List ℕ) where
   abbrev OwnAt : ℕ → Type 0
   OwnAt p = find_version (view_at s p).versions f w ≡ some v → bytes_in s (view_at s p).versions f w ≡ some b → Own v b
 
-  own-step : (p : ℕ) → p ≤ length s → Seen s p → ((p' : ℕ) → p < p' → p' ≤ length s → question2 (rest s p') ≡ Nothing → OwnAt p') → OwnAt p
+  own-step : (p : ℕ) → p ≤ length s → Seen s p → ((p' : ℕ) → p < p' → p' ≤ length s → question2 (rest s p') ≡ None → OwnAt p') → OwnAt p
   unfolding find_version bytes_in
   own-step p h (at_none l x) ih e g = let y : none ≡ some v = rw x at e in let z : ◌≡◌ {A = ℕ} 0 1 = cc in absurd (omega arith)
   own-step p h (at-a-version l t q k x) ih e g = go (eqb (version_at s p).function f and eqb (version_at s p).version w) (rw x at e) (rw x at g)
@@ -305,10 +305,10 @@ module _ (s : List ℕ) (f w : ℕ) (v : Version) (b : List ℕ) where
   own-step p h (at-a-block l t q k x) ih e g = ih (past s p) (omega (arith, t)) (whole-size s p t).1 q (rw x at e) (rw x at g)
   own-step p h (at-a-line l t q k y x) ih e g = ih (past s p) (omega (arith, t)) (whole-size s p t).1 q (rw x at e) (rw x at g)
 
-  own-fuel : (m p : ℕ) → length s - p ≤ m → p ≤ length s → question2 (rest s p) ≡ Nothing → OwnAt p
+  own-fuel : (m p : ℕ) → length s - p ≤ m → p ≤ length s → question2 (rest s p) ≡ None → OwnAt p
   own-fuel zero p l h q = own-step p h (see s p q) (λ p' i i' q'. absurd (omega arith))
   own-fuel (suc m) p l h q = own-step p h (see s p q) (λ p' i i' q'. own-fuel m p' (omega arith) i' q')
 
   -- THE LAW: the bytes of a version make an image of it alone
-  pub own : question2 (records s) ≡ Nothing → find_version (program (records s)) f w ≡ some v → bytes_in s (program (records s)) f w ≡ some b → Own v b
+  pub own : question2 (records s) ≡ None → find_version (program (records s)) f w ≡ some v → bytes_in s (program (records s)) f w ≡ some b → Own v b
   own q e g = own-fuel (length s) 0 (omega arith) (omega arith) q e g

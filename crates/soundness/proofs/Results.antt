@@ -1,5 +1,7 @@
 -- Every run from the start gives one of the results, and every event of a list one of its replies, from a safe step.
+use Rattle.std.specs.Prelude.{None, Some}
 use mathlib.Core.Path.{◌≡◌, refl}
+use Rattle.layout.specs.Found.{Found}
 use mathlib.Core.Logic.{◌≢◌}
 use mathlib.Core.List.{List, [], ◌∷◌}
 use mathlib.Core.Option.{Option, none, some}
@@ -9,8 +11,6 @@ use native.Mathlib.Omega.{arith}
 use lib.Dec.{leb}
 use lib.IntN.{ℤ}
 use Rattle.layout.specs.Tests.{any}
-use Rattle.layout.specs.declared.Found.{Found}
-use Rattle.layout.specs.declared.Found.TheVariants.{Nothing, At}
 use Rattle.program.specs.Program.{Version, Program, find_version, parameter_types}
 use Rattle.checker.specs.Verdicts.{ask, verdict_of, verdict_in}
 use Rattle.checker.specs.declared.Verdict.{Verdict}
@@ -42,8 +42,8 @@ Numbered (Verdict.Accepted n) = Unit {0}
 -- a question refuses by its own number
 ask-numbered : (n : ℕ) (x : Found) (more : Verdict) → Among to_image n → Numbered more → Numbered (ask n x more)
 unfolding ask Numbered
-ask-numbered n Nothing more h m = m
-ask-numbered n (At p) more h m = h
+ask-numbered n None more h m = m
+ask-numbered n (Some p) more h m = h
 
 -- so do all questions to an image
 verdict-numbered : (image : List ℕ) → Numbered (verdict_of image)
@@ -212,8 +212,8 @@ unfolding change_of change_after changed_by Numbered
 outcome old new s = go (verdict_of new) (verdict-numbered new)
   where
     by15 : (x : Found) → Outcome (changed_by x)
-    by15 Nothing = is_taken
-    by15 (At p) = is_refused15 p
+    by15 None = is_taken
+    by15 (Some p) = is_refused15 p
 
     go : (a : Verdict) → Numbered a → Outcome (change_after a old new s)
     go (Verdict.Refused q p) m = is_refused_image q p m

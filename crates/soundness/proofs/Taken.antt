@@ -1,5 +1,7 @@
 -- A change that is taken: the live versions are alike in both programs, so these agree on the live frames.
+use Rattle.std.specs.Prelude.{None, Some}
 use mathlib.Core.Path.{◌≡◌, refl, sym, ap, ◌∙◌, subst}
+use Rattle.layout.specs.Found.{Found}
 use mathlib.Core.List.{List, [], ◌∷◌}
 use mathlib.Core.Option.{Option, none, some}
 use mathlib.Core.Bool.{Bool, true, false, cond, not, ◌||◌, false≢true}
@@ -9,8 +11,6 @@ use lib.ListN.{length, get_elem?}
 use lib.Dec.{eqb}
 use borrow.Author.Tests.{eqb-true, eq-eqb}
 use Rattle.layout.specs.Tests.{◌and◌, found}
-use Rattle.layout.specs.declared.Found.{Found}
-use Rattle.layout.specs.declared.Found.TheVariants.{Nothing, At}
 use Rattle.layout.proofs.Bools.{and_both}
 use Rattle.program.specs.Program.{Version, find_version}
 use Rattle.program.specs.Search.{first}
@@ -59,7 +59,7 @@ not_live : (a b : Bool) → (not a || b) ≡ true → a ≡ true → b ≡ true
 not_live a b h e = rw e at h
 
 -- a live version of the new image has its bytes in the old one too
-stays-both : (old new : List ℕ) (s : State) (f w : ℕ) (x : Version) → is_live s f w ≡ true → find_version (program_of new) f w ≡ some x → first (question15 old new s) (program_of new) ≡ Nothing → (b : List ℕ) × (bytes_of old f w ≡ some b) × (bytes_of new f w ≡ some b)
+stays-both : (old new : List ℕ) (s : State) (f w : ℕ) (x : Version) → is_live s f w ≡ true → find_version (program_of new) f w ≡ some x → first (question15 old new s) (program_of new) ≡ None → (b : List ℕ) × (bytes_of old f w ≡ some b) × (bytes_of new f w ≡ some b)
 unfolding same_in
 stays-both old new s f w x live e h =
     let n = find-numbers (program_of new) f w x e in
@@ -72,7 +72,7 @@ stays-both old new s f w x live e h =
 pub record Passed (old new : List ℕ) (s : State) : Type 0 where
   pub versions : ℕ
   pub verdict : verdict_of new ≡ Verdict.Accepted versions
-  pub changed : first (question15 old new s) (program_of new) ≡ Nothing
+  pub changed : first (question15 old new s) (program_of new) ≡ None
   pub there : all_there (program_of new) s ≡ true
 
 pub taken-passed : (old new : List ℕ) (s : State) → change_of old new s ≡ Changed.Taken → Passed old new s
@@ -82,13 +82,13 @@ taken-passed old new s h = verdicts (verdict_of new) refl h
     refused-taken : (q p : ℕ) → Changed.Refused q p ≡ Changed.Taken → ⊥
     refused-taken q p e = let z : ◌≡◌ {A = ℕ} 0 1 = cc in omega arith
 
-    there_is : (n : ℕ) → verdict_of new ≡ Verdict.Accepted n → first (question15 old new s) (program_of new) ≡ Nothing → (b : Bool) → all_there (program_of new) s ≡ b → changed_by (cond b Nothing (At (length new))) ≡ Changed.Taken → Passed old new s
+    there_is : (n : ℕ) → verdict_of new ≡ Verdict.Accepted n → first (question15 old new s) (program_of new) ≡ None → (b : Bool) → all_there (program_of new) s ≡ b → changed_by (cond b None (Some (length new))) ≡ Changed.Taken → Passed old new s
     there_is n v c true e g = record { versions = n; verdict = v; changed = c; there = e }
     there_is n v c false e g = absurd (refused-taken 15 (length new) g)
 
     changes : (n : ℕ) → verdict_of new ≡ Verdict.Accepted n → (c : Found) → first (question15 old new s) (program_of new) ≡ c → changed_by (missing new s c) ≡ Changed.Taken → Passed old new s
-    changes n v Nothing e g = there_is n v e (all_there (program_of new) s) refl g
-    changes n v (At p) e g = absurd (refused-taken 15 p g)
+    changes n v None e g = there_is n v e (all_there (program_of new) s) refl g
+    changes n v (Some p) e g = absurd (refused-taken 15 p g)
 
     verdicts : (a : Verdict) → verdict_of new ≡ a → change_after a old new s ≡ Changed.Taken → Passed old new s
     verdicts (Verdict.Refused q p) e g = absurd (refused-taken q p g)

@@ -1,4 +1,5 @@
 -- Frames: what the cells say of registers, and what a write to a cell makes of the state.
+use Rattle.std.specs.Prelude.{None, Option, Some}
 use mathlib.Core.Path.{◌≡◌, refl, sym, ap, ◌∙◌}
 use mathlib.Core.List.{List}
 use mathlib.Core.Bool.{Bool, true, false}
@@ -11,7 +12,6 @@ use borrow.Author.Tests.{lt-ltb, le-ltb, ltb-true, ltb-false}
 use Rattle.layout.specs.Records.{◌!◌}
 use Rattle.layout.proofs.Lists.{get_take}
 use Rattle.machine.specs.Frames.{read_of}
-use Rattle.machine.specs.declared.Read.{Read}
 use Rattle.machine.specs.declared.State.{State}
 use Rattle.machine.specs.Try.{Try, got, stuck, stop, ◌>>=◌, ◌>>◌, at, put, or_stuck, stuck_unless}
 use Rattle.machine.specs.States.{place, live_frames, register, named, with_register, with_name, with_frame, assign, store}
@@ -118,13 +118,13 @@ store_out b n k x v L h = rw (frame-live b n k L, unnamed b n k x v h) refl
 
 -- ---- what a reader answered
 
-pub read-holds : {t : Try Value} {r : Read} {v : Value} → r ≡ read_of t → r ≡ Read.Holds v → t ≡ got v
+pub read-holds : {t : Try Value} {r : Option Value} {v : Value} → r ≡ read_of t → r ≡ Some v → t ≡ got v
 unfolding read_of
 read-holds {t = got u} {v = v} e h = let q : u ≡ v = cc in ap got q
 read-holds {t = stuck} e h = let z : ◌≡◌ {A = ℕ} 0 1 = cc in absurd (omega arith)
 read-holds {t = stop x} e h = let z : ◌≡◌ {A = ℕ} 0 1 = cc in absurd (omega arith)
 
-pub read-outside : {t : Try Value} {r : Read} → r ≡ read_of t → r ≡ Read.Outside → ((e : End) → t ≡ stop e → ⊥) → t ≡ stuck
+pub read-outside : {t : Try Value} {r : Option Value} → r ≡ read_of t → r ≡ None → ((e : End) → t ≡ stop e → ⊥) → t ≡ stuck
 unfolding read_of
 read-outside {t = got u} e h n = let z : ◌≡◌ {A = ℕ} 0 1 = cc in absurd (omega arith)
 read-outside {t = stuck} e h n = refl

@@ -1,12 +1,11 @@
 -- The lowest free place.
+use Rattle.std.specs.Prelude.{None, Some}
 use mathlib.Core.Path.{◌≡◌, refl, sym, ap, ◌∙◌}
 use mathlib.Core.List.{List}
 use mathlib.Core.Bool.{Bool, true, false, not, ◌||◌}
 use Prim.Native.Nat.{ℕ, ◌+◌, ◌-◌, ◌≤◌, ◌<◌}
 use native.Mathlib.Omega.{arith}
 use Rattle.layout.specs.Records.{◌!◌}
-use Rattle.layout.specs.declared.Found.{Found}
-use Rattle.layout.specs.declared.Found.TheVariants.{Nothing, At}
 use Rattle.machine.specs.Try.{got, stop}
 use Rattle.machine.specs.States.{free}
 use Rattle.machine.specs.declared.End.{End}
@@ -21,10 +20,10 @@ module _ (c : List ℕ) (a b i : ℕ) where
   pub search-on : {t : Bool} → i < 64 → Searched c a b i → t ≡ taken c (a + i) (b + i) → t ≡ true → Searched c a b (i + 1)
   search-on h S e q x = S x ∙ free_on x (λ j. taken c (a + j) (b + j)) 64 i h (sym e ∙ q)
 
-  pub search-found : {t : Bool} → i < 64 → Searched c a b i → t ≡ taken c (a + i) (b + i) → t ≡ false → Frees (At i) c a b
+  pub search-found : {t : Bool} → i < 64 → Searched c a b i → t ≡ taken c (a + i) (b + i) → t ≡ false → Frees (Some i) c a b
   unfolding Frees
   search-found h S e q = (λ x. S x ∙ free-here x (λ j. taken c (a + j) (b + j)) 64 i h (sym e ∙ q), h)
 
-  pub search-over : 64 ≤ i → Searched c a b i → Frees Nothing c a b
+  pub search-over : 64 ≤ i → Searched c a b i → Frees None c a b
   unfolding Frees
   search-over h S x = S x ∙ free-none x (λ j. taken c (a + j) (b + j)) 64 i h

@@ -1,5 +1,7 @@
 -- How many vectors are in use, and a place for one more.
+use Rattle.std.specs.Prelude.{None, Some}
 use mathlib.Core.Path.{◌≡◌, refl, sym, ap, ◌∙◌, subst}
+use Rattle.layout.specs.Found.{Found}
 use mathlib.Core.List.{List}
 use mathlib.Core.Bool.{Bool, true, false, not, ◌||◌}
 use Prim.Native.Nat.{ℕ, zero, suc, ◌+◌, ◌-◌, ◌≤◌, ◌<◌}
@@ -8,8 +10,6 @@ use native.Mathlib.Decide.{dec_lt}
 use lib.Dec.{leb}
 use borrow.Author.Tests.{le-leb, lt-leb}
 use Rattle.layout.specs.Records.{◌!◌}
-use Rattle.layout.specs.declared.Found.{Found}
-use Rattle.layout.specs.declared.Found.TheVariants.{Nothing, At}
 use Rattle.machine.specs.Allowed.{counting, free_within, vectors_in}
 use Rattle.machine.specs.States.{VECTORS, free, free_vector, vector_counts}
 use Rattle.machine.specs.Try.{Try, got, stop}
@@ -71,24 +71,24 @@ none_free c h e = free-same e (λ i. taken c (0 + i) (0 + i)) (λ i. is_held (c 
 
 module _ (c : List ℕ) (most : ℕ) where
   -- as many are in use as may be
-  pub none_left : most ≤ in_use c → FreesVector Nothing c most
+  pub none_left : most ≤ in_use c → FreesVector None c most
   unfolding FreesVector free_by
   none_left h = rw (le-leb most (in_use c) h, free_by) refl
 
   -- fewer are
   pub some_left : (r : Found) → in_use c < most → Frees r c 0 0 → FreesVector r c most
   unfolding FreesVector free_by Frees
-  some_left (At v) h F = (rw (lt-leb most (in_use c) h, free_by) (F.0 End.Vectors), F.1)
-  some_left Nothing h F = rw (lt-leb most (in_use c) h, free_by) (F End.Vectors)
+  some_left (Some v) h F = (rw (lt-leb most (in_use c) h, free_by) (F.0 End.Vectors), F.1)
+  some_left None h F = rw (lt-leb most (in_use c) h, free_by) (F End.Vectors)
 
   -- 64 may be
   pub all_left : (r : Found) → 64 ≤ most → Frees r c 0 0 → FreesVector r c most
   unfolding Frees
   all_left r h F = go (dec_lt (in_use c) most)
     where
-      full : (r : Found) → 64 ≤ in_use c → Frees r c 0 0 → r ≡ Nothing
-      full (At v) l F = let o = sym (F.0 End.Vectors) ∙ none_free c l End.Vectors in let z : ◌≡◌ {A = ℕ} 0 1 = cc in absurd (omega arith)
-      full Nothing l F = refl
+      full : (r : Found) → 64 ≤ in_use c → Frees r c 0 0 → r ≡ None
+      full (Some v) l F = let o = sym (F.0 End.Vectors) ∙ none_free c l End.Vectors in let z : ◌≡◌ {A = ℕ} 0 1 = cc in absurd (omega arith)
+      full None l F = refl
 
       go : Dec (in_use c < most) → FreesVector r c most
       go (yes l) = some_left r l F

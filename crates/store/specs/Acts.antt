@@ -1,7 +1,6 @@
 -- What a part of a step has done to the state.
-use Rattle.std.specs.Prelude.{List, ◌≡◌, ℕ, ◌+◌, ◌<◌, ℤ, set}
-use Rattle.layout.specs.declared.Found.{Found}
-use Rattle.layout.specs.declared.Found.TheVariants.{Nothing, At}
+use Rattle.std.specs.Prelude.{List, ◌≡◌, ℕ, ◌+◌, ◌<◌, ℤ, set, None, Some}
+use Rattle.layout.specs.Found.{Found}
 use Rattle.program.specs.Program.{Instr, Program, Version}
 use Rattle.machine.specs.Allowed.{execute_with}
 use Rattle.machine.specs.States.{assign, store, with_promise, with_stack, with_vector}
@@ -21,8 +20,8 @@ use Rattle.store.specs.Counts.{Ready}
 
 -- a place that is found is that of a byte
 unfoldable pub Narrow : Found → Type 0
-Narrow (At v) = v < 256
-Narrow Nothing = 0 < 1  -- always true
+Narrow (Some v) = v < 256
+Narrow None = 0 < 1  -- always true
 
 -- t is what the machine's definitions come to in the state of the arrays b and n; b' and n' are left, which are b and n where it is stuck or stopped
 unfoldable pub Does : Did → Try State → List ℕ → List ℤ → List ℕ → List ℤ → Type 0

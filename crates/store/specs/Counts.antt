@@ -1,10 +1,9 @@
 -- How many registers and names of live calls hold a value, how many live activations force a promise, and the counts that a budget keeps.
-use Rattle.std.specs.Prelude.{List, [], ◌∷◌, ◌≡◌, Bool, true, false, cond, not, ◌&&◌, ◌||◌, ℕ, ◌+◌, ◌-◌, ◌≤◌, ◌<◌, ℤ, length, set, eqb, leb, ltb}
+use Rattle.std.specs.Prelude.{List, [], ◌∷◌, ◌≡◌, Bool, true, false, cond, not, ◌&&◌, ◌||◌, ℕ, ◌+◌, ◌-◌, ◌≤◌, ◌<◌, ℤ, length, set, eqb, leb, ltb, None, Some}
+use Rattle.layout.specs.Found.{Found}
 use Rattle.std.proofs.Math.Option.{Option, none, some}
 use Rattle.std.proofs.Math.ListN.{get_elem?}
 use Rattle.layout.specs.Records.{◌!◌}
-use Rattle.layout.specs.declared.Found.{Found}
-use Rattle.layout.specs.declared.Found.TheVariants.{Nothing, At}
 use Rattle.machine.specs.Allowed.{counting}
 use Rattle.machine.specs.Try.{Try, got, stop}
 use Rattle.machine.specs.States.{VECTORS, free, live_activations, live_frames, is_force, is_promise, is_vector}
@@ -150,8 +149,8 @@ taken c i j = not (eqb (c ! i) 0) || not (eqb (c ! j) 0)
 
 -- the lowest of 64 places whose counts, from a and from b on, are 0, or that there is none
 unfoldable pub Frees : Found → List ℕ → ℕ → ℕ → Type 0
-Frees (At v) c a b = ((e : End) → free e (λ i. taken c (a + i) (b + i)) 64 0 ≡ got v) × (v < 64)
-Frees Nothing c a b = (e : End) → free e (λ i. taken c (a + i) (b + i)) 64 0 ≡ stop e
+Frees (Some v) c a b = ((e : End) → free e (λ i. taken c (a + i) (b + i)) 64 0 ≡ got v) × (v < 64)
+Frees None c a b = (e : End) → free e (λ i. taken c (a + i) (b + i)) 64 0 ≡ stop e
 
 -- a count that is not 0
 unfoldable pub is_held : ℕ → Bool
@@ -166,5 +165,5 @@ unfoldable pub free_by : List ℕ → ℕ → Try ℕ
 free_by c most = elim (leb most (in_use c)) [ true ↦ stop End.Vectors | false ↦ free End.Vectors (λ i. taken c (0 + i) (0 + i)) 64 0 ]
 
 unfoldable pub FreesVector : Found → List ℕ → ℕ → Type 0
-FreesVector (At v) c most = (free_by c most ≡ got v) × (v < 64)
-FreesVector Nothing c most = free_by c most ≡ stop End.Vectors
+FreesVector (Some v) c most = (free_by c most ≡ got v) × (v < 64)
+FreesVector None c most = free_by c most ≡ stop End.Vectors

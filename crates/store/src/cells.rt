@@ -9,9 +9,8 @@ ghost use Rattle.store.specs.Store.{◌#◌, value_of, cell_in, frame_in, Live};
 ghost use Rattle.store.specs.Counts.{Byte, Covers, Few, Ready, Recounts, fewer, more};
 ghost use Rattle.store.specs.Acts.{Acts, AssignsCell, AssignsFrom, Narrow, Sets, StoresCell, StoresFrom};
 
-use crate::{Did, Halt, Whole};
-use layout::Found;
-use machine::{Read, Value};
+use crate::{Did, Halt};
+use machine::Value;
 
 // ---- reading
 
@@ -36,85 +35,85 @@ pub fn cell(bytes: &[u8; 2632], numbers: &[i64; 2129], k: usize, c: usize) -> Va
 }
 
 /// What the register `r` of the frame `k` holds.
-fn register(bytes: &[u8; 2632], numbers: &[i64; 2129], k: usize, r: u8) -> Read
+fn register(bytes: &[u8; 2632], numbers: &[i64; 2129], k: usize, r: u8) -> Option<Value>
     requires { k < 32 }
     ensures { result ≡ read_of (register (frame_in bytes.now numbers.now k) r) }
 {
     let c = r as usize;
     if c < 16 {
         let v = cell(bytes, numbers, k, c);
-        Read::Holds(v)
+        Some(v)
     } else {
-        Read::Outside
+        None
     }
 }
 
 /// The integer in the register `r` of the frame `k`.
-pub fn integer(bytes: &[u8; 2632], numbers: &[i64; 2129], k: usize, r: u8) -> Whole
+pub fn integer(bytes: &[u8; 2632], numbers: &[i64; 2129], k: usize, r: u8) -> Option<i64>
     requires { k < 32 }
     ensures { whole_of result ≡ integer (frame_in bytes.now numbers.now k) r }
 {
     match register(bytes, numbers, k, r) {
-        Read::Holds(v) => whole(v),
-        Read::Outside => Whole::Stuck,
+        Some(v) => whole(v),
+        None => None,
     }
 }
 
 /// The integer that a value is.
-fn whole(v: Value) -> Whole
+fn whole(v: Value) -> Option<i64>
     ensures { whole_of result ≡ an_integer v }
 {
     match v {
-        Value::Empty => Whole::Stuck,
-        Value::Integer(z) => Whole::Is(z),
-        Value::Vector(_) => Whole::Stuck,
-        Value::Promise(_) => Whole::Stuck,
+        Value::Empty => None,
+        Value::Integer(z) => Some(z),
+        Value::Vector(_) => None,
+        Value::Promise(_) => None,
     }
 }
 
 /// The vector in the register `r` of the frame `k`.
-pub fn vector(bytes: &[u8; 2632], numbers: &[i64; 2129], k: usize, r: u8) -> Found
+pub fn vector(bytes: &[u8; 2632], numbers: &[i64; 2129], k: usize, r: u8) -> Option<usize>
     requires { k < 32 }
     ensures { (found_of result ≡ vector (frame_in bytes.now numbers.now k) r) × Narrow result }
 {
     match register(bytes, numbers, k, r) {
-        Read::Holds(v) => vector_of(v),
-        Read::Outside => Found::Nothing,
+        Some(v) => vector_of(v),
+        None => None,
     }
 }
 
 /// The place of the vector that a value is.
-fn vector_of(v: Value) -> Found
+fn vector_of(v: Value) -> Option<usize>
     ensures { (found_of result ≡ a_vector v) × Narrow result }
 {
     match v {
-        Value::Empty => Found::Nothing,
-        Value::Integer(_) => Found::Nothing,
-        Value::Vector(p) => Found::At(p as usize),
-        Value::Promise(_) => Found::Nothing,
+        Value::Empty => None,
+        Value::Integer(_) => None,
+        Value::Vector(p) => Some(p as usize),
+        Value::Promise(_) => None,
     }
 }
 
 /// The promise in the register `r` of the frame `k`.
-pub fn promise(bytes: &[u8; 2632], numbers: &[i64; 2129], k: usize, r: u8) -> Found
+pub fn promise(bytes: &[u8; 2632], numbers: &[i64; 2129], k: usize, r: u8) -> Option<usize>
     requires { k < 32 }
     ensures { (found_of result ≡ promise (frame_in bytes.now numbers.now k) r) × Narrow result }
 {
     match register(bytes, numbers, k, r) {
-        Read::Holds(v) => promise_of(v),
-        Read::Outside => Found::Nothing,
+        Some(v) => promise_of(v),
+        None => None,
     }
 }
 
 /// The place of the promise that a value is.
-fn promise_of(v: Value) -> Found
+fn promise_of(v: Value) -> Option<usize>
     ensures { (found_of result ≡ a_promise v) × Narrow result }
 {
     match v {
-        Value::Empty => Found::Nothing,
-        Value::Integer(_) => Found::Nothing,
-        Value::Vector(_) => Found::Nothing,
-        Value::Promise(p) => Found::At(p as usize),
+        Value::Empty => None,
+        Value::Integer(_) => None,
+        Value::Vector(_) => None,
+        Value::Promise(p) => Some(p as usize),
     }
 }
 

@@ -6,7 +6,6 @@ ghost use Rattle.store.specs.Store.{cache_of, promise_in, state_in, vector_in};
 ghost use Rattle.store.specs.Counts.{Frees, FreesVector, Ready, in_use, is_held, one, taken};
 ghost use Rattle.store.specs.Acts.{Leaves, cache_put, item_put, vector_copied, with_delay};
 
-use layout::Found;
 use machine::{Cache, Promise};
 
 /// How many items the vector `v` has.
@@ -53,7 +52,7 @@ fn is_taken(counts: &[u16; 800], i: usize, j: usize) -> bool
 }
 
 /// The lowest of 64 places whose counts, from `a` and from `b` on, are 0.
-fn free(counts: &[u16; 800], a: usize, b: usize) -> Found
+fn free(counts: &[u16; 800], a: usize, b: usize) -> Option<usize>
     requires { (a ≤ 512) × (b ≤ 512) }
     ensures { Frees result counts.now a b }
 {
@@ -62,10 +61,10 @@ fn free(counts: &[u16; 800], a: usize, b: usize) -> Found
         if is_taken(counts, a + i, b + i) {
             i += 1;
         } else {
-            return Found::At(i);
+            return Some(i);
         }
     }
-    Found::Nothing
+    None
 }
 
 /// The greatest number of vectors.
@@ -92,17 +91,17 @@ pub fn in_use(counts: &[u16; 800]) -> u8
 }
 
 /// A free place for a vector, where fewer than `most` are in use.
-fn free_below(counts: &[u16; 800], most: u8) -> Found
+fn free_below(counts: &[u16; 800], most: u8) -> Option<usize>
     ensures { FreesVector result counts.now most }
 {
     if most <= in_use(counts) {
-        return Found::Nothing;
+        return None;
     }
     free(counts, 0, 0)
 }
 
 /// A free place for a vector of a run that may have `most`; with 64 of 64 places none need be counted.
-pub fn free_vector(counts: &[u16; 800], most: u8) -> Found
+pub fn free_vector(counts: &[u16; 800], most: u8) -> Option<usize>
     ensures { FreesVector result counts.now most }
 {
     if most < VECTORS {
@@ -112,7 +111,7 @@ pub fn free_vector(counts: &[u16; 800], most: u8) -> Found
 }
 
 /// A free place for a promise.
-pub fn free_promise(counts: &[u16; 800]) -> Found
+pub fn free_promise(counts: &[u16; 800]) -> Option<usize>
     ensures { Frees result counts.now 256 512 }
 {
     free(counts, 256, 512)

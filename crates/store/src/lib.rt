@@ -28,13 +28,6 @@ pub enum Did {
     Stop(Halt),
 }
 
-/// An integer operand, or stuck.
-#[derive(Clone, Copy)]
-pub enum Whole {
-    Is(i64),
-    Stuck,
-}
-
 /// The length of a slice of bytes, which a proof learns so.
 pub fn byte_count(bytes: &[u8]) -> usize
     ensures { result ≡ length bytes.now }

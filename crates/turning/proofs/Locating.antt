@@ -1,5 +1,8 @@
 -- Where the run of a state in its arrays stands, by what the look-ups answer.
+use Rattle.std.specs.Prelude.{None, Some}
+use Rattle.loaded.specs.Answers.{BlockAt}
 use mathlib.Core.Path.{◌≡◌, refl, sym, ap, ◌∙◌}
+use Rattle.loaded.specs.Answers.{Number}
 use mathlib.Core.List.{List}
 use mathlib.Core.Option.{none, some}
 use mathlib.Core.Bool.{Bool, true, false, cond}
@@ -29,8 +32,6 @@ use Rattle.loaded.specs.Loaded.{block_in, count_in, program_in, version_in}
 use Rattle.loaded.proofs.Finding.{outside}
 use Rattle.loaded.proofs.Lookups.{length-lines}
 use Rattle.program.proofs.Held.{find-numbers}
-use Rattle.loaded.specs.declared.BlockAt.{BlockAt}
-use Rattle.loaded.specs.declared.Number.{Number}
 use Rattle.loaded.proofs.Steps.{no-version, no_block}
 use Rattle.turning.specs.Standing.{Framed, Here, Located, Spotted, length_in, next_of, top_in}
 use Rattle.turning.specs.declared.Spot.{Spot}
@@ -94,16 +95,16 @@ module _ (most : ℕ) (s t b : List ℕ) (k : ℕ) (a : Activation) (F : Framed 
   looked : (r : Number) → Looked r → (n : List ℤ) → version_of s t r ≡ find_version (program_in s t) (frame_in b n k).function (frame_in b n k).version
   looked r v n = rw (function_of n, version_of_lem n) v
 
-  pub lost-version : {r : Number} → Looked r → r ≡ Number.Missing → (n : List ℤ) → advance_with most (program_in s t) (state_in b n) ≡ stuck
-  lost-version v e n = nowhere most _ _ (no-version s t (state_in b n) (top_in b) (frame_in b n k) (at_top s t b n F.deep F.low) (framed_at n) (looked Number.Missing (rw e at v) n))
+  pub lost-version : {r : Number} → Looked r → r ≡ None → (n : List ℤ) → advance_with most (program_in s t) (state_in b n) ≡ stuck
+  lost-version v e n = nowhere most _ _ (no-version s t (state_in b n) (top_in b) (frame_in b n k) (at_top s t b n F.deep F.low) (framed_at n) (looked None (rw e at v) n))
 
-  module _ {r : Number} (v : Looked r) (own : ℕ) (e : r ≡ Number.Of own) where
-    pub lost-block : {x : BlockAt} → block_of s t x ≡ get_elem? (version_in s t own).blocks a.block → x ≡ BlockAt.Missing → (n : List ℤ) → advance_with most (program_in s t)
+  module _ {r : Number} (v : Looked r) (own : ℕ) (e : r ≡ Some own) where
+    pub lost-block : {x : BlockAt} → block_of s t x ≡ get_elem? (version_in s t own).blocks a.block → x ≡ None → (n : List ℤ) → advance_with most (program_in s t)
         (state_in b n) ≡ stuck
-    lost-block w h n = nowhere most _ _ (no_block s t (state_in b n) (top_in b) (frame_in b n k) (at_top s t b n F.deep F.low) (framed_at n) own (looked (Number.Of own) (rw e at v) n)
+    lost-block w h n = nowhere most _ _ (no_block s t (state_in b n) (top_in b) (frame_in b n k) (at_top s t b n F.deep F.low) (framed_at n) own (looked (Some own) (rw e at v) n)
         (rw (h, F.top) at w))
 
-    module _ {x : BlockAt} (w : block_of s t x ≡ get_elem? (version_in s t own).blocks a.block) (i : ℕ) (h : x ≡ BlockAt.Entry i) where
+    module _ {x : BlockAt} (w : block_of s t x ≡ get_elem? (version_in s t own).blocks a.block) (i : ℕ) (h : x ≡ Some i) where
       pub spotted-by : (n : List ℤ) → Spotted (program_in s t) (state_in b n) k (top_in b) (frame_in b n k) (version_in s t own) (block_in s t i)
       unfolding version_of block_of state_in
       spotted-by n = record {
@@ -111,7 +112,7 @@ module _ (most : ℕ) (s t b : List ℕ) (k : ℕ) (a : Activation) (F : Framed 
         deep = F.deep;
         frame = sym (ap (λ (y : Activation). y.frame) F.top) ∙ F.frame;
         live = frame-live b n k F.live;
-        version = sym (looked (Number.Of own) (rw e at v) n);
+        version = sym (looked (Some own) (rw e at v) n);
         block = sym (rw (h, F.top) at w);
       }
 
@@ -144,7 +145,7 @@ missed : {A : Type 0} {x : A} → none ≡ some x → ⊥
 missed e = let z : ◌≡◌ {A = ℕ} 0 1 = cc in omega arith
 
 -- the number of a version that is found
-pub numbered : (s t : List ℕ) (f w own : ℕ) {r : Number} → version_of s t r ≡ find_version (program_in s t) f w → r ≡ Number.Of own → (own < 128) × (own ≡ 4 * f + w)
+pub numbered : (s t : List ℕ) (f w own : ℕ) {r : Number} → version_of s t r ≡ find_version (program_in s t) f w → r ≡ Some own → (own < 128) × (own ≡ 4 * f + w)
 unfolding version_of version_in
 numbered s t f w own x q =
     let v = rw q at x in

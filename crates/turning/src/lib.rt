@@ -19,10 +19,10 @@ ghost use Rattle.turning.specs.Turning.{Answers, Chosen, Fit, Kept, Left, Looks,
 use acts::Pair;
 use ending::Ended;
 use listing::Callee;
-use loaded::{BlockAt, Number, RECORDS, decode, lookup};
+use loaded::{RECORDS, decode, lookup};
 use machine::Activation;
 use matching::{Choice, Site};
-use store::{Did, Halt, Whole, cells, stack};
+use store::{Did, Halt, cells, stack};
 
 /// Where a run stands: its frame, the record of its block, the record that comes next and the one behind its last instruction;
 /// `last` is 0 where it stands nowhere. The run may have `most` vectors.
@@ -78,10 +78,10 @@ fn framed(image: &[u8], table: &[u8], bytes: &[u8; 2632], k: usize, a: Activatio
     requires { Framed bytes.now k a }
     ensures { Located image.now table.now bytes.now result × (result.most ≡ most) }
 {
-    let Number::Of(own) = lookup::version(table, bytes[32 * k + 24], bytes[32 * k + 25]) else {
+    let Some(own) = lookup::version(table, bytes[32 * k + 24], bytes[32 * k + 25]) else {
         return nowhere(most);
     };
-    let BlockAt::Entry(i) = lookup::block(image, table, own, a.block) else {
+    let Some(i) = lookup::block(image, table, own, a.block) else {
         return nowhere(most);
     };
     let n = lines(table, i);
@@ -145,7 +145,7 @@ fn skip(bytes: &[u8; 2632], numbers: &[i64; 2129], spot: Spot, a: u8, n: u8) -> 
     ensures { (t c : List ℕ) → Ready bytes.now numbers.now c
         → Turns result t bytes.now numbers.now bytes.now numbers.now c spot (SKIP a n) }
 {
-    let Whole::Is(z) = cells::integer(bytes, numbers, spot.frame, a) else {
+    let Some(z) = cells::integer(bytes, numbers, spot.frame, a) else {
         return Turn::Stuck;
     };
     if integers::is_zero(z) {

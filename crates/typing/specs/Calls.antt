@@ -1,15 +1,13 @@
 -- What the code of question 8 has in hand: a type byte taken apart, and the arguments of a call where they stand.
-use Rattle.std.specs.Prelude.{List, cond, ℕ, zero, suc, ◌<◌}
+use Rattle.std.specs.Prelude.{List, cond, ℕ, zero, suc, ◌<◌, None, Option, Some}
 use Rattle.layout.specs.Records.{every, body_at, ◌!◌}
 use Rattle.program.specs.Program.{Argument, beside}
 use Rattle.rules.specs.Types.{kind_of, is_owned}
-use Rattle.typing.specs.declared.Owned.{Owned}
-use Rattle.typing.specs.declared.Owned.TheVariants.{Kind, Not}
 use Rattle.typing.specs.declared.Call.{Call}
 
 -- the kind of a type byte, if it is owned
-unfoldable pub owned_kind : ℕ → Owned
-owned_kind t = cond (is_owned t) (Kind (kind_of t)) Not
+unfoldable pub owned_kind : ℕ → Option ℕ
+owned_kind t = cond (is_owned t) (Some (kind_of t)) None
 
 -- n types from the field k of one body on, beside as many registers from the field l of another
 abbrev pub pairs : List ℕ → ℕ → List ℕ → ℕ → ℕ → ℕ → List Argument

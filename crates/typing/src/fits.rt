@@ -8,7 +8,7 @@ ghost use Rattle.program.specs.Places.{version_at, block_at, instr_at, table_of}
 ghost use Rattle.rules.specs.Fits.{integer, fits, fits_result};
 
 use crate::{arguments, registers, types};
-use layout::{Found, kinds, ownerships};
+use layout::{kinds, ownerships};
 use program::lookup;
 
 /// Are the `n` registers from the field 2 on integers?
@@ -204,7 +204,7 @@ fn poke_fits(image: &[u8], v: usize, b: usize, p: usize) -> bool
 fn prom_fits(image: &[u8], v: usize, b: usize, p: usize) -> bool
     ensures { result ≡ fits (program (records image.now)) (version_at image.now v) b (instr_of kind.PROM (body_at image.now p)) }
 {
-    let Found::At(q) = lookup::block(image, v, layout::field(image, p, 1)) else {
+    let Some(q) = lookup::block(image, v, layout::field(image, p, 1)) else {
         return false;
     };
     registers::takes_plain(image, v, p, 0, types::PROMISE + layout::field(image, q, 0))
@@ -217,7 +217,7 @@ fn call_fits(image: &[u8], table: &[usize; 128], v: usize, b: usize, p: usize) -
 {
     let f = layout::field(image, p, 1);
     let w = layout::field(image, p, 2);
-    let Found::At(q) = lookup::listed(image, table, f, w) else {
+    let Some(q) = lookup::listed(image, table, f, w) else {
         return false;
     };
     arguments::call_fits(

@@ -10,13 +10,6 @@ pub mod question9;
 mod registers;
 pub mod types;
 
-/// A type byte taken apart: the kind of an owned type, or that the type is not owned.
-#[derive(Clone, Copy)]
-pub enum Owned {
-    Kind(usize),
-    Not,
-}
-
 /// Where the arguments of a call stand: `n` types in the record at `place` from the field `types` on, and as many registers
 /// in the call's own record from the field `registers` on, each `step` behind the one before.
 #[derive(Clone, Copy)]

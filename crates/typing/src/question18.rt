@@ -7,7 +7,7 @@ ghost use Rattle.program.specs.Search.{first};
 ghost use Rattle.program.specs.Places.{version_at, table_of, asked};
 ghost use Rattle.rules.specs.Questions.{stays_down, question18};
 
-use layout::{Found, kinds};
+use layout::kinds;
 use program::{Here, lookup, pass};
 
 /// Is the version that the CALL at `p` names not above the level of the version at `v`?
@@ -17,7 +17,7 @@ fn call_stays_down(image: &[u8], table: &[usize; 128], v: usize, p: usize) -> bo
 {
     let f = layout::field(image, p, 1);
     let w = layout::field(image, p, 2);
-    let Found::At(q) = lookup::listed(image, table, f, w) else {
+    let Some(q) = lookup::listed(image, table, f, w) else {
         return false;
     };
     lookup::not_above(image, q, v)
@@ -43,7 +43,7 @@ fn stays_down_at(image: &[u8], table: &[usize; 128], here: Here, p: usize) -> bo
 }
 
 /// Question 18: does a version CALL only versions of its level or lower?
-pub fn question_18(image: &[u8]) -> Found
+pub fn question_18(image: &[u8]) -> Option<usize>
     ensures { result ≡ first (question18 (program (records image.now))) (program (records image.now)) }
 {
     let table = lookup::versions(image);
@@ -55,14 +55,14 @@ pub fn question_18(image: &[u8]) -> Found
     while p < image.len() {
         let n = layout::size_at(image, p);
         if n == 0 {
-            return Found::Nothing;
+            return None;
         }
         here = pass::moved(image, here, p);
         if stays_down_at(image, &table, here, p) {
             p += n;
         } else {
-            return Found::At(p);
+            return Some(p);
         }
     }
-    Found::Nothing
+    None
 }

@@ -9,7 +9,7 @@ ghost use Rattle.program.specs.Places.{version_at, asked};
 ghost use Rattle.rules.specs.Questions.{type_allowed, version_types, types_allowed, question6};
 
 use crate::types;
-use layout::{Found, kinds};
+use layout::kinds;
 use program::{Here, pass};
 
 /// May the register `r` of a version with so many parameters have the type byte `t`?
@@ -95,7 +95,7 @@ pub fn types_at(image: &[u8], here: Here, p: usize) -> bool
 }
 
 /// Question 6: is each type byte allowed at its place?
-pub fn question_6(image: &[u8]) -> Found
+pub fn question_6(image: &[u8]) -> Option<usize>
     ensures { result ≡ first question6 (program (records image.now)) }
 {
     let mut p: usize = 0;
@@ -106,14 +106,14 @@ pub fn question_6(image: &[u8]) -> Found
     while p < image.len() {
         let n = layout::size_at(image, p);
         if n == 0 {
-            return Found::Nothing;
+            return None;
         }
         here = pass::moved(image, here, p);
         if types_at(image, here, p) {
             p += n;
         } else {
-            return Found::At(p);
+            return Some(p);
         }
     }
-    Found::Nothing
+    None
 }

@@ -7,7 +7,7 @@ ghost use Rattle.program.specs.Places.{table_of, asked};
 ghost use Rattle.rules.specs.Questions.{question8};
 
 use crate::fits;
-use layout::{Found, kinds};
+use layout::kinds;
 use program::{Here, lookup, pass};
 
 /// Do the types of the record at `p` fit, where the pass stands at `here`? Part of the loop along the records, whose table is made once.
@@ -35,7 +35,7 @@ pub fn fits_at(image: &[u8], table: &[usize; 128], here: Here, p: usize) -> bool
 }
 
 /// Question 8: do types fit?
-pub fn question_8(image: &[u8]) -> Found
+pub fn question_8(image: &[u8]) -> Option<usize>
     ensures { result ≡ first (question8 (program (records image.now))) (program (records image.now)) }
 {
     let table = lookup::versions(image);
@@ -47,14 +47,14 @@ pub fn question_8(image: &[u8]) -> Found
     while p < image.len() {
         let n = layout::size_at(image, p);
         if n == 0 {
-            return Found::Nothing;
+            return None;
         }
         here = pass::moved(image, here, p);
         if fits_at(image, &table, here, p) {
             p += n;
         } else {
-            return Found::At(p);
+            return Some(p);
         }
     }
-    Found::Nothing
+    None
 }

@@ -10,7 +10,7 @@ ghost use Rattle.rules.specs.Effects.{reflective};
 ghost use Rattle.rules.specs.Questions.{question9};
 
 use crate::{registers, types};
-use layout::{Found, kinds};
+use layout::kinds;
 use program::{Here, lookup, pass};
 
 /// CALL: has the version that it names the mark 1?
@@ -20,7 +20,7 @@ fn call_reflects(image: &[u8], table: &[usize; 128], v: usize, p: usize) -> bool
 {
     let f = layout::field(image, p, 1);
     let w = layout::field(image, p, 2);
-    let Found::At(q) = lookup::listed(image, table, f, w) else {
+    let Some(q) = lookup::listed(image, table, f, w) else {
         return false;
     };
     lookup::mark(image, q) == 1
@@ -98,7 +98,7 @@ pub fn covers_at(image: &[u8], table: &[usize; 128], here: Here, p: usize) -> bo
 }
 
 /// Question 9: does each block's mark cover its effect?
-pub fn question_9(image: &[u8]) -> Found
+pub fn question_9(image: &[u8]) -> Option<usize>
     ensures { result ≡ first (question9 (program (records image.now))) (program (records image.now)) }
 {
     let table = lookup::versions(image);
@@ -110,14 +110,14 @@ pub fn question_9(image: &[u8]) -> Found
     while p < image.len() {
         let n = layout::size_at(image, p);
         if n == 0 {
-            return Found::Nothing;
+            return None;
         }
         here = pass::moved(image, here, p);
         if covers_at(image, &table, here, p) {
             p += n;
         } else {
-            return Found::At(p);
+            return Some(p);
         }
     }
-    Found::Nothing
+    None
 }

@@ -4,7 +4,7 @@ ghost use Rattle.layout.specs.Records.{body_at, ◌!◌};
 ghost use Rattle.program.specs.Places.{version_at};
 ghost use Rattle.rules.specs.Fits.{type_of, declared_kind, shared, integer, vector, owned, promise, value, plain, fresh};
 
-use crate::{Owned, types};
+use crate::types;
 use layout::ownerships;
 use program::lookup;
 
@@ -47,7 +47,7 @@ pub fn is_vector(image: &[u8], v: usize, p: usize, k: usize) -> bool
 pub fn is_owned(image: &[u8], v: usize, p: usize, k: usize) -> bool
     ensures { result ≡ owned (version_at image.now v) (body_at image.now p ! k) }
 {
-    let Owned::Kind(kind) = types::owned_kind(type_in(image, v, p, k)) else {
+    let Some(kind) = types::owned_kind(type_in(image, v, p, k)) else {
         return false;
     };
     kind == types::VECTOR

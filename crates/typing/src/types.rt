@@ -3,7 +3,6 @@ ghost use Rattle.std.specs.Prelude.{◌≡◌};
 ghost use Rattle.rules.specs.Types.{parameter_type, register_type, return_type, within};
 ghost use Rattle.typing.specs.Calls.{owned_kind};
 
-use crate::Owned;
 use layout::ownerships;
 
 /// How many kinds there are: 0 any, 1 value, 2 integer, 3 vector, 4 quiet promise, 5 reflective promise.
@@ -73,13 +72,13 @@ pub fn return_type(t: usize) -> bool
 }
 
 /// The kind of the type byte `t`, if it is owned.
-pub fn owned_kind(t: usize) -> Owned
+pub fn owned_kind(t: usize) -> Option<usize>
     ensures { result ≡ owned_kind t }
 {
     if t / 16 == ownerships::OWNED {
-        Owned::Kind(t % 16)
+        Some(t % 16)
     } else {
-        Owned::Not
+        None
     }
 }
 

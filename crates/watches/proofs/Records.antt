@@ -1,5 +1,8 @@
 -- What a record shows of its register, by the cells, vectors and promises of the arrays.
+use Rattle.std.specs.Prelude.{None, Some}
+use Rattle.loaded.specs.Answers.{BlockAt}
 use mathlib.Core.Path.{◌≡◌, refl, sym, ap, ◌∙◌}
+use Rattle.loaded.specs.Answers.{Number}
 use mathlib.Core.Bool.{Bool, true, false}
 use mathlib.Core.List.{List}
 use mathlib.Core.Option.{Option, some}
@@ -34,8 +37,6 @@ use Rattle.store.proofs.Vectors.{vector-at}
 use Rattle.frames.specs.Frames.{Lives}
 use Rattle.loaded.specs.Answers.{block_of, version_of}
 use Rattle.loaded.specs.Loaded.{block_in, program_in, version_in}
-use Rattle.loaded.specs.declared.BlockAt.{BlockAt}
-use Rattle.loaded.specs.declared.Number.{Number}
 use Rattle.watches.specs.Rows.{Tops, plain_row, row_at}
 use Rattle.watches.specs.declared.Top.{Top}
 
@@ -103,20 +104,20 @@ module _ (s t b : List ℕ) (n : List ℤ) (p : ℕ) where
         unfolding mark_in ◌>>=◌ frame_in promise_in
         by-version = rw (v, promise-at b n p h, sym of, live) refl
 
-        pub version-gone : r ≡ Number.Missing → 0 ≡ or_zero (mark_in (program_in s t) (state_in b n) p)
+        pub version-gone : r ≡ None → 0 ≡ or_zero (mark_in (program_in s t) (state_in b n) p)
         unfolding ◌>>=◌ or_stuck or_zero version_of
         version-gone q = sym (ap or_zero (by-version ∙ ap (λ x. marked (version_of s t x) (b ! (DELAYS + 4 * p + 1))) q))
 
-        module _ {k : ℕ} (q : r ≡ Number.Of k) {i : ℕ} (d : i ≡ b ! (DELAYS + 4 * p + 1)) (a : BlockAt) (x : block_of s t a ≡ get_elem? (version_in s t k).blocks i) where
+        module _ {k : ℕ} (q : r ≡ Some k) {i : ℕ} (d : i ≡ b ! (DELAYS + 4 * p + 1)) (a : BlockAt) (x : block_of s t a ≡ get_elem? (version_in s t k).blocks i) where
           by-block : mark_in (program_in s t) (state_in b n) p ≡ (or_stuck (block_of s t a) >>= λ B. got B.mark)
           unfolding ◌>>=◌ or_stuck at version_of
           by-block = by-version ∙ ap (λ y. marked (version_of s t y) (b ! (DELAYS + 4 * p + 1))) q ∙ ap (λ m. marked (some (version_in s t k)) m) (sym d) ∙ ap (λ o. or_stuck o >>= λ B. got B.mark) (sym x)
 
-          pub block-gone : a ≡ BlockAt.Missing → 0 ≡ or_zero (mark_in (program_in s t) (state_in b n) p)
+          pub block-gone : a ≡ None → 0 ≡ or_zero (mark_in (program_in s t) (state_in b n) p)
           unfolding ◌>>=◌ or_stuck or_zero block_of
           block-gone y = sym (ap or_zero (by-block ∙ ap (λ z. or_stuck (block_of s t z) >>= λ B. got B.mark) y))
 
-          pub block-there : {c m : ℕ} → a ≡ BlockAt.Entry c → m ≡ (block_in s t c).mark → m ≡ or_zero (mark_in (program_in s t) (state_in b n) p)
+          pub block-there : {c m : ℕ} → a ≡ Some c → m ≡ (block_in s t c).mark → m ≡ or_zero (mark_in (program_in s t) (state_in b n) p)
           unfolding ◌>>=◌ or_stuck or_zero block_of
           block-there y z = z ∙ sym (ap or_zero (by-block ∙ ap (λ z. or_stuck (block_of s t z) >>= λ B. got B.mark) y))
 

@@ -1,5 +1,7 @@
 -- The topmost call by the bytes that tell it, and how many records it has.
+use Rattle.std.specs.Prelude.{None, Some}
 use mathlib.Core.Path.{◌≡◌, refl, sym, ap, ◌∙◌}
+use Rattle.loaded.specs.Answers.{Number}
 use mathlib.Core.Bool.{Bool, true, false}
 use mathlib.Core.List.{List, []}
 use mathlib.Core.Option.{none, some}
@@ -27,7 +29,6 @@ use Rattle.store.proofs.Frames.{frame-live}
 use Rattle.store.proofs.Lists.{missing-up_to}
 use Rattle.loaded.specs.Answers.{version_of}
 use Rattle.loaded.specs.Loaded.{program_in, version_in}
-use Rattle.loaded.specs.declared.Number.{Number}
 use Rattle.watches.specs.Rows.{Tops, filled_by}
 use Rattle.watches.specs.declared.Top.{Top}
 
@@ -65,11 +66,11 @@ module _ (t b : List ℕ) {c : ℕ} (z : c ≡ b ! CALLS) where
     unfolding watch_of rows_at frame_in
     by-version s n = ap (rows_at (program_in s t) (state_in b n)) (top_frame n) ∙ ap (rows_of (program_in s t) (state_in b n) (frame_in b n (c - 1))) (sym (v s))
 
-    pub no-version : r ≡ Number.Missing → Tops Top.Nothing t b
+    pub no-version : r ≡ None → Tops Top.Nothing t b
     unfolding Tops rows_of version_of
     no-version e s n = by-version s n ∙ ap (λ x. rows_of (program_in s t) (state_in b n) (frame_in b n (c - 1)) (version_of s t x)) e
 
-    pub top-call : {own : ℕ} → r ≡ Number.Of own → Tops (Top.Call (c - 1) own) t b
+    pub top-call : {own : ℕ} → r ≡ Some own → Tops (Top.Call (c - 1) own) t b
     unfolding Tops rows_of version_of
     top-call e = (omega (arith, l, m), λ s n. by-version s n ∙ ap (λ x. rows_of (program_in s t) (state_in b n) (frame_in b n (c - 1)) (version_of s t x)) e)
 

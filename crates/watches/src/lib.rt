@@ -11,7 +11,7 @@ ghost use Rattle.machine.specs.Watches.{items_at, mark_in, or_zero, row_of, rows
 ghost use Rattle.store.specs.Store.{state_in, vector_in};
 ghost use Rattle.watches.specs.Rows.{Tops, filled_by, plain_row, row_at};
 
-use loaded::{BlockAt, Number, lookup};
+use loaded::lookup;
 use machine::{Row, Value, Watch};
 use store::{cells, heap};
 
@@ -68,7 +68,7 @@ fn topmost(table: &[u8], bytes: &[u8; 2632]) -> Top
     let k = calls - 1;
     let function = bytes[32 * k + FUNCTION];
     let version = bytes[32 * k + VERSION];
-    let Number::Of(own) = lookup::version(table, function, version) else {
+    let Some(own) = lookup::version(table, function, version) else {
         return Top::Nothing;
     };
     Top::Call(k, own)
@@ -174,14 +174,14 @@ fn mark(image: &[u8], table: &[u8], bytes: &[u8; 2632], p: u8) -> u8
     let j = layout::wide(bytes[DELAYS + 4 * i]);
     let block = bytes[DELAYS + 4 * i + 1];
     if frames::is_live(bytes, j) {
-        let Number::Of(k) = lookup::version(
+        let Some(k) = lookup::version(
             table,
             bytes[32 * j + FUNCTION],
             bytes[32 * j + VERSION],
         ) else {
             return 0;
         };
-        let BlockAt::Entry(e) = lookup::block(image, table, k, block) else {
+        let Some(e) = lookup::block(image, table, k, block) else {
             return 0;
         };
         lookup::mark_at(table, e)

@@ -1,4 +1,5 @@
 -- A place of a live call, by the cells of the arrays.
+use Rattle.std.specs.Prelude.{None, Some}
 use mathlib.Core.Path.{◌≡◌, refl, sym, ap, ◌∙◌}
 use mathlib.Core.Bool.{Bool, true, false}
 use mathlib.Core.List.{List}
@@ -10,7 +11,6 @@ use borrow.Author.Tests.{ltb-true, ltb-false}
 use Rattle.layout.specs.Records.{◌!◌}
 use Rattle.machine.specs.Frames.{read_of}
 use Rattle.machine.specs.Try.{◌>>=◌, got, stuck}
-use Rattle.machine.specs.declared.Read.{Read}
 use Rattle.machine.specs.declared.Value.{Value}
 use Rattle.store.specs.Store.{CALLS, cell_in, frame_in, state_in}
 use Rattle.store.proofs.Frames.{frame-live, name_in, name_out, register-in}
@@ -38,20 +38,20 @@ module _ (b : List ℕ) (n : List ℤ) (k i : ℕ) where
       go true e = let l : i < 16 = ltb-true _ _ e in absurd (omega arith)
       go false e = rw e (name_out b n k (i - 16) (omega arith))
 
-  pub outside-calls : 32 ≤ k → Read.Outside ≡ read_of (look_of (state_in b n) k i)
+  pub outside-calls : 32 ≤ k → None ≡ read_of (look_of (state_in b n) k i)
   unfolding look_of read_of ◌>>=◌
   outside-calls h = rw (frame-outside b n k h) refl
 
   module _ {c : ℕ} (z : c ≡ b ! CALLS) where
-    pub ended-call : c ≤ k → Read.Outside ≡ read_of (look_of (state_in b n) k i)
+    pub ended-call : c ≤ k → None ≡ read_of (look_of (state_in b n) k i)
     unfolding look_of read_of ◌>>=◌
     ended-call h = rw (frame-ended b n k (omega (arith, z, h))) refl
 
     module _ (h : k < 32) (l : k < c) where
-      pub outside-frame : 24 ≤ i → Read.Outside ≡ read_of (look_of (state_in b n) k i)
+      pub outside-frame : 24 ≤ i → None ≡ read_of (look_of (state_in b n) k i)
       unfolding look_of read_of ◌>>=◌
       outside-frame m = rw (frame-live b n k (h, omega (arith, z, l)), no_place m) refl
 
-      pub looked : {v : Value} → i < 24 → v ≡ cell_in b n k i → Read.Holds v ≡ read_of (look_of (state_in b n) k i)
+      pub looked : {v : Value} → i < 24 → v ≡ cell_in b n k i → Some v ≡ read_of (look_of (state_in b n) k i)
       unfolding look_of read_of ◌>>=◌
       looked m e = rw (frame-live b n k (h, omega (arith, z, l)), place_is m, e) refl

@@ -1,5 +1,8 @@
 -- Where a state stands, by the bytes that tell it.
+use Rattle.std.specs.Prelude.{None, Some}
+use Rattle.loaded.specs.Answers.{BlockAt}
 use mathlib.Core.Path.{◌≡◌, refl, sym, ap, ◌∙◌}
+use Rattle.loaded.specs.Answers.{Number}
 use mathlib.Core.List.{List, [], ◌∷◌}
 use mathlib.Core.Option.{Option, none, some}
 use Prim.Native.Nat.{ℕ, zero, suc, ◌+◌, ◌-◌, ◌*◌, ◌<◌, ◌≤◌}
@@ -27,9 +30,7 @@ use Rattle.store.proofs.Frames.{frame-live}
 use Rattle.store.proofs.Lists.{get_elem?-up_to, missing-up_to}
 use Rattle.loaded.specs.Loaded.{block_in, count_in, instr_in, line_in, lines_in, place_in, program_in, version_in}
 use Rattle.loaded.specs.Answers.{block_of, next_of, version_of}
-use Rattle.loaded.specs.declared.BlockAt.{BlockAt}
 use Rattle.loaded.specs.declared.Next.{Next}
-use Rattle.loaded.specs.declared.Number.{Number}
 use Rattle.whereabouts.specs.Where.{StandsStill, block_by, offset_of, spot_from, spot_in, where_at, where_by, where_from, where_of}
 use Rattle.whereabouts.specs.declared.Where.{Where}
 
@@ -119,20 +120,20 @@ offset_at s t (suc m) k (suc c) zero y e = let z : k ≡ k + 0 = omega arith in 
 offset_at s t (suc m) k (suc c) (suc x) y e = let z : k + 1 + x ≡ k + suc x = omega arith in offset_at s t m (k + 1) c x y e ∙ ap (λ i. place_in t i - 2) z
 
 module _ (s t : List ℕ) (f w b x : ℕ) {r : Number} (h : version_of s t r ≡ find_version (program_in s t) f w) where
-  pub no-version : r ≡ Number.Missing → Where.Nowhere ≡ where_by (program_in s t) f w b x
+  pub no-version : r ≡ None → Where.Nowhere ≡ where_by (program_in s t) f w b x
   unfolding where_by block_by spot_from or_stuck ◌>>=◌ version_of
   no-version e = let q : none ≡ find_version (program_in s t) f w = ap (version_of s t) (sym e) ∙ h in rw (← q) refl
 
-  module _ (k : ℕ) (e : r ≡ Number.Of k) (B : BlockAt) (g : block_of s t B ≡ get_elem? (version_in s t k).blocks b) where
+  module _ (k : ℕ) (e : r ≡ Some k) (B : BlockAt) (g : block_of s t B ≡ get_elem? (version_in s t k).blocks b) where
     block-is : block_by (program_in s t) f w b ≡ or_stuck (block_of s t B)
     unfolding block_by or_stuck at ◌>>=◌ version_of
     block-is = let q : some (version_in s t k) ≡ find_version (program_in s t) f w = ap (version_of s t) (sym e) ∙ h in rw (← q, g) refl
 
-    pub no_block : B ≡ BlockAt.Missing → Where.Nowhere ≡ where_by (program_in s t) f w b x
+    pub no_block : B ≡ None → Where.Nowhere ≡ where_by (program_in s t) f w b x
     unfolding where_by spot_from or_stuck block_of
     no_block d = rw (block-is, d) refl
 
-    module _ (i : ℕ) (d : B ≡ BlockAt.Entry i) (y : Next) (v : next_of s t y ≡ position (take INSTRUCTIONS (block_in s t i).code) x) where
+    module _ (i : ℕ) (d : B ≡ Some i) (y : Next) (v : next_of s t y ≡ position (take INSTRUCTIONS (block_in s t i).code) x) where
       spot_is : where_by (program_in s t) f w b x ≡ spot_in f w b x (block_in s t i) (next_of s t y)
       unfolding where_by spot_from or_stuck block_of
       spot_is = rw (block-is, d, v) refl

@@ -9,8 +9,8 @@ ghost use Rattle.store.specs.Store.{state_in};
 ghost use Rattle.whereabouts.specs.Looks.{look_of};
 ghost use Rattle.whereabouts.specs.Where.{where_by, where_of};
 
-use loaded::{BlockAt, Next, Number, lookup};
-use machine::Read;
+use loaded::{Next, lookup};
+use machine::Value;
 use store::{cells, stack};
 
 /// How many frames and activations a state has.
@@ -50,10 +50,10 @@ fn offset(table: &[u8], i: u32) -> usize
 fn spot(image: &[u8], table: &[u8], function: u8, version: u8, block: u8, next: u8) -> Where
     ensures { result ≡ where_by (program_in image.now table.now) function version block next }
 {
-    let Number::Of(k) = lookup::version(table, function, version) else {
+    let Some(k) = lookup::version(table, function, version) else {
         return Where::Nowhere;
     };
-    let BlockAt::Entry(i) = lookup::block(image, table, k, block) else {
+    let Some(i) = lookup::block(image, table, k, block) else {
         return Where::Nowhere;
     };
     let own = i as u32;
@@ -92,18 +92,18 @@ pub fn stand(image: &[u8], table: &[u8], bytes: &[u8; 2632]) -> Where
 }
 
 /// What the place `place` of the live call `call` holds, the oldest being 0: its registers are 0 to 15, its names behind them.
-pub fn look(bytes: &[u8; 2632], numbers: &[i64; 2129], call: usize, place: usize) -> Read
+pub fn look(bytes: &[u8; 2632], numbers: &[i64; 2129], call: usize, place: usize) -> Option<Value>
     ensures { result ≡ read_of (look_of (state_in bytes.now numbers.now) call place) }
 {
     if ACTIVATIONS <= call {
-        return Read::Outside;
+        return None;
     }
     if layout::wide(bytes[CALLS]) <= call {
-        return Read::Outside;
+        return None;
     }
     if CELLS <= place {
-        return Read::Outside;
+        return None;
     }
     let value = cells::cell(bytes, numbers, call, place);
-    Read::Holds(value)
+    Some(value)
 }

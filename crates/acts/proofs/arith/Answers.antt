@@ -21,7 +21,7 @@ unfolding execute_to ◌>>=◌
 returns-in_default-integer c = (
   λ P W. stays _ _ (rw (
     whole_is c.integer.ensures
-        c.in-Is.is,
+        c.in-Some.is,
     whole-stuck c.integer-2.ensures c.in_default-integer.is,
   ) refl),
   c.requires.0,
@@ -34,18 +34,18 @@ assign_integer-requires c =
 pub returns-in-Integer : goal.returns-in-Integer
 unfolding execute_to ◌>>=◌
 returns-in-Integer c =
-    let sx : SFits w64 c.in-Is.x = search rules in
-    let sy : SFits w64 c.in-Is-integer.y = search rules in
+    let sx : SFits w64 c.in-Some.x = search rules in
+    let sy : SFits w64 c.in-Some-integer.y = search rules in
     let sz : SFits w64 c.in-Integer.z = search rules in
     let e = rw (to_z-of_z sx, to_z-of_z sy) at c.arith.ensures in
     let g = rw (to_z-of_z sz) at c.assign_integer.ensures in (
       λ P W. by _ _ _ _ _
           (rw (
             whole_is c.integer.ensures
-                c.in-Is.is,
+                c.in-Some.is,
             whole_is
                 c.integer-2.ensures
-                c.in-Is-integer.is,
+                c.in-Some-integer.is,
             computed-got _ _
                 (sym e ∙ c.in-Integer.is),
           ) refl) g.0,
@@ -55,14 +55,14 @@ returns-in-Integer c =
 pub returns-in-Undef : goal.returns-in-Undef
 unfolding execute_to ◌>>=◌ end_of
 returns-in-Undef c =
-    let sx : SFits w64 c.in-Is.x = search rules in
-    let sy : SFits w64 c.in-Is-integer.y = search rules in
+    let sx : SFits w64 c.in-Some.x = search rules in
+    let sy : SFits w64 c.in-Some-integer.y = search rules in
     let e = rw (to_z-of_z sx, to_z-of_z sy) at c.arith.ensures in (
       λ P W. stops _ _ Halt.Undef (rw (
         whole_is c.integer.ensures
-            c.in-Is.is,
+            c.in-Some.is,
         whole_is c.integer-2.ensures
-            c.in-Is-integer.is,
+            c.in-Some-integer.is,
         arith-undef _ _ _ (sym e ∙ c.in-Undef.is),
       ) refl),
       c.requires.0,
@@ -71,14 +71,14 @@ returns-in-Undef c =
 pub returns-in-Stuck : goal.returns-in-Stuck
 unfolding execute_to ◌>>=◌
 returns-in-Stuck c =
-    let sx : SFits w64 c.in-Is.x = search rules in
-    let sy : SFits w64 c.in-Is-integer.y = search rules in
+    let sx : SFits w64 c.in-Some.x = search rules in
+    let sy : SFits w64 c.in-Some-integer.y = search rules in
     let e = rw (to_z-of_z sx, to_z-of_z sy) at c.arith.ensures in (
       λ P W. stays _ _ (rw (
         whole_is c.integer.ensures
-            c.in-Is.is,
+            c.in-Some.is,
         whole_is c.integer-2.ensures
-            c.in-Is-integer.is,
+            c.in-Some-integer.is,
         computed-stuck _ (sym e ∙ c.in-Stuck.is),
       ) refl),
       c.requires.0,

@@ -12,7 +12,7 @@ returns-in_default c =
 
 pub returns-then-v-ge64 : goal.returns-then-v-ge64
 returns-then-v-ge64 c = (
-  λ P W. stays _ _ (dup-out P W _ _ _ _ _ _ (found-is c.vector.ensures.0 c.in-At.is) c.if-v-ge64.true),
+  λ P W. stays _ _ (dup-out P W _ _ _ _ _ _ (found-is c.vector.ensures.0 c.in-Some.is) c.if-v-ge64.true),
   c.requires.0,
 )
 
@@ -21,7 +21,7 @@ unfolding end_of
 returns-in_default-free_vector c = (
   λ P W. stops _ _ Halt.Vectors (dup-none P W c.args.bytes.now
       c.args.numbers.now _ _ _ _
-      (found-is c.vector.ensures.0 c.in-At.is)
+      (found-is c.vector.ensures.0 c.in-Some.is)
       c.if-v-ge64.false (vector-none c.args.counts.now _
       c.requires.0.counted _ c.free_vector.ensures
       c.in_default-free_vector.is)),
@@ -33,10 +33,10 @@ returns-then-d-ge16 c = (
   λ P W. stays _ _ (dup-full P W c.args.bytes.now
       c.args.numbers.now _ _ _ _
       (found-is c.vector.ensures.0
-      c.in-At.is) c.if-v-ge64.false
+      c.in-Some.is) c.if-v-ge64.false
       (vector-free c.args.counts.now _
       c.requires.0.counted _
-      c.free_vector.ensures c.in-At-free_vector.is).0
+      c.free_vector.ensures c.in-Some-free_vector.is).0
       c.requires.1 c.if-d-ge16.true),
   c.requires.0,
 )
@@ -47,7 +47,7 @@ copy_vector-requires c = (
   (vector-free
       c.args.counts.now _
       c.requires.0.counted _
-      c.free_vector.ensures c.in-At-free_vector.is).1,
+      c.free_vector.ensures c.in-Some-free_vector.is).1,
   c.requires.0,
 )
 
@@ -56,7 +56,7 @@ overflow_cast-w c =
     let f = (vector-free
     c.args.counts.now _
     c.requires.0.counted _ c.free_vector.ensures
-    c.in-At-free_vector.is).1 in search rules
+    c.in-Some-free_vector.is).1 in search rules
 
 pub assign_vector-requires : goal.assign_vector-requires
 assign_vector-requires c = (
@@ -71,7 +71,7 @@ returns c =
     let f = vector-free
     c.args.counts.now _
     c.requires.0.counted _ c.free_vector.ensures
-    c.in-At-free_vector.is in
+    c.in-Some-free_vector.is in
     let L = live-by _ _ _ _
     c.requires.1
     (vector-calls _ _ _ _ c.copy_vector.ensures.0) in (
@@ -80,7 +80,7 @@ returns c =
           c.args.bytes.now
           c.args.numbers.now _ _ _ _
           (found-is c.vector.ensures.0
-          c.in-At.is)
+          c.in-Some.is)
           c.if-v-ge64.false f.0
           c.copy_vector.ensures.0)
           (does-from _ _ _ _ _ _ _ _ c.assign_vector.ensures.0 (assign-in _ _ _ _ _ L c.if-d-ge16.false).1),

@@ -18,7 +18,7 @@ returns-in_default c =
 
 pub returns-then-p-ge64 : goal.returns-then-p-ge64
 returns-then-p-ge64 c = (
-  λ P W. stays _ _ (force-out P W _ _ _ _ _ (found-is c.promise.ensures.0 c.in-At.is) c.if-p-ge64.true),
+  λ P W. stays _ _ (force-out P W _ _ _ _ _ (found-is c.promise.ensures.0 c.in-Some.is) c.if-p-ge64.true),
   c.requires.0,
 )
 
@@ -32,7 +32,7 @@ returns-then-counts-p-ne0 c = (
   λ P W. stops _ _ Halt.Undef (force-pending P W c.args.bytes.now
       c.args.numbers.now _ _ _
       (found-is c.promise.ensures.0
-      c.in-At.is) c.if-p-ge64.false
+      c.in-Some.is) c.if-p-ge64.false
       c.promise_at-q.ensures
       c.args.counts.now
       c.requires.0.counted c.in-Unforced.is
@@ -52,7 +52,7 @@ returns-in-Forced c =
           (force-cached P W c.args.bytes.now
           c.args.numbers.now _ _ _
           (found-is c.promise.ensures.0
-          c.in-At.is)
+          c.in-Some.is)
           c.if-p-ge64.false c.promise_at-q.ensures
           c.in-Forced.is) g.0,
       g.1,
@@ -65,7 +65,7 @@ returns-else-counts-p-ne0 c = (
       c.args.bytes.now
       c.args.numbers.now _ _ _
       (found-is c.promise.ensures.0
-      c.in-At.is)
+      c.in-Some.is)
       c.if-p-ge64.false
       c.promise_at-q.ensures
       c.args.counts.now

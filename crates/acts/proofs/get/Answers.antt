@@ -21,7 +21,7 @@ returns-in_default c =
 pub returns-then-v-ge64 : goal.returns-then-v-ge64
 unfolding execute_to ◌>>=◌
 returns-then-v-ge64 c = (
-  λ P W. stays _ _ (rw (found-is c.vector.ensures.0 c.in-At.is, vector-outside _ _ _ c.if-v-ge64.true) refl),
+  λ P W. stays _ _ (rw (found-is c.vector.ensures.0 c.in-Some.is, vector-outside _ _ _ c.if-v-ge64.true) refl),
   c.requires.0,
 )
 
@@ -30,7 +30,7 @@ unfolding execute_to ◌>>=◌
 returns-in_default-integer c = (
   λ P W. stays _ _ (rw (
     found-is c.vector.ensures.0
-        c.in-At.is,
+        c.in-Some.is,
     vector-at _ _ _ c.if-v-ge64.false,
     whole-stuck
         c.integer.ensures c.in_default-integer.is,
@@ -40,20 +40,20 @@ returns-in_default-integer c = (
 
 pub item-x-requires : goal.item-x-requires
 item-x-requires c =
-    let s : SFits w64 c.in-Is.z = search rules in
+    let s : SFits w64 c.in-Some.z = search rules in
     let e = rw (to_z-of_z s, c.items.ensures.0) at c.index.ensures in (
       c.if-v-ge64.false,
       index_below _ _ _
-          (index_at _ _ _ (sym e ∙ c.in-At-index.is)),
+          (index_at _ _ _ (sym e ∙ c.in-Some-index.is)),
     )
 
 pub assign_integer-requires : goal.assign_integer-requires
 assign_integer-requires c =
     c.requires
 
-pub returns-in-At-index : goal.returns-in-At-index
-returns-in-At-index c =
-    let s : SFits w64 c.in-Is.z = search rules in
+pub returns-in-Some-index : goal.returns-in-Some-index
+returns-in-Some-index c =
+    let s : SFits w64 c.in-Some.z = search rules in
     let e = rw (to_z-of_z s, c.items.ensures.0) at
     c.index.ensures in
     let x : SFits w64 c.item-x.result = search rules in
@@ -63,28 +63,28 @@ returns-in-At-index c =
           c.args.bytes.now
           c.args.numbers.now _ _ _
           (found-is c.vector.ensures.0
-          c.in-At.is)
+          c.in-Some.is)
           c.if-v-ge64.false _
           (whole_is c.integer.ensures
-          c.in-Is.is)
-          (index_at _ _ _ (sym e ∙ c.in-At-index.is)) c.item-x.ensures) g.0,
+          c.in-Some.is)
+          (index_at _ _ _ (sym e ∙ c.in-Some-index.is)) c.item-x.ensures) g.0,
       g.1,
     )
 
 pub returns-in-Undef : goal.returns-in-Undef
 unfolding execute_to ◌>>=◌ end_of
 returns-in-Undef c =
-    let s : SFits w64 c.in-Is.z = search rules in
+    let s : SFits w64 c.in-Some.z = search rules in
     let e = rw (to_z-of_z s, c.items.ensures.0) at c.index.ensures in (
       λ P W. stops _ _ Halt.Undef
           (rw (
             found-is c.vector.ensures.0
-                c.in-At.is,
+                c.in-Some.is,
             vector-at _ _ _
                 c.if-v-ge64.false,
             whole_is
                 c.integer.ensures
-                c.in-Is.is,
+                c.in-Some.is,
             index-undef _ _ (sym e ∙ c.in-Undef.is),
           ) refl),
       c.requires.0,

@@ -15,7 +15,7 @@ returns-in_default c =
 
 pub returns-then-v-ge64 : goal.returns-then-v-ge64
 returns-then-v-ge64 c = (
-  λ P W. stays _ _ (len_out P W _ _ _ _ _ (found-is c.vector.ensures.0 c.in-At.is) c.if-v-ge64.true),
+  λ P W. stays _ _ (len_out P W _ _ _ _ _ (found-is c.vector.ensures.0 c.in-Some.is) c.if-v-ge64.true),
   c.requires.0,
 )
 
@@ -29,7 +29,7 @@ returns c =
       λ P W. by _ _ _ _ _ (len-done P W c.args.bytes.now
           c.args.numbers.now _ _ _
           (found-is c.vector.ensures.0
-          c.in-At.is) c.if-v-ge64.false
+          c.in-Some.is) c.if-v-ge64.false
           c.items-n.ensures.0) g.0,
       g.1,
     )

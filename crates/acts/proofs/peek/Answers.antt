@@ -12,7 +12,7 @@ returns-in_default c =
 
 pub returns-then-p-ge64 : goal.returns-then-p-ge64
 returns-then-p-ge64 c = (
-  λ P W. stays _ _ (peek-out P W _ _ _ _ _ (found-is c.promise.ensures.0 c.in-At.is) _ c.if-p-ge64.true),
+  λ P W. stays _ _ (peek-out P W _ _ _ _ _ (found-is c.promise.ensures.0 c.in-Some.is) _ c.if-p-ge64.true),
   c.requires.0,
 )
 
@@ -31,7 +31,7 @@ returns-then-is_live c = (
       c.args.bytes.now
       c.args.numbers.now _ _ _
       (found-is c.promise.ensures.0
-      c.in-At.is)
+      c.in-Some.is)
       c.if-p-ge64.false
       c.promise_at-q.ensures c.wide-j.ensures.0 _
       c.is_live.ensures _ c.if-is_live.true) c.assign_name.ensures.0,
@@ -43,7 +43,7 @@ returns-else-is_live c = (
   λ P W. stays _ _ (peek-gone P W c.args.bytes.now
       c.args.numbers.now _ _ _
       (found-is c.promise.ensures.0
-      c.in-At.is) c.if-p-ge64.false
+      c.in-Some.is) c.if-p-ge64.false
       c.promise_at-q.ensures c.wide-j.ensures.0 _ c.is_live.ensures _ c.if-is_live.false),
   c.requires.0,
 )

@@ -25,7 +25,7 @@ returns-then-d-ge16 c = (
   λ P W T. stays _ _ (prom-full P W c.args.bytes.now
       c.args.numbers.now _ _ _ T c.if-blocks-block.false
       (promise-free c.args.counts.now _ c.requires.0.counted
-      c.free_promise.ensures c.in-At.is).0 c.requires.1
+      c.free_promise.ensures c.in-Some.is).0 c.requires.1
       c.if-d-ge16.true),
   c.requires.0,
 )
@@ -34,7 +34,7 @@ pub make_promise-requires : goal.make_promise-requires
 make_promise-requires c = (
   (promise-free c.args.counts.now _
       c.requires.0.counted c.free_promise.ensures
-      c.in-At.is).1,
+      c.in-Some.is).1,
   c.requires.0,
 )
 
@@ -43,7 +43,7 @@ overflow_cast-p c =
     let f = (promise-free c.args.counts.now _
     c.requires.0.counted
     c.free_promise.ensures
-    c.in-At.is).1 in search rules
+    c.in-Some.is).1 in search rules
 
 pub assign_promise-requires : goal.assign_promise-requires
 assign_promise-requires c = (
@@ -57,7 +57,7 @@ returns c =
     let f = promise-free c.args.counts.now _
     c.requires.0.counted
     c.free_promise.ensures
-    c.in-At.is in
+    c.in-Some.is in
     let L = live-by _ _ _ _ c.requires.1
     (delay-calls _ _ _ _ _ c.make_promise.ensures.0) in (
       λ P W T. by _ _ _ _ _ (prom-done P W c.args.bytes.now

@@ -18,7 +18,7 @@ unfolding execute_to ◌>>=◌
 returns-in_default-integer c = (
   λ P W. stays _ _ (rw (
     whole_is c.integer.ensures
-        c.in-Is.is,
+        c.in-Some.is,
     whole-stuck c.integer-2.ensures c.in_default-integer.is,
   ) refl),
   c.requires.0,
@@ -29,9 +29,9 @@ unfolding execute_to ◌>>=◌
 returns-in_default-integer-2 c = (
   λ P W. stays _ _ (rw (
     whole_is c.integer.ensures
-        c.in-Is.is,
+        c.in-Some.is,
     whole_is
-        c.integer-2.ensures c.in-Is-integer.is,
+        c.integer-2.ensures c.in-Some-integer.is,
     whole-stuck
         c.integer-3.ensures c.in_default-integer-2.is,
   ) refl),
@@ -46,9 +46,9 @@ pub returns : goal.returns
 unfolding execute_to ◌>>=◌
 returns c =
     let sz : SFits w64
-    c.in-Is.z = search rules in
-    let sx : SFits w64 c.in-Is-integer.x = search rules in
-    let sy : SFits w64 c.in-Is-integer-2.y = search rules in
+    c.in-Some.z = search rules in
+    let sx : SFits w64 c.in-Some-integer.x = search rules in
+    let sy : SFits w64 c.in-Some-integer-2.y = search rules in
     let ss : SFits w64 c.select.result = search rules in
     let e = rw (to_z-of_z sz, to_z-of_z sx, to_z-of_z sy) at c.select.ensures in
     let g = rw (to_z-of_z ss, e) at c.assign_integer.ensures in (
@@ -56,12 +56,12 @@ returns c =
           (rw (
             whole_is
                 c.integer.ensures
-                c.in-Is.is,
+                c.in-Some.is,
             whole_is
                 c.integer-2.ensures
-                c.in-Is-integer.is,
+                c.in-Some-integer.is,
             whole_is
-                c.integer-3.ensures c.in-Is-integer-2.is,
+                c.integer-3.ensures c.in-Some-integer-2.is,
           ) refl) g.0,
       g.1,
     )

@@ -23,7 +23,7 @@ returns-in_default c =
 pub returns-then-v-ge64 : goal.returns-then-v-ge64
 unfolding execute_to ◌>>=◌
 returns-then-v-ge64 c = (
-  λ P W. stays _ _ (rw (found-is c.vector.ensures.0 c.in-At.is, vector-outside _ _ _ c.if-v-ge64.true) refl),
+  λ P W. stays _ _ (rw (found-is c.vector.ensures.0 c.in-Some.is, vector-outside _ _ _ c.if-v-ge64.true) refl),
   c.requires.0,
 )
 
@@ -32,7 +32,7 @@ unfolding execute_to ◌>>=◌
 returns-in_default-integer c = (
   λ P W. stays _ _ (rw (
     found-is c.vector.ensures.0
-        c.in-At.is,
+        c.in-Some.is,
     vector-at _ _ _ c.if-v-ge64.false,
     whole-stuck
         c.integer.ensures c.in_default-integer.is,
@@ -45,11 +45,11 @@ unfolding execute_to ◌>>=◌
 returns-in_default-integer-2 c = (
   λ P W. stays _ _ (rw (
     found-is c.vector.ensures.0
-        c.in-At.is,
+        c.in-Some.is,
     vector-at _ _ _
         c.if-v-ge64.false,
     whole_is
-        c.integer.ensures c.in-Is.is,
+        c.integer.ensures c.in-Some.is,
     whole-stuck
         c.integer-2.ensures c.in_default-integer-2.is,
   ) refl),
@@ -65,31 +65,31 @@ returns-then-counts-v-ne1 c = (
       c.requires.1
       c.requires.0.counted
       (found-is c.vector.ensures.0
-      c.in-At.is)
+      c.in-Some.is)
       c.if-v-ge64.false
       (whole_is c.integer.ensures
-      c.in-Is.is)
-      (whole_is c.integer-2.ensures c.in-Is-integer.is) c.if-counts-v-ne1.true),
+      c.in-Some.is)
+      (whole_is c.integer-2.ensures c.in-Some-integer.is) c.if-counts-v-ne1.true),
   c.requires.0,
 )
 
 pub set_item-requires : goal.set_item-requires
 set_item-requires c =
     let s : SFits w64
-    c.in-Is.z = search rules in
+    c.in-Some.z = search rules in
     let e = rw (to_z-of_z s) at c.index.ensures in
-    let b = index_below _ _ _ (index_at _ _ _ (sym e ∙ c.in-At-index.is)) in (
+    let b = index_below _ _ _ (index_at _ _ _ (sym e ∙ c.in-Some-index.is)) in (
       c.if-v-ge64.false,
       omega (arith, b, c.items.ensures.1),
       c.requires.0,
     )
 
-pub returns-in-At-index : goal.returns-in-At-index
+pub returns-in-Some-index : goal.returns-in-Some-index
 unfolding Does
-returns-in-At-index c =
+returns-in-Some-index c =
     let s : SFits w64
-    c.in-Is.z = search rules in
-    let t : SFits w64 c.in-Is-integer.x = search rules in
+    c.in-Some.z = search rules in
+    let t : SFits w64 c.in-Some-integer.x = search rules in
     let e = rw (to_z-of_z s, c.items.ensures.0) at
     c.index.ensures in
     let g = rw (to_z-of_z t) at c.set_item.ensures in (
@@ -100,21 +100,21 @@ returns-in-At-index c =
           c.requires.1
           c.requires.0.counted
           (found-is c.vector.ensures.0
-          c.in-At.is)
+          c.in-Some.is)
           c.if-v-ge64.false
           (whole_is c.integer.ensures
-          c.in-Is.is)
+          c.in-Some.is)
           (whole_is c.integer-2.ensures
-          c.in-Is-integer.is)
+          c.in-Some-integer.is)
           c.if-counts-v-ne1.false
-          (index_at _ _ _ (sym e ∙ c.in-At-index.is)) ∙ ap got (sym g.0),
+          (index_at _ _ _ (sym e ∙ c.in-Some-index.is)) ∙ ap got (sym g.0),
       g.1,
     )
 
 pub returns-in-Undef : goal.returns-in-Undef
 unfolding end_of
 returns-in-Undef c =
-    let s : SFits w64 c.in-Is.z = search rules in
+    let s : SFits w64 c.in-Some.z = search rules in
     let e = rw (to_z-of_z s, c.items.ensures.0) at c.index.ensures in (
       λ P W. stops _ _ Halt.Undef
           (undef P W c.args.bytes.now
@@ -123,12 +123,12 @@ returns-in-Undef c =
           c.requires.1
           c.requires.0.counted
           (found-is c.vector.ensures.0
-          c.in-At.is)
+          c.in-Some.is)
           c.if-v-ge64.false
           (whole_is c.integer.ensures
-          c.in-Is.is)
+          c.in-Some.is)
           (whole_is c.integer-2.ensures
-          c.in-Is-integer.is) c.if-counts-v-ne1.false
+          c.in-Some-integer.is) c.if-counts-v-ne1.false
           (index-undef _ _ (sym e ∙ c.in-Undef.is))),
       c.requires.0,
     )

@@ -16,21 +16,21 @@ returns-in_default c =
 pub returns-then-d-ge16 : goal.returns-then-d-ge16
 returns-then-d-ge16 c = (
   λ P W. stays _ _ (use-out P W _ _ _ _ _ c.requires.0 c.requires.1
-      (found-is c.vector.ensures.0 c.in-At.is) c.if-d-ge16.true),
+      (found-is c.vector.ensures.0 c.in-Some.is) c.if-d-ge16.true),
   c.requires.0,
 )
 
 pub overflow_cast-v : goal.overflow_cast-v
 overflow_cast-v c =
     let q = narrow_at c.vector.ensures.1
-    c.in-At.is in search rules
+    c.in-Some.is in search rules
 
 pub assign_vector-requires : goal.assign_vector-requires
 assign_vector-requires c =
     let h = (holds-vector c.args.bytes.now
     c.args.numbers.now _ _ _
     (found-is c.vector.ensures.0
-    c.in-At.is)).0 in (
+    c.in-Some.is)).0 in (
       c.assign_empty.ensures.1,
       live-still _ _ _ _ _ _ _ _ c.requires.1 h
           c.assign_empty.ensures.0,
@@ -39,7 +39,7 @@ assign_vector-requires c =
 pub returns : goal.returns
 returns c =
     let e = found-is c.vector.ensures.0
-    c.in-At.is in
+    c.in-Some.is in
     let h = (holds-vector c.args.bytes.now
     c.args.numbers.now _ _ _ e).0 in
     let q = assigned-is _ _ _ _ _ _ _ _ c.requires.1 h

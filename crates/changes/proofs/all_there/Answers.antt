@@ -46,7 +46,7 @@ loop-k-smaller c =
 pub loop-k-preserved : goal.loop-k-preserved
 loop-k-preserved c =
     let right = listed-right _ _ _ _ c.requires in
-    let place = sym (c.listed.ensures ∙ right) ∙ c.in-At.is in
+    let place = sym (c.listed.ensures ∙ right) ∙ c.in-Some.is in
     let there = rw (c.byte-function.ensures.0, c.byte-version.ensures.0) at (version-found _ _ _ _ place).0 in
     let before = c.loop-k.invariant.1 in
     (omega (arith, c.loop-k-test.true), below_next _ _ before (found_some _ there))

@@ -3,9 +3,9 @@ use Rattle.machine.proofs.Changes.{differs, is-missing, all_stay}
 use mathlib.Core.Path.{sym, ◌∙◌}
 use Rattle.changes.proofs.answer_15.Goals as goal
 
-pub returns-in-At : goal.returns-in-At
-returns-in-At c =
-    sym (differs _ _ _ _ (sym c.question_15.ensures ∙ c.in-At.is))
+pub returns-in-Some : goal.returns-in-Some
+returns-in-Some c =
+    sym (differs _ _ _ _ (sym c.question_15.ensures ∙ c.in-Some.is))
 
 pub returns-then-all_there : goal.returns-then-all_there
 returns-then-all_there c =

@@ -13,19 +13,19 @@ returns-in_default c =
 
 pub returns-in_default-listed : goal.returns-in_default-listed
 returns-in_default-listed c =
-    let before = sym (c.listed.ensures ∙ listed-right _ _ _ _ c.requires.0) ∙ c.in-At.is in
+    let before = sym (c.listed.ensures ∙ listed-right _ _ _ _ c.requires.0) ∙ c.in-Some.is in
     let after = sym (c.listed-2.ensures ∙ listed-right _ _ _ _ c.requires.1) ∙ c.in_default-listed.is in
     sym (not-in-new _ _ _ _ _ before after)
 
 pub same_version-requires : goal.same_version-requires
 same_version-requires c =
-    let before = sym (c.listed.ensures ∙ listed-right _ _ _ _ c.requires.0) ∙ c.in-At.is in
-    let after = sym (c.listed-2.ensures ∙ listed-right _ _ _ _ c.requires.1) ∙ c.in-At-listed.is in
+    let before = sym (c.listed.ensures ∙ listed-right _ _ _ _ c.requires.0) ∙ c.in-Some.is in
+    let after = sym (c.listed-2.ensures ∙ listed-right _ _ _ _ c.requires.1) ∙ c.in-Some-listed.is in
     (omega (arith, (version-found _ _ _ _ before).1), omega (arith, (version-found _ _ _ _ after).1))
 
 pub returns : goal.returns
 unfolding part_at end_at end_from
 returns c =
-    let before = sym (c.listed.ensures ∙ listed-right _ _ _ _ c.requires.0) ∙ c.in-At.is in
-    let after = sym (c.listed-2.ensures ∙ listed-right _ _ _ _ c.requires.1) ∙ c.in-At-listed.is in
+    let before = sym (c.listed.ensures ∙ listed-right _ _ _ _ c.requires.0) ∙ c.in-Some.is in
+    let after = sym (c.listed-2.ensures ∙ listed-right _ _ _ _ c.requires.1) ∙ c.in-Some-listed.is in
     c.same_version.ensures ∙ sym (stays_at _ _ _ _ _ _ before after)

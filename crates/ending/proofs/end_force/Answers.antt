@@ -19,7 +19,7 @@ returns-in_default c = (
 
 pub returns-then-q-ge64 : goal.returns-then-q-ge64
 returns-then-q-ge64 c = (
-  λ P W. comes-stuck _ _ (out-ends P W _ _ _ _ _ (whole_is c.integer.ensures c.in-Is.is)
+  λ P W. comes-stuck _ _ (out-ends P W _ _ _ _ _ (whole_is c.integer.ensures c.in-Some.is)
       c.wide-q.ensures.0 c.if-q-ge64.true),
   left-stuck _ _ _ c.requires.0,
 )
@@ -28,7 +28,7 @@ pub returns-then-depth-lt2 : goal.returns-then-depth-lt2
 returns-then-depth-lt2 c = (
   λ P W. comes-stuck _ _ (low-ends P W c.args.bytes.now
       c.args.numbers.now _ _ _
-      (whole_is c.integer.ensures c.in-Is.is)
+      (whole_is c.integer.ensures c.in-Some.is)
       c.wide-q.ensures.0 c.if-q-ge64.false c.wide-depth.ensures.0 c.if-depth-lt2.true),
   left-stuck _ _ _
       c.requires.0,
@@ -59,7 +59,7 @@ returns-then-d-ge16 c = (
       c.args.bytes.now
       c.args.numbers.now _ _ _
       (whole_is c.integer.ensures
-      c.in-Is.is)
+      c.in-Some.is)
       c.wide-q.ensures.0
       c.if-q-ge64.false
       c.wide-depth.ensures.0
@@ -102,9 +102,9 @@ assign_integer-requires c = (
 pub returns-else-d-ge16 : goal.returns-else-d-ge16
 returns-else-d-ge16 c =
     let s : SFits w64
-    c.in-Is.z = search (
+    c.in-Some.z = search (
       rules,
-      c.in-Is.known_told-1-own.given,
+      c.in-Some.known_told-1-own.given,
     ) in
     let u = rw (to_z-of_z s) at c.set_cache.ensures.0 in
     let g = rw (to_z-of_z s) at c.assign_integer.ensures in
@@ -119,7 +119,7 @@ returns-else-d-ge16 c =
           c.args.bytes.now
           c.args.numbers.now _ _ _
           (whole_is c.integer.ensures
-          c.in-Is.is)
+          c.in-Some.is)
           c.wide-q.ensures.0
           c.if-q-ge64.false
           c.wide-depth.ensures.0
@@ -141,7 +141,7 @@ returns-else-is_live c = (
       c.args.bytes.now
       c.args.numbers.now _ _ _
       (whole_is c.integer.ensures
-      c.in-Is.is)
+      c.in-Some.is)
       c.wide-q.ensures.0
       c.if-q-ge64.false
       c.wide-depth.ensures.0 c.if-depth-lt2.false

@@ -16,11 +16,11 @@ slice_bounds-report-end c = sym (length-take-le _ _ c.in-Whole.ensures.fits)
 
 pub slice_bounds-text-end : goal.slice_bounds-text-end
 slice_bounds-text-end c =
-    let w = written-fits _ _ _ (sym c.report.ensures.says ∙ c.in-Written.is) in
+    let w = written-fits _ _ _ (sym c.report.ensures.says ∙ c.in-Some.is) in
     rw (ap length c.report.ensures.writes ∙ placed-length _ _ _) w
 
-pub slice_bounds-write_all-end-in-Written : goal.slice_bounds-write_all-end-in-Written
-slice_bounds-write_all-end-in-Written c =
-    let w = written-fits _ _ _ (sym c.report.ensures.says ∙ c.in-Written.is) in
-    let h : c.in-Written.size ≤ length c.report.new.out = rw (ap length c.report.ensures.writes ∙ placed-length _ _ _) w in
+pub slice_bounds-write_all-end-in-Some : goal.slice_bounds-write_all-end-in-Some
+slice_bounds-write_all-end-in-Some c =
+    let w = written-fits _ _ _ (sym c.report.ensures.says ∙ c.in-Some.is) in
+    let h : c.in-Some.size ≤ length c.report.new.out = rw (ap length c.report.ensures.writes ∙ placed-length _ _ _) w in
     sym (length-take-le _ _ h)

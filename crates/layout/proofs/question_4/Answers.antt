@@ -25,14 +25,14 @@ loop-p-smaller c =
 
 pub loop-p-preserved : goal.loop-p-preserved
 loop-p-preserved c =
-    let t = turn-next _ _ _ (sym c.due_after.ensures ∙ c.in-Next.is) in
+    let t = turn-next _ _ _ (sym c.due_after.ensures ∙ c.in-Some.is) in
     go_on (record { along = c.loop-p.invariant; inside = c.loop-p-test.true; size = c.size_at-n.ensures; whole = c.if-n-eq0.false }) _
     (and-on _ (sym c.in_bounds.ensures ∙ c.if-in_bounds.true) ∙ t.0) t.1
 
-pub returns-in-Refused : goal.returns-in-Refused
-returns-in-Refused c =
+pub returns-in-None : goal.returns-in-None
+returns-in-None c =
     say-no (record { along = c.loop-p.invariant; inside = c.loop-p-test.true; size = c.size_at-n.ensures; whole = c.if-n-eq0.false })
-    (and-on _ (sym c.in_bounds.ensures ∙ c.if-in_bounds.true) ∙ turn-refused _ _ (sym c.due_after.ensures ∙ c.in-Refused.is))
+    (and-on _ (sym c.in_bounds.ensures ∙ c.if-in_bounds.true) ∙ turn-refused _ _ (sym c.due_after.ensures ∙ c.in-None.is))
 
 pub returns-else-in_bounds : goal.returns-else-in_bounds
 returns-else-in_bounds c =

@@ -9,7 +9,7 @@ loop-i-init c =
 pub loop-i-preserved : goal.loop-i-preserved
 loop-i-preserved c =
     gather-on _ _ _ _ _ c.loop-i.invariant c.loop-i-test.true
-    (whole_is c.integer.ensures c.in-Is.is)
+    (whole_is c.integer.ensures c.in-Some.is)
 
 pub returns-in-Stuck : goal.returns-in-Stuck
 returns-in-Stuck c =

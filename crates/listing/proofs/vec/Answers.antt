@@ -24,7 +24,7 @@ returns-then-d-ge16 c = (
       c.all_integers.ensures c.if-all_integers.true
       (vector-free c.args.counts.now _
       c.requires.0.counted _ c.free_vector.ensures
-      c.in-At.is).0 c.requires.1 c.if-d-ge16.true),
+      c.in-Some.is).0 c.requires.1 c.if-d-ge16.true),
   c.requires.0,
 )
 
@@ -34,7 +34,7 @@ fill-requires c = (
   (vector-free
       c.args.counts.now _
       c.requires.0.counted _
-      c.free_vector.ensures c.in-At.is).1,
+      c.free_vector.ensures c.in-Some.is).1,
   (gathered _ _ _ _ _
       c.all_integers.ensures
       c.if-all_integers.true).1,
@@ -48,7 +48,7 @@ overflow_cast-w c =
     c.args.counts.now _
     c.requires.0.counted _
     c.free_vector.ensures
-    c.in-At.is).1 in search rules
+    c.in-Some.is).1 in search rules
 
 pub assign_vector-requires : goal.assign_vector-requires
 assign_vector-requires c = (
@@ -73,7 +73,7 @@ returns-else-d-ge16 c =
           c.args.counts.now _
           c.requires.0.counted _
           c.free_vector.ensures
-          c.in-At.is).0 c.fill.ensures.0)
+          c.in-Some.is).0 c.fill.ensures.0)
           (does-from _ _ _ _ _ _ _ _ c.assign_vector.ensures.0 (assign-in _ _ _ _ _ L c.if-d-ge16.false).1),
       c.assign_vector.ensures.1,
     )

@@ -6,15 +6,15 @@ returns-in_default c =
     called-missing _ _ _ _ _ c.byte-f.ensures c.byte-w.ensures _ (c.version.ensures _)
     c.in_default.is
 
-pub returns-in-Yes : goal.returns-in-Yes
-returns-in-Yes c =
+pub returns-in-Some : goal.returns-in-Some
+returns-in-Some c =
     called-fits _ _ _ _ _ c.byte-f.ensures
     c.byte-w.ensures _ (c.version.ensures _)
-    c.in-Of.is _ c.matches.ensures _
-    (first_of _ _ c.requires.1) c.in-Yes.is
+    c.in-Some.is _ c.matches.ensures _
+    (first_of _ _ c.requires.1) c.in-Some.is
 
-pub returns-in-No : goal.returns-in-No
-returns-in-No c =
+pub returns-in-None : goal.returns-in-None
+returns-in-None c =
     called-clashes _ _ _ _ _ c.byte-f.ensures
     c.byte-w.ensures _ (c.version.ensures _)
-    c.in-Of.is _ c.matches.ensures c.in-No.is
+    c.in-Some.is _ c.matches.ensures c.in-None.is

@@ -5,25 +5,25 @@ pub loop-w-init : goal.loop-w-init
 loop-w-init c =
     left-all _ _ _ _ _
 
-pub returns-in-Yes : goal.returns-in-Yes
-returns-in-Yes c =
+pub returns-in-Some : goal.returns-in-Some
+returns-in-Some c =
     left_here _ _ _ _ _ _ c.loop-w.invariant
     c.loop-w-test.true
     c.byte-f.ensures _
-    (c.version.ensures _) c.in-Of.is _
+    (c.version.ensures _) c.in-Some.is _
     c.passes.ensures _ _ (first_of _ _
-    c.requires.1) c.in-Yes.is
+    c.requires.1) c.in-Some.is
 
-pub loop-w-preserved-in-No : goal.loop-w-preserved-in-No
-loop-w-preserved-in-No c =
+pub loop-w-preserved-in-None : goal.loop-w-preserved-in-None
+loop-w-preserved-in-None c =
     left-past _ _ _ _ _ _ c.loop-w.invariant c.loop-w-test.true
     c.byte-f.ensures _ (c.version.ensures _)
-    c.in-Of.is _ c.passes.ensures c.in-No.is
+    c.in-Some.is _ c.passes.ensures c.in-None.is
 
 pub loop-w-preserved : goal.loop-w-preserved
 loop-w-preserved c =
     left-missing _ _ _ _ _ _ c.loop-w.invariant c.loop-w-test.true c.byte-f.ensures _
-    (c.version.ensures _) c.in-Missing.is
+    (c.version.ensures _) c.in-None.is
 
 pub returns : goal.returns
 returns c =

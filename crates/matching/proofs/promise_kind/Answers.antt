@@ -36,12 +36,12 @@ returns-in_default-block c = (
       c.wide-j.ensures.0 _
       c.is_live.ensures
       c.if-is_live.true (c.version.ensures _)
-      c.in-Of.is c.block.ensures c.in_default-block.is,
+      c.in-Some.is c.block.ensures c.in_default-block.is,
   no_kind,
 )
 
-pub returns-in-Entry : goal.returns-in-Entry
-returns-in-Entry c = (
+pub returns-in-Some : goal.returns-in-Some
+returns-in-Some c = (
   λ n. block-there
       c.args.image.now
       c.args.table.now
@@ -51,8 +51,8 @@ returns-in-Entry c = (
       c.is_live.ensures
       c.if-is_live.true
       (c.version.ensures _)
-      c.in-Of.is c.block.ensures
-      c.in-Entry.is (c.wide.ensures.0 ∙ c.mark_at.ensures.0 _),
+      c.in-Some.is c.block.ensures
+      c.in-Some.is (c.wide.ensures.0 ∙ c.mark_at.ensures.0 _),
   promise-valued c.wide.ensures.0 c.mark_at.ensures.1,
 )
 

@@ -12,11 +12,11 @@ overflow_add-result c =
     let f = c.loop-w.invariant.few in omega
     (arith, f, c.loop-w-test.true)
 
-pub returns-in-Yes : goal.returns-in-Yes
-returns-in-Yes c =
+pub returns-in-Some : goal.returns-in-Some
+returns-in-Some c =
     count-here _ _ _ _ _ _ c.loop-w.invariant c.loop-w-test.true _
-    (c.version.ensures _) c.in-Of.is
-    (passes-here _ _ _ _ _ _ _ c.passes.ensures c.in-Yes.is) ∙ searched-is _ _ _ _ _
+    (c.version.ensures _) c.in-Some.is
+    (passes-here _ _ _ _ _ _ _ c.passes.ensures c.in-Some.is) ∙ searched-is _ _ _ _ _
     c.byte-f.ensures
 
 pub overflow_add-c : goal.overflow_add-c
@@ -24,16 +24,16 @@ overflow_add-c c =
     let f = c.loop-w.invariant.few in omega
     (arith, f, c.loop-w-test.true)
 
-pub loop-w-preserved-in-No : goal.loop-w-preserved-in-No
-loop-w-preserved-in-No c =
+pub loop-w-preserved-in-None : goal.loop-w-preserved-in-None
+loop-w-preserved-in-None c =
     count_past _ _ _ _ _ _ c.loop-w.invariant c.loop-w-test.true _
-    (c.version.ensures _) c.in-Of.is
-    (passes-past _ _ _ _ _ _ _ c.passes.ensures c.in-No.is)
+    (c.version.ensures _) c.in-Some.is
+    (passes-past _ _ _ _ _ _ _ c.passes.ensures c.in-None.is)
 
 pub loop-w-preserved : goal.loop-w-preserved
 loop-w-preserved c =
     count-missing _ _ _ _ _ _ c.loop-w.invariant c.loop-w-test.true _ (c.version.ensures _)
-    c.in-Missing.is
+    c.in-None.is
 
 pub returns : goal.returns
 returns c =

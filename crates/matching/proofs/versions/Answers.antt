@@ -12,15 +12,15 @@ pub overflow_add-c : goal.overflow_add-c
 overflow_add-c c =
     let f = c.loop-w.invariant.few in omega (arith, f, c.loop-w-test.true)
 
-pub loop-w-preserved-in-Of : goal.loop-w-preserved-in-Of
-loop-w-preserved-in-Of c =
+pub loop-w-preserved-in-Some : goal.loop-w-preserved-in-Some
+loop-w-preserved-in-Some c =
     count_past _ _ _ _ _ _ c.loop-w.invariant c.loop-w-test.true _ (c.version.ensures _)
-    c.in-Of.is refl
+    c.in-Some.is refl
 
 pub loop-w-preserved : goal.loop-w-preserved
 loop-w-preserved c =
     count-missing _ _ _ _ _ _ c.loop-w.invariant c.loop-w-test.true _ (c.version.ensures _)
-    c.in-Missing.is
+    c.in-None.is
 
 pub returns : goal.returns
 returns c =

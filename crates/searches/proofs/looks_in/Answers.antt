@@ -7,19 +7,19 @@ returns-in_default c =
 
 pub returns-in_default-block : goal.returns-in_default-block
 returns-in_default-block c =
-    in-no-block _ _ _ _ _ _ c.version.ensures c.in-Of.is _ c.block.ensures c.in_default-block.is
+    in-no-block _ _ _ _ _ _ c.version.ensures c.in-Some.is _ c.block.ensures c.in_default-block.is
 
 pub returns-in-Line : goal.returns-in-Line
 returns-in-Line c =
-    in-line _ _ _ _ _ _ c.version.ensures c.in-Of.is _ c.block.ensures
-    c.in-Entry.is _ c.next.ensures c.in-Line.is _ c.looks_at.ensures
+    in-line _ _ _ _ _ _ c.version.ensures c.in-Some.is _ c.block.ensures
+    c.in-Some.is _ c.next.ensures c.in-Line.is _ c.looks_at.ensures
 
 pub returns-in-End : goal.returns-in-End
 returns-in-End c =
-    in_end _ _ _ _ _ _ c.version.ensures c.in-Of.is _ c.block.ensures c.in-Entry.is _ c.next.ensures
+    in_end _ _ _ _ _ _ c.version.ensures c.in-Some.is _ c.block.ensures c.in-Some.is _ c.next.ensures
     c.in-End.is
 
-pub returns-in-Outside : goal.returns-in-Outside
-returns-in-Outside c =
-    in-outside _ _ _ _ _ _ c.version.ensures c.in-Of.is _ c.block.ensures c.in-Entry.is _ c.next.ensures
-    c.in-Outside.is
+pub returns-in-None : goal.returns-in-None
+returns-in-None c =
+    in-outside _ _ _ _ _ _ c.version.ensures c.in-Some.is _ c.block.ensures c.in-Some.is _ c.next.ensures
+    c.in-None.is

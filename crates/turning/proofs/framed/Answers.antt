@@ -13,15 +13,15 @@ returns-in_default c =
 pub returns-in_default-block : goal.returns-in_default-block
 returns-in_default-block c =
     lost-by _ _ _ _ _ c.nowhere-in_default-block.ensures (lost-block _ _ _ _ _ _ c.requires
-    (c.version.ensures _) _ c.in-Of.is
+    (c.version.ensures _) _ c.in-Some.is
     c.block.ensures c.in_default-block.is)
 
 pub returns : goal.returns
 returns c =
     let q = numbered [] _ _ _ _ (c.version.ensures [])
-    c.in-Of.is in
-    let f : Fits w16 c.in-Entry.i = search rules in
+    c.in-Some.is in
+    let f : Fits w16 c.in-Some.i = search rules in
     stands-there _ _ _ _ _ _ c.requires
-    (c.version.ensures _) _ c.in-Of.is
-    c.block.ensures _ c.in-Entry.is q.0 q.1 c.wide.ensures.0 c.lines-n.ensures.0
+    (c.version.ensures _) _ c.in-Some.is
+    c.block.ensures _ c.in-Some.is q.0 q.1 c.wide.ensures.0 c.lines-n.ensures.0
     f.fits c.wide.ensures.1

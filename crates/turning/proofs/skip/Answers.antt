@@ -14,25 +14,25 @@ returns-in_default c =
 
 pub returns-then-spot-over-gt-INSTRUCTIONS : goal.returns-then-spot-over-gt-INSTRUCTIONS
 returns-then-spot-over-gt-INSTRUCTIONS c =
-    let x : SFits w64 c.in-Is.z = search rules in
+    let x : SFits w64 c.in-Some.z = search rules in
     let y = rw (to_z-of_z x) at c.is_zero.ensures in
     let w = c.wide-over.ensures.0 in
     let o = c.if-spot-over-gt-INSTRUCTIONS.true in
     λ t k R s H l is. skip-went-far s t _ _ _ H l _ _ is _ (whole_is c.integer.ensures
-    c.in-Is.is) k (sym y ∙ c.if-is_zero.true) (omega (arith, w, o))
+    c.in-Some.is) k (sym y ∙ c.if-is_zero.true) (omega (arith, w, o))
 
 pub returns-else-spot-over-gt-INSTRUCTIONS : goal.returns-else-spot-over-gt-INSTRUCTIONS
 returns-else-spot-over-gt-INSTRUCTIONS c =
-    let x : SFits w64 c.in-Is.z = search rules in
+    let x : SFits w64 c.in-Some.z = search rules in
     let y = rw (to_z-of_z x) at c.is_zero.ensures in
     let w = c.wide-over.ensures.0 in
     let o = c.if-spot-over-gt-INSTRUCTIONS.false in
     λ t k R s H l is. rw w (skip-went-over s t _ _ _ H l _ _ is _ (whole_is c.integer.ensures
-    c.in-Is.is) (sym y ∙ c.if-is_zero.true) (omega (arith, w, o)) R)
+    c.in-Some.is) (sym y ∙ c.if-is_zero.true) (omega (arith, w, o)) R)
 
 pub returns-else-is_zero : goal.returns-else-is_zero
 returns-else-is_zero c =
-    let x : SFits w64 c.in-Is.z = search rules in
+    let x : SFits w64 c.in-Some.z = search rules in
     let y = rw (to_z-of_z x) at c.is_zero.ensures in
-    λ t k R s H l is. skip-went-on s t _ _ _ H l _ _ is _ (whole_is c.integer.ensures c.in-Is.is)
+    λ t k R s H l is. skip-went-on s t _ _ _ H l _ _ is _ (whole_is c.integer.ensures c.in-Some.is)
     (sym y ∙ c.if-is_zero.false) R

@@ -24,13 +24,13 @@ returns-in_default c =
 pub returns-in_default-block : goal.returns-in_default-block
 returns-in_default-block c =
     λ n. block-gone _ _ _ n _ c.if-i-ge-PROMISES.false c.wide-j.ensures.0 c.is_live.ensures
-    c.if-is_live.true _ (c.version.ensures _) c.in-Of.is refl _ c.block.ensures c.in_default-block.is
+    c.if-is_live.true _ (c.version.ensures _) c.in-Some.is refl _ c.block.ensures c.in_default-block.is
 
-pub returns-in-Entry : goal.returns-in-Entry
-returns-in-Entry c =
+pub returns-in-Some : goal.returns-in-Some
+returns-in-Some c =
     λ n. block-there _ _ _ n _ c.if-i-ge-PROMISES.false c.wide-j.ensures.0
     c.is_live.ensures c.if-is_live.true _ (c.version.ensures _)
-    c.in-Of.is refl _ c.block.ensures c.in-Entry.is (c.mark_at.ensures.0 _)
+    c.in-Some.is refl _ c.block.ensures c.in-Some.is (c.mark_at.ensures.0 _)
 
 pub returns-else-is_live : goal.returns-else-is_live
 returns-else-is_live c =

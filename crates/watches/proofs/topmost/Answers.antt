@@ -16,4 +16,4 @@ returns-in_default c =
 
 pub returns : goal.returns
 returns c =
-    top-call _ _ c.wide-calls.ensures.0 c.if-calls-eq0.false c.if-calls-gt-FRAMES.false _ c.version.ensures c.in-Of.is
+    top-call _ _ c.wide-calls.ensures.0 c.if-calls-eq0.false c.if-calls-gt-FRAMES.false _ c.version.ensures c.in-Some.is

@@ -2,9 +2,9 @@
 use Rattle.abi.specs.Answers.{joined_numbers}
 use Rattle.abi.proofs.answers.joined.Goals as goal
 
-pub returns-in-Written : goal.returns-in-Written
+pub returns-in-Some : goal.returns-in-Some
 unfolding joined_numbers
-returns-in-Written c = rw c.in-Written.is
+returns-in-Some c = rw c.in-Some.is
 
 pub returns-in-First : goal.returns-in-First
 unfolding joined_numbers

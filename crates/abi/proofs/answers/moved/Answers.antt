@@ -2,10 +2,10 @@
 use Rattle.abi.specs.Answers.{moved_numbers}
 use Rattle.abi.proofs.answers.moved.Goals as goal
 
-pub returns-in-Written : goal.returns-in-Written
+pub returns-in-Some : goal.returns-in-Some
 unfolding moved_numbers
-returns-in-Written c =
-    rw c.in-Written.is
+returns-in-Some c =
+    rw c.in-Some.is
 
 pub returns-in-Refused : goal.returns-in-Refused
 unfolding moved_numbers

@@ -2,12 +2,12 @@
 use Rattle.abi.specs.Looks.{read_numbers}
 use Rattle.abi.proofs.parts.look.Goals as goal
 
-pub returns-in-Outside : goal.returns-in-Outside
+pub returns-in-None : goal.returns-in-None
 unfolding read_numbers
-returns-in-Outside c =
-    rw (← c.look.ensures, c.in-Outside.is) c.outside.ensures
+returns-in-None c =
+    rw (← c.look.ensures, c.in-None.is) c.outside.ensures
 
-pub returns-in-Holds : goal.returns-in-Holds
+pub returns-in-Some : goal.returns-in-Some
 unfolding read_numbers
-returns-in-Holds c =
-    rw (← c.look.ensures, c.in-Holds.is) c.value.ensures
+returns-in-Some c =
+    rw (← c.look.ensures, c.in-Some.is) c.value.ensures

@@ -7,9 +7,9 @@ returns-in_default c =
 
 pub returns-then-n-eq0 : goal.returns-then-n-eq0
 returns-then-n-eq0 c =
-    called-open _ _ c.field-f.ensures.0 c.field-w.ensures.0 _ (found_at _ c.requires _ _ c.listed.ensures _ c.in-At.is) c.kept-n.ensures c.if-n-eq0.true
+    called-open _ _ c.field-f.ensures.0 c.field-w.ensures.0 _ (found_at _ c.requires _ _ c.listed.ensures _ c.in-Some.is) c.kept-n.ensures c.if-n-eq0.true
 
 pub returns-else-n-eq0 : goal.returns-else-n-eq0
 returns-else-n-eq0 c =
-    called-listed _ _ c.field-f.ensures.0 c.field-w.ensures.0 _ (found_at _ c.requires _ _ c.listed.ensures _ c.in-At.is)
+    called-listed _ _ c.field-f.ensures.0 c.field-w.ensures.0 _ (found_at _ c.requires _ _ c.listed.ensures _ c.in-Some.is)
     c.kept-n.ensures c.if-n-eq0.false c.larger.ensures

@@ -10,7 +10,7 @@ loop-w-init c =
 pub returns-then-n-eq0 : goal.returns-then-n-eq0
 returns-then-n-eq0 c =
     sym (c.loop-w.invariant.2
-    ∙ from-open _ _ _ _ _ _ c.loop-w-test.true _ (found_at _ c.requires _ _ c.listed.ensures _ c.in-At.is)
+    ∙ from-open _ _ _ _ _ _ c.loop-w-test.true _ (found_at _ c.requires _ _ c.listed.ensures _ c.in-Some.is)
     (sym c.allows.ensures ∙ c.if-allows.true) c.kept-n.ensures c.if-n-eq0.true)
 
 pub loop-w-preserved-then-allows : goal.loop-w-preserved-then-allows
@@ -19,7 +19,7 @@ loop-w-preserved-then-allows c = (
   c.loop-w.invariant.1,
   c.loop-w.invariant.2
       ∙ from_more _ _ _ _ _ _ c.loop-w-test.true _
-      (found_at _ c.requires _ _ c.listed.ensures _ c.in-At.is) (sym c.allows.ensures ∙ c.if-allows.true)
+      (found_at _ c.requires _ _ c.listed.ensures _ c.in-Some.is) (sym c.allows.ensures ∙ c.if-allows.true)
       c.kept-n.ensures c.if-n-eq0.false c.larger-greatest.ensures,
 )
 
@@ -28,12 +28,12 @@ loop-w-preserved-else-allows c = (
   omega (arith, c.loop-w-test.true),
   c.loop-w.invariant.1,
   c.loop-w.invariant.2
-      ∙ from-passed _ _ _ _ _ _ c.loop-w-test.true _ (found_at _ c.requires _ _ c.listed.ensures _ c.in-At.is) (sym c.allows.ensures ∙ c.if-allows.false),
+      ∙ from-passed _ _ _ _ _ _ c.loop-w-test.true _ (found_at _ c.requires _ _ c.listed.ensures _ c.in-Some.is) (sym c.allows.ensures ∙ c.if-allows.false),
 )
 
 pub loop-w-preserved : goal.loop-w-preserved
 loop-w-preserved c =
-    (omega (arith, c.loop-w-test.true), c.loop-w.invariant.1, c.loop-w.invariant.2 ∙ from-missing _ _ _ _ _ _ c.loop-w-test.true (missing_at _ c.requires _ _ c.listed.ensures c.in-Nothing.is))
+    (omega (arith, c.loop-w-test.true), c.loop-w.invariant.1, c.loop-w.invariant.2 ∙ from-missing _ _ _ _ _ _ c.loop-w-test.true (missing_at _ c.requires _ _ c.listed.ensures c.in-None.is))
 
 pub returns : goal.returns
 returns c =

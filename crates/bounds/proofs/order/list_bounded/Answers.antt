@@ -18,13 +18,13 @@ returns-in_default c =
 
 pub offset_bounds-sums-k : goal.offset_bounds-sums-k
 offset_bounds-sums-k c =
-    omega (arith, row-place c.loop-row.invariant c.loop-row-test.true c.next_free.ensures.0 _ c.in-At.is c.next_free.ensures.1 c.next_free.ensures.2)
+    omega (arith, row-place c.loop-row.invariant c.loop-row-test.true c.next_free.ensures.0 _ c.in-Some.is c.next_free.ensures.1 c.next_free.ensures.2)
 
 pub bounds-sums-k : goal.bounds-sums-k
 bounds-sums-k c =
     omega (
       arith,
-      row-place c.loop-row.invariant c.loop-row-test.true c.next_free.ensures.0 _ c.in-At.is c.next_free.ensures.1 c.next_free.ensures.2,
+      row-place c.loop-row.invariant c.loop-row-test.true c.next_free.ensures.0 _ c.in-Some.is c.next_free.ensures.1 c.next_free.ensures.2,
       c.next_free.ensures.1.summed,
     )
 
@@ -32,14 +32,14 @@ pub put_row-requires : goal.put_row-requires
 put_row-requires c = (
   c.loop-row-test.true,
   row-place c.loop-row.invariant c.loop-row-test.true c.next_free.ensures.0 _
-      c.in-At.is c.next_free.ensures.1 c.next_free.ensures.2,
+      c.in-Some.is c.next_free.ensures.1 c.next_free.ensures.2,
 )
 
 pub overflow_add-known : goal.overflow_add-known
 overflow_add-known c =
     omega (
       arith,
-      row-steps c.loop-row.invariant c.loop-row-test.true c.next_free.ensures.0 _ c.in-At.is
+      row-steps c.loop-row.invariant c.loop-row-test.true c.next_free.ensures.0 _ c.in-Some.is
           c.next_free.ensures.1 c.next_free.ensures.2,
     )
 
@@ -47,7 +47,7 @@ pub offset_bounds-known-k : goal.offset_bounds-known-k
 offset_bounds-known-k c =
     omega (
       arith,
-      row-place c.loop-row.invariant c.loop-row-test.true c.next_free.ensures.0 _ c.in-At.is
+      row-place c.loop-row.invariant c.loop-row-test.true c.next_free.ensures.0 _ c.in-Some.is
           c.next_free.ensures.1 c.next_free.ensures.2,
     )
 
@@ -55,13 +55,13 @@ pub bounds-known-k : goal.bounds-known-k
 bounds-known-k c =
     omega (
       arith,
-      row-place c.loop-row.invariant c.loop-row-test.true c.next_free.ensures.0 _ c.in-At.is
+      row-place c.loop-row.invariant c.loop-row-test.true c.next_free.ensures.0 _ c.in-Some.is
           c.next_free.ensures.1 c.next_free.ensures.2,
     )
 
 pub loop-row-preserved : goal.loop-row-preserved
 loop-row-preserved c =
-    filled_more c.loop-row.invariant c.loop-row-test.true c.next_free.ensures.0 _ c.in-At.is
+    filled_more c.loop-row.invariant c.loop-row-test.true c.next_free.ensures.0 _ c.in-Some.is
     c.next_free.ensures.1 c.next_free.ensures.2 refl c.put_row.ensures
 
 pub returns : goal.returns

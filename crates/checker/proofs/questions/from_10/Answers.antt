@@ -4,8 +4,8 @@ use Rattle.checker.specs.declared.Verdict.TheVariants.{Accepted}
 use mathlib.Core.Path.{sym, ap, ◌∙◌}
 use Rattle.checker.proofs.questions.from_10.Goals as goal
 
-pub returns-in-At : goal.returns-in-At
-returns-in-At c = sym (ask-no 10 _ (sym c.question_10.ensures ∙ c.in-At.is))
+pub returns-in-Some : goal.returns-in-Some
+returns-in-Some c = sym (ask-no 10 _ (sym c.question_10.ensures ∙ c.in-Some.is))
 
 pub returns : goal.returns
 returns c =

@@ -3,8 +3,8 @@ use Rattle.checker.proofs.Asks.{ask-yes, ask-no}
 use mathlib.Core.Path.{sym, ◌∙◌}
 use Rattle.checker.proofs.questions.from_2.Goals as goal
 
-pub returns-in-At : goal.returns-in-At
-returns-in-At c = sym (ask-no 2 _ (sym c.question_2.ensures ∙ c.in-At.is))
+pub returns-in-Some : goal.returns-in-Some
+returns-in-Some c = sym (ask-no 2 _ (sym c.question_2.ensures ∙ c.in-Some.is))
 
 pub returns : goal.returns
 returns c =

@@ -3,8 +3,8 @@ use Rattle.checker.proofs.Asks.{ask-yes, ask-no}
 use mathlib.Core.Path.{sym, ◌∙◌}
 use Rattle.checker.proofs.questions.from_3.Goals as goal
 
-pub returns-in-At : goal.returns-in-At
-returns-in-At c = sym (ask-no 3 _ (sym c.question_3.ensures ∙ c.in-At.is))
+pub returns-in-Some : goal.returns-in-Some
+returns-in-Some c = sym (ask-no 3 _ (sym c.question_3.ensures ∙ c.in-Some.is))
 
 pub returns : goal.returns
 returns c =

@@ -4,9 +4,9 @@ use Rattle.checker.specs.Verdicts.{verdict_in}
 use mathlib.Core.Path.{sym, ◌∙◌}
 use Rattle.checker.proofs.questions.verdict_in.Goals as goal
 
-pub returns-in-At : goal.returns-in-At
+pub returns-in-Some : goal.returns-in-Some
 unfolding verdict_in
-returns-in-At c = sym (ask-no 1 _ (sym c.question_1.ensures ∙ c.in-At.is))
+returns-in-Some c = sym (ask-no 1 _ (sym c.question_1.ensures ∙ c.in-Some.is))
 
 pub returns : goal.returns
 unfolding verdict_in

@@ -3,17 +3,17 @@ use Rattle.rules.specs.Actions.{◌then◌}
 use Rattle.flow.specs.Masks.{flowed}
 use Rattle.flow.proofs.actions.chain.Goals as goal
 
-pub returns-in-Allowed-next : goal.returns-in-Allowed-next
+pub returns-in-Some-next : goal.returns-in-Some-next
 unfolding flowed
-returns-in-Allowed-next c =
-    simp (c.in-Allowed.is, c.in-Allowed-next.is) c.follow.ensures
+returns-in-Some-next c =
+    simp (c.in-Some.is, c.in-Some-next.is) c.follow.ensures
 
-pub returns-in-Refused-next : goal.returns-in-Refused-next
+pub returns-in-None-next : goal.returns-in-None-next
 unfolding flowed ◌then◌
-returns-in-Refused-next c =
-    simp (c.in-Allowed.is, c.in-Refused-next.is)
+returns-in-None-next c =
+    simp (c.in-Some.is, c.in-None-next.is)
 
-pub returns-in-Refused : goal.returns-in-Refused
+pub returns-in-None : goal.returns-in-None
 unfolding flowed ◌then◌
-returns-in-Refused c =
-    simp c.in-Refused.is
+returns-in-None c =
+    simp c.in-None.is

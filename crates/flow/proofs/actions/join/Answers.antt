@@ -2,17 +2,17 @@ use Rattle.rules.specs.Actions.{join}
 use Rattle.flow.specs.Masks.{flowed}
 use Rattle.flow.proofs.actions.join.Goals as goal
 
-pub returns-in-Allowed-way : goal.returns-in-Allowed-way
+pub returns-in-Some-way : goal.returns-in-Some-way
 unfolding flowed join
-returns-in-Allowed-way c =
-    simp (c.in-Allowed.is, c.in-Allowed-way.is, c.either.ensures)
+returns-in-Some-way c =
+    simp (c.in-Some.is, c.in-Some-way.is, c.either.ensures)
 
-pub returns-in-Refused-way : goal.returns-in-Refused-way
+pub returns-in-None-way : goal.returns-in-None-way
 unfolding flowed join
-returns-in-Refused-way c =
-    simp (c.in-Allowed.is, c.in-Refused-way.is)
+returns-in-None-way c =
+    simp (c.in-Some.is, c.in-None-way.is)
 
-pub returns-in-Refused : goal.returns-in-Refused
+pub returns-in-None : goal.returns-in-None
 unfolding flowed join
-returns-in-Refused c =
-    simp c.in-Refused.is
+returns-in-None c =
+    simp c.in-None.is

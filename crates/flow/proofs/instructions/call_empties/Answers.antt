@@ -13,4 +13,4 @@ returns-in_default c =
 pub returns : goal.returns
 unfolding Option-elim
 returns c =
-    rw (call-found _ _ c.field-f.ensures.0 c.field-w.ensures.0 _ (sym (c.listed.ensures ∙ listed-right _ _ _ _ c.requires) ∙ c.in-At.is)) c.given_owned.ensures
+    rw (call-found _ _ c.field-f.ensures.0 c.field-w.ensures.0 _ (sym (c.listed.ensures ∙ listed-right _ _ _ _ c.requires) ∙ c.in-Some.is)) c.given_owned.ensures

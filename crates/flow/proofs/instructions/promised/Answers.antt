@@ -3,12 +3,12 @@ use Rattle.rules.specs.Actions.{promised}
 use Rattle.flow.specs.Masks.{flowed}
 use Rattle.flow.proofs.instructions.promised.Goals as goal
 
-pub returns-in-Allowed : goal.returns-in-Allowed
+pub returns-in-Some : goal.returns-in-Some
 unfolding flowed promised
-returns-in-Allowed c =
-    simp (c.in-Allowed.is, c.union.ensures, c.union-in-Allowed.ensures, c.union-in-Allowed-2.ensures)
+returns-in-Some c =
+    simp (c.in-Some.is, c.union.ensures, c.union-in-Some.ensures, c.union-in-Some-2.ensures)
 
-pub returns-in-Refused : goal.returns-in-Refused
+pub returns-in-None : goal.returns-in-None
 unfolding flowed promised
-returns-in-Refused c =
-    simp c.in-Refused.is
+returns-in-None c =
+    simp c.in-None.is

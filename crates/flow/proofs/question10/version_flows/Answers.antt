@@ -13,4 +13,4 @@ returns-in_default c =
 pub returns : goal.returns
 unfolding flows flowed
 returns c =
-    c.below.ensures ∙ rw c.parameters.ensures.0 (sym (found_some _ (sym c.body_action.ensures ∙ ap flowed c.in-Allowed.is)))
+    c.below.ensures ∙ rw c.parameters.ensures.0 (sym (found_some _ (sym c.body_action.ensures ∙ ap flowed c.in-Some.is)))

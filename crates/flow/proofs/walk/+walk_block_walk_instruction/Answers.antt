@@ -1,6 +1,6 @@
+use Rattle.std.specs.Prelude.{None}
 use Rattle.flow.proofs.Blocks.{no_block, begins, meets, ends, map-length, then-both, came-here, put-away, still-free, stands, reading-one, enters_none, enters_below, enters-block, past-below}
 use Rattle.flow.specs.Masks.{flowed}
-use Rattle.flow.specs.declared.Flowed.TheVariants.{Allowed}
 use Rattle.layout.proofs.Walk.{size_in}
 use Rattle.sets.specs.Sets.{only}
 use lib.ListN.{length-set}
@@ -16,12 +16,12 @@ walk_block-returns-in_default t c =
 
 pub walk_block-overflow_add-p : goal.walk_block-overflow_add-p
 walk_block-overflow_add-p t c =
-    omega (arith, past-below _ _ 18446744073709551616 c.size_at.ensures (omega (arith, c.in-At.known_told-1-own.given)) (omega (arith, c.well_formed.0.0)))
+    omega (arith, past-below _ _ 18446744073709551616 c.size_at.ensures (omega (arith, c.in-Some.known_told-1-own.given)) (omega (arith, c.well_formed.0.0)))
 
 pub walk_block-loop-at-init : goal.walk_block-loop-at-init
 unfolding flowed
 walk_block-loop-at-init t c =
-    (begins _ _ _ _ (sym c.block.ensures ∙ c.in-At.is) c.size_at.ensures c.lines-count.ensures.0 c.lines-count.ensures.1, refl, refl, omega arith)
+    (begins _ _ _ _ (sym c.block.ensures ∙ c.in-Some.is) c.size_at.ensures c.lines-count.ensures.0 c.lines-count.ensures.1, refl, refl, omega arith)
 
 pub walk_block-bounds-taken-at : goal.walk_block-bounds-taken-at
 walk_block-bounds-taken-at t c =
@@ -63,16 +63,16 @@ walk_block-loop-at-preserved t c =
           c.lines-count.ensures.1 _ h c.skip_at-skip.ensures
           (c.chain-now.ensures
           ∙ then-both _ _ _ _ (c.join.ensures
-          ∙ came-here c.loop-at.taken (Allowed (record { reads = 0; assigns = 0; empties = 0; captures = 0 })) _ _ c.loop-at.invariant.1
+          ∙ came-here c.loop-at.taken None _ _ c.loop-at.invariant.1
           c.lines-count.ensures.1 c.loop-at.done _
           c.loop-at.invariant.2 c.place-at.ensures.0 c.place-at.ensures.1)
           c.walk_instruction.ensures)
           c.goes_on-done.ensures
-          (put-away c.loop-at.taken (Allowed (record { reads = 0; assigns = 0; empties = 0; captures = 0 })) _ _ c.loop-at.invariant.1
+          (put-away c.loop-at.taken None _ _ c.loop-at.invariant.1
           c.lines-count.ensures.1 _ _ c.chain-now.result c.join-new.result c.target-t.ensures.0 c.target-t.ensures.1 _ c.join-new.ensures)
           c.size_at-p.ensures,
       length-set c.loop-at.taken c.target-t.result c.join-new.result ∙ c.loop-at.invariant.1,
-      still-free c.loop-at.taken (Allowed (record { reads = 0; assigns = 0; empties = 0; captures = 0 })) _ _ c.loop-at.invariant.1
+      still-free c.loop-at.taken None _ _ c.loop-at.invariant.1
           c.lines-count.ensures.1 _ _ c.chain-now.result c.join-new.result c.target-t.ensures.0 c.target-t.ensures.1
           c.loop-at.invariant.2,
       omega (arith, z, c.loop-at.invariant.3),
@@ -88,7 +88,7 @@ walk_block-returns t c =
     c.lines-count.ensures.1 (sym c.is_line.ensures ∙ c.loop-at-test.false)
     (c.chain.ensures ∙ then-both _ _ _ _
     (c.join-2.ensures
-    ∙ came-here c.loop-at.taken (Allowed (record { reads = 0; assigns = 0; empties = 0; captures = 0 })) _ _ c.loop-at.invariant.1 c.lines-count.ensures.1
+    ∙ came-here c.loop-at.taken None _ _ c.loop-at.invariant.1 c.lines-count.ensures.1
     c.loop-at.done _ c.loop-at.invariant.2 c.place-last.ensures.0 c.place-last.ensures.1)
     (c.reading.ensures ∙ reading-one _ _ (c.only.ensures ∙ ap (only 16) c.field.ensures.0)))
     ∙ sym c.loop-at.invariant.0

@@ -14,4 +14,4 @@ returns c = c.mark_at.ensures.0 c.args.image.now ∙ marked
     c.args.image.now c.args.table.now
     c.args.k _
     (ap (block_of c.args.image.now c.args.table.now)
-    (sym c.in-Entry.is) ∙ c.block.ensures)
+    (sym c.in-Some.is) ∙ c.block.ensures)

@@ -12,4 +12,4 @@ returns-in_default c =
 pub returns : goal.returns
 unfolding block_at
 returns c =
-    (c.field.ensures.0 ∙ sym (first-mark _ _ (block-found _ _ _ _ (sym c.block.ensures ∙ c.in-At.is))), c.field.ensures.1)
+    (c.field.ensures.0 ∙ sym (first-mark _ _ (block-found _ _ _ _ (sym c.block.ensures ∙ c.in-Some.is))), c.field.ensures.1)

@@ -23,15 +23,15 @@ returns-in_default c =
     ∙ and-on _ (sym (all_same _ 4 1 c.registers-registers.ensures.0 c.field-n.ensures.0) ∙ sym c.all_exist.ensures ∙ c.if-all_exist.true)
     ∙ found_none _ (rw (← c.field-f.ensures.0, ← c.field-w.ensures.0) (version-missing _ _ _ (sym (c.listed.ensures ∙ listed-right _ _ _ _ c.requires) ∙ c.in_default.is))))
 
-pub returns-in-At : goal.returns-in-At
+pub returns-in-Some : goal.returns-in-Some
 unfolding exists instr_by choose version_at
-returns-in-At c =
+returns-in-Some c =
     simp (c.field-n.ensures.0, c.field-then-all_exist.ensures.0)
     (sym (and-on _ (is_below c.field.ensures.0 c.registers-registers.ensures.0 c.if-registers-field.false)
     ∙ and-on _ (sym (all_same _ 4 1 c.registers-registers.ensures.0 c.field-n.ensures.0) ∙ sym c.all_exist.ensures
     ∙ c.if-all_exist.true)
     ∙ found_some _ (rw (c.field-f.ensures.0, c.field-w.ensures.0) at
-    (version-found _ _ _ _ (sym (c.listed.ensures ∙ listed-right _ _ _ _ c.requires) ∙ c.in-At.is)).0) ∙ simp length-every))
+    (version-found _ _ _ _ (sym (c.listed.ensures ∙ listed-right _ _ _ _ c.requires) ∙ c.in-Some.is)).0) ∙ simp length-every))
 
 pub returns-else-all_exist : goal.returns-else-all_exist
 unfolding exists instr_by choose

@@ -41,5 +41,5 @@ returns c =
       ← c.field-block.ensures.0,
       lt-ltb _ _ c.if-block-b.false,
       lt-ltb _ _
-          (block-exists _ _ _ _ (sym c.block.ensures ∙ c.in-At.is)),
+          (block-exists _ _ _ _ (sym c.block.ensures ∙ c.in-Some.is)),
     )

@@ -5,12 +5,12 @@ use Rattle.machine.specs.States.{integer}
 use Rattle.store.proofs.Frames.{read-holds, read-outside, register-goes}
 use Rattle.store.proofs.cells.integer.Goals as goal
 
-pub returns-in-Holds : goal.returns-in-Holds
+pub returns-in-Some : goal.returns-in-Some
 unfolding integer ◌>>=◌
-returns-in-Holds c =
-    rw (read-holds c.register.ensures c.in-Holds.is) c.whole.ensures
+returns-in-Some c =
+    rw (read-holds c.register.ensures c.in-Some.is) c.whole.ensures
 
-pub returns-in-Outside : goal.returns-in-Outside
+pub returns-in-None : goal.returns-in-None
 unfolding integer ◌>>=◌ whole_of
-returns-in-Outside c =
-    rw (read-outside c.register.ensures c.in-Outside.is (register-goes _ _ _ _)) refl
+returns-in-None c =
+    rw (read-outside c.register.ensures c.in-None.is (register-goes _ _ _ _)) refl

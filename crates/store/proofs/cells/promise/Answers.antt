@@ -7,12 +7,12 @@ use Rattle.machine.specs.States.{promise}
 use mathlib.Core.Path.{refl}
 use Rattle.store.proofs.cells.promise.Goals as goal
 
-pub returns-in-Holds : goal.returns-in-Holds
+pub returns-in-Some : goal.returns-in-Some
 unfolding promise ◌>>=◌
-returns-in-Holds c =
-    (rw (read-holds c.register.ensures c.in-Holds.is) c.promise_of.ensures.0, c.promise_of.ensures.1)
+returns-in-Some c =
+    (rw (read-holds c.register.ensures c.in-Some.is) c.promise_of.ensures.0, c.promise_of.ensures.1)
 
-pub returns-in-Outside : goal.returns-in-Outside
+pub returns-in-None : goal.returns-in-None
 unfolding promise ◌>>=◌ found_of Narrow
-returns-in-Outside c =
-    (rw (read-outside c.register.ensures c.in-Outside.is (register-goes _ _ _ _)) refl, omega arith)
+returns-in-None c =
+    (rw (read-outside c.register.ensures c.in-None.is (register-goes _ _ _ _)) refl, omega arith)

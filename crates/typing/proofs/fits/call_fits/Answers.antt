@@ -24,4 +24,4 @@ unfolding fits instr_by choose version_at
 returns c =
     c.call_fits.ensures ∙ rw (c.of_call.ensures.0, c.field.ensures.0, ← call-arguments)
     (sym (found_some _ (rw (c.field-f.ensures.0, c.field-w.ensures.0) at
-    (version-found _ _ _ _ (sym (c.listed.ensures ∙ listed-right _ _ _ _ c.requires) ∙ c.in-At.is)).0)))
+    (version-found _ _ _ _ (sym (c.listed.ensures ∙ listed-right _ _ _ _ c.requires) ∙ c.in-Some.is)).0)))

@@ -16,4 +16,4 @@ returns-in_default c =
 pub returns : goal.returns
 unfolding fits instr_by choose block_at
 returns c =
-    c.takes_plain.ensures ∙ rw c.field-2.ensures.0 (sym (found_some _ (rw c.field.ensures.0 at (block-found _ _ _ _ (sym c.block.ensures ∙ c.in-At.is)))))
+    c.takes_plain.ensures ∙ rw c.field-2.ensures.0 (sym (found_some _ (rw c.field.ensures.0 at (block-found _ _ _ _ (sym c.block.ensures ∙ c.in-Some.is)))))

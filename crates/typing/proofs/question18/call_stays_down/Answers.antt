@@ -17,4 +17,4 @@ pub returns : goal.returns
 unfolding stays_down instr_by choose
 returns c =
     c.not_above.ensures ∙ sym (found_some _
-    (rw (c.field-f.ensures.0, c.field-w.ensures.0) at (version-found _ _ _ _ (sym (c.listed.ensures ∙ listed-right _ _ _ _ c.requires) ∙ c.in-At.is)).0))
+    (rw (c.field-f.ensures.0, c.field-w.ensures.0) at (version-found _ _ _ _ (sym (c.listed.ensures ∙ listed-right _ _ _ _ c.requires) ∙ c.in-Some.is)).0))

@@ -19,4 +19,4 @@ pub returns : goal.returns
 unfolding reflective instr_by choose
 returns c =
     ap (λ (n : ℕ). eqb n 1) c.mark.ensures.0
-    ∙ sym (found_some _ (rw (c.field-f.ensures.0, c.field-w.ensures.0) at (version-found _ _ _ _ (sym (c.listed.ensures ∙ listed-right _ _ _ _ c.requires) ∙ c.in-At.is)).0))
+    ∙ sym (found_some _ (rw (c.field-f.ensures.0, c.field-w.ensures.0) at (version-found _ _ _ _ (sym (c.listed.ensures ∙ listed-right _ _ _ _ c.requires) ∙ c.in-Some.is)).0))

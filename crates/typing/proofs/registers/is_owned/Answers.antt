@@ -9,4 +9,4 @@ returns-in_default c =
 
 pub returns : goal.returns
 returns c =
-    owned-vector _ _ (rw c.type_in.ensures.0 at (sym c.owned_kind.ensures ∙ c.in-Kind.is))
+    owned-vector _ _ (rw c.type_in.ensures.0 at (sym c.owned_kind.ensures ∙ c.in-Some.is))
