@@ -6,3 +6,5 @@ pub mod Turns
 pub mod Walk
 pub mod Printed
 pub mod Behind
+pub mod Left
+pub mod Along

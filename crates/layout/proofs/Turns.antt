@@ -31,12 +31,3 @@ none-missing end due h = rw h refl
 pub some-missing : (end : ℕ) (due : Due) → idle due ≡ false → Some end ≡ none_due end due
 unfolding none_due
 some-missing end due h = rw h refl
-
--- the offset of a record stands for it, an offset outside for none
-pub last-inside : (s : List ℕ) (p : ℕ) → p < length s → last_at s p ≡ some (rec_at s p)
-unfolding last_at
-last-inside s p h = simp (lt-ltb p (length s) h)
-
-pub last-outside : (s : List ℕ) (p : ℕ) → length s ≤ p → last_at s p ≡ none
-unfolding last_at
-last-outside s p h = simp (le-ltb p (length s) h)

@@ -7,3 +7,4 @@ pub mod Found
 pub mod Scan
 pub mod Questions
 pub mod Turns
+pub mod Left

@@ -12,6 +12,9 @@ ghost use Rattle.layout.specs.Turns.{last_at, turn_of};
 pub mod bounds;
 pub mod kinds;
 pub mod ownerships;
+pub mod records;
+
+use records::along;
 
 /// A byte as a number.
 pub fn wide(x: u8) -> usize
@@ -90,15 +93,7 @@ pub fn question_1(image: &[u8]) -> Option<usize>
 pub fn question_2(image: &[u8]) -> Option<usize>
     ensures { result ≡ question2 (records image.now) }
 {
-    let mut p = 0;
-    while p < image.len() {
-        let n = size_at(image, p);
-        if n == 0 {
-            return Some(p);
-        }
-        p += n;
-    }
-    None
+    along(image, (), |_, _| Some(())).err()
 }
 
 /// The form of an image, by its literals: numbers of 32 bits, or of 64.
@@ -173,18 +168,7 @@ fn length_at(image: &[u8], p: usize, form: Form) -> usize
 pub fn question_3(image: &[u8], form: Form) -> Option<usize>
     ensures { result ≡ question3 form (records image.now) }
 {
-    let mut p = 0;
-    while p < image.len() {
-        let n = size_at(image, p);
-        if n == 0 {
-            return Some(p);
-        }
-        if n != length_at(image, p, form) {
-            return Some(p);
-        }
-        p += n;
-    }
-    None
+    along(image, (), |_, record| (record.size == length_at(image, record.at, form)).then_some(())).err()
 }
 
 /// What question 4 keeps: the versions so far, and the levels (one at most), blocks and instructions that are due.
@@ -354,36 +338,23 @@ fn due_after(image: &[u8], p: usize, due: Due) -> Option<Due>
 pub fn question_4(image: &[u8]) -> Option<usize>
     ensures { result ≡ question4 (length image.now) (records image.now) }
 {
-    let mut p = 0;
-    let mut due = Due {
+    let start = Due {
         versions: 0,
         levels: 0,
         blocks: 0,
         instructions: 0,
     };
-    while p < image.len() {
-        let n = size_at(image, p);
-        if n == 0 {
-            return Some(p);
-        }
-        if in_bounds(image, p) {
-            match due_after(image, p, due) {
-                Some(next) => {
-                    due = next;
-                    p += n;
-                }
-                None => {
-                    return Some(p);
-                }
-            }
+    let left = along(image, start, |due, record| {
+        if in_bounds(image, record.at) {
+            due_after(image, record.at, due)
         } else {
-            return Some(p);
+            None
         }
-    }
-    if is_idle(due) {
-        None
-    } else {
-        Some(image.len())
+    });
+    match left {
+        Ok(due) if is_idle(due) => None,
+        Ok(_) => Some(image.len()),
+        Err(p) => Some(p),
     }
 }
 
@@ -394,15 +365,15 @@ fn comes_first(function: usize, version: usize) -> bool
     if function == 0 { version == 0 } else { false }
 }
 
-/// Does the VERSION at `p` follow on the one at `last`, or come first where none stands at `last`?
-fn in_sequence(image: &[u8], last: usize, p: usize) -> bool
+/// Does the VERSION at `p` follow on the one at `last`, or come first where there is none before it?
+fn in_sequence(image: &[u8], last: Option<usize>, p: usize) -> bool
     ensures { result ≡ follows (last_at image.now last) (body_at image.now p ! 0) (body_at image.now p ! 1) }
 {
     let function = field(image, p, 0);
     let version = field(image, p, 1);
-    if image.len() <= last {
+    let Some(last) = last else {
         return comes_first(function, version);
-    }
+    };
     let before = field(image, last, 0);
     if function == before {
         return version == field(image, last, 1) + 1;
@@ -417,23 +388,14 @@ fn in_sequence(image: &[u8], last: usize, p: usize) -> bool
 pub fn question_5(image: &[u8]) -> Option<usize>
     ensures { result ≡ question5 (records image.now) }
 {
-    let mut p = 0;
-    let mut last = image.len();
-    while p < image.len() {
-        let n = size_at(image, p);
-        if n == 0 {
-            return Some(p);
-        }
-        if kind_at(image, p) == kinds::VERSION {
-            if in_sequence(image, last, p) {
-                last = p;
-                p += n;
-            } else {
-                return Some(p);
-            }
+    along(image, None, |last, record| {
+        if kind_at(image, record.at) != kinds::VERSION {
+            Some(last)
+        } else if in_sequence(image, last, record.at) {
+            Some(Some(record.at))
         } else {
-            p += n;
+            None
         }
-    }
-    None
+    })
+    .err()
 }

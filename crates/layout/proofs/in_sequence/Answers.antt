@@ -4,21 +4,21 @@ use Rattle.layout.proofs.Bools.{or-false}
 use Rattle.layout.specs.Questions.{follows}
 use Rattle.layout.specs.Tests.{◌and◌}
 use Rattle.layout.specs.Turns.{last_at}
-use borrow.Author.Tests.{lt-ltb, le-ltb, eq-eqb, ne_eqb}
+use borrow.Author.Tests.{eq-eqb, ne_eqb}
 use mathlib.Core.Path.{◌∙◌}
 use native.Mathlib.Omega.{arith}
 use Rattle.layout.proofs.in_sequence.Goals as goal
 
-pub returns-then-image-last : goal.returns-then-image-last
+pub returns-in_default : goal.returns-in_default
 unfolding follows last_at
-returns-then-image-last c =
-    c.comes_first.ensures ∙ simp (le-ltb _ _ c.if-image-last.true, ← c.field-function.ensures.0, ← c.field-version.ensures.0)
+returns-in_default c =
+    c.comes_first.ensures ∙ simp (c.in_default.is, ← c.field-function.ensures.0, ← c.field-version.ensures.0)
 
 pub returns-then-function-before : goal.returns-then-function-before
 unfolding follows last_at ◌and◌
 returns-then-function-before c =
     simp (
-      lt-ltb _ _ c.if-image-last.false,
+      c.in-Some.is,
       ← c.field-function.ensures.0,
       ← c.field-version.ensures.0,
       ← c.field-before.ensures.0,
@@ -32,9 +32,9 @@ returns-then-function-before c =
 pub returns-then-function-before-2 : goal.returns-then-function-before-2
 unfolding follows last_at ◌and◌
 returns-then-function-before-2 c =
-    simp (lt-ltb _ _ c.if-image-last.false, ← c.field-function.ensures.0, ← c.field-version.ensures.0, ← c.field-before.ensures.0, ne_eqb _ _ c.if-function-before.false, eq-eqb _ _ c.if-function-before-2.true)
+    simp (c.in-Some.is, ← c.field-function.ensures.0, ← c.field-version.ensures.0, ← c.field-before.ensures.0, ne_eqb _ _ c.if-function-before.false, eq-eqb _ _ c.if-function-before-2.true)
 
 pub returns : goal.returns
 unfolding follows last_at ◌and◌
 returns c =
-    simp (lt-ltb _ _ c.if-image-last.false, ← c.field-function.ensures.0, ← c.field-version.ensures.0, ← c.field-before.ensures.0, ne_eqb _ _ c.if-function-before.false, ne_eqb _ _ c.if-function-before-2.false)
+    simp (c.in-Some.is, ← c.field-function.ensures.0, ← c.field-version.ensures.0, ← c.field-before.ensures.0, ne_eqb _ _ c.if-function-before.false, ne_eqb _ _ c.if-function-before-2.false)

@@ -1,35 +1,9 @@
-use Rattle.layout.proofs.Walk.{ended, broken, say-no, go_on, ends-inside}
-use Rattle.layout.specs.Questions.{whole, question2, question3}
-use borrow.Author.Tests.{eq-eqb, ne_eqb}
-use mathlib.Core.Path.{refl}
-use native.Mathlib.Omega.{arith}
+use Rattle.std.proofs.Common.{rules, ◌∙◌, ap}
+use Rattle.std.specs.Result.{result_err}
+use Rattle.layout.proofs.Along.{err-along, judged}
+use Rattle.layout.specs.Questions.{question3, same, fitting}
 use Rattle.layout.proofs.question_3.Goals as goal
 
-pub loop-p-init : goal.loop-p-init
-unfolding question2 question3
-loop-p-init c =
-    record { inside = omega arith; left = refl }
-
-pub returns-then-n-eq0 : goal.returns-then-n-eq0
-returns-then-n-eq0 c =
-    broken c.loop-p.invariant c.loop-p-test.true c.size_at-n.ensures c.if-n-eq0.true
-
-pub returns-then-n-length_at : goal.returns-then-n-length_at
-returns-then-n-length_at c =
-    say-no (record { along = c.loop-p.invariant; inside = c.loop-p-test.true; size = c.size_at-n.ensures; whole = c.if-n-eq0.false }) (simp (← c.size_at-n.ensures, ← c.length_at.ensures, ne_eqb _ _ c.if-n-length_at.true))
-
-pub overflow_add-p : goal.overflow_add-p
-overflow_add-p c =
-    omega (arith, ends-inside (record { along = c.loop-p.invariant; inside = c.loop-p-test.true; size = c.size_at-n.ensures; whole = c.if-n-eq0.false }))
-
-pub loop-p-smaller : goal.loop-p-smaller
-loop-p-smaller c =
-    omega (arith, c.if-n-eq0.false, c.loop-p-test.true)
-
-pub loop-p-preserved : goal.loop-p-preserved
-loop-p-preserved c =
-    go_on (record { along = c.loop-p.invariant; inside = c.loop-p-test.true; size = c.size_at-n.ensures; whole = c.if-n-eq0.false }) tt (simp (← c.size_at-n.ensures, ← c.length_at.ensures, eq-eqb _ _ c.if-n-length_at.false)) refl
-
 pub returns : goal.returns
-returns c =
-    ended c.loop-p.invariant c.loop-p-test.false
+unfolding question3
+returns c = c.err.ensures.value ∙ ap result_err (c.along.ensures (judged (fitting c.args.form) same) (λ st at r h e. search rules)) ∙ err-along (fitting c.args.form) same _ _

@@ -1,54 +1,27 @@
-use Rattle.layout.proofs.Turns.{last-inside, last-outside}
-use Rattle.layout.proofs.Walk.{ended, broken, say-no, go_on, ends-inside}
-use Rattle.layout.specs.Questions.{question5}
+use Rattle.std.proofs.Common.{rules, ◌≡◌, ◌∙◌, ap, refl}
+use Rattle.std.specs.Result.{result_err}
+use Rattle.std.specs.Prelude.{List, Bool, true, false, Option, None, Some, ℕ, cond, eqb, ◌||◌, not}
+use Rattle.std.specs.Option.{option_map}
+use Rattle.std.proofs.Math.Option.{some}
+use Rattle.layout.specs.Found.{Found}
+use Rattle.layout.specs.Tests.{◌and◌}
+use Rattle.layout.specs.Kinds as kind
+use Rattle.layout.specs.Records.{Rec, ◌!◌, rec_at, kind_at, body_at}
+use Rattle.layout.specs.Questions.{question5, following, follows, last_version}
 use Rattle.layout.specs.Turns.{last_at}
-use borrow.Author.Tests.{ne_eqb}
-use lib.ListN.{length}
-use mathlib.Core.Path.{refl, sym, ◌∙◌}
-use native.Mathlib.Omega.{arith}
+use Rattle.layout.proofs.Along.{err-along, keeps-place, judged}
 use Rattle.layout.proofs.question_5.Goals as goal
 
-pub loop-p-init : goal.loop-p-init
-unfolding question5
-loop-p-init c =
-    record { inside = omega arith; left = rw (last-outside c.args.image.now (length c.args.image.now) (omega arith)) refl }
-
-pub returns-then-n-eq0 : goal.returns-then-n-eq0
-returns-then-n-eq0 c =
-    broken c.loop-p.invariant c.loop-p-test.true c.size_at-n.ensures c.if-n-eq0.true
-
-pub overflow_add-p : goal.overflow_add-p
-overflow_add-p c =
-    omega (arith, ends-inside (record { along = c.loop-p.invariant; inside = c.loop-p-test.true; size = c.size_at-n.ensures; whole = c.if-n-eq0.false }))
-
-pub loop-p-smaller-then-in_sequence : goal.loop-p-smaller-then-in_sequence
-loop-p-smaller-then-in_sequence c =
-    omega (arith, c.if-n-eq0.false, c.loop-p-test.true)
-
-pub loop-p-preserved-then-in_sequence : goal.loop-p-preserved-then-in_sequence
-loop-p-preserved-then-in_sequence c =
-    let image = c.args.image.now in
-    go_on (record { along = c.loop-p.invariant; inside = c.loop-p-test.true; size = c.size_at-n.ensures; whole = c.if-n-eq0.false }) (last_at image c.loop-p.p)
-    (simp (sym c.kind_at.ensures ∙ c.if-kind_at-eq-VERSION.true, sym c.in_sequence.ensures ∙ c.if-in_sequence.true))
-    (simp (sym c.kind_at.ensures ∙ c.if-kind_at-eq-VERSION.true, last-inside image c.loop-p.p c.loop-p-test.true))
-
-pub returns-else-in_sequence : goal.returns-else-in_sequence
-returns-else-in_sequence c =
-    say-no (record { along = c.loop-p.invariant; inside = c.loop-p-test.true; size = c.size_at-n.ensures; whole = c.if-n-eq0.false })
-    (simp (sym c.kind_at.ensures ∙ c.if-kind_at-eq-VERSION.true, sym c.in_sequence.ensures ∙ c.if-in_sequence.false))
-
-pub overflow_add-p-else-kind_at-eq-VERSION : goal.overflow_add-p-else-kind_at-eq-VERSION
-overflow_add-p-else-kind_at-eq-VERSION c =
-    omega (arith, ends-inside (record { along = c.loop-p.invariant; inside = c.loop-p-test.true; size = c.size_at-n.ensures; whole = c.if-n-eq0.false }))
-
-pub loop-p-smaller : goal.loop-p-smaller
-loop-p-smaller c =
-    omega (arith, c.if-n-eq0.false, c.loop-p-test.true)
-
-pub loop-p-preserved : goal.loop-p-preserved
-loop-p-preserved c =
-    go_on (record { along = c.loop-p.invariant; inside = c.loop-p-test.true; size = c.size_at-n.ensures; whole = c.if-n-eq0.false }) _ (simp (← c.kind_at.ensures, ne_eqb _ _ c.if-kind_at-eq-VERSION.false)) (simp (← c.kind_at.ensures, ne_eqb _ _ c.if-kind_at-eq-VERSION.false))
+kept : (s : List ℕ) (v b : Bool) (st : Found) (q : ℕ) → cond (not v || b) (Some (cond v (some (rec_at s q)) (last_at s st))) None ≡ option_map (last_at s) (cond v (cond b (Some (Some q)) None) (Some st))
+unfolding last_at
+kept s true true st q = refl
+kept s true false st q = refl
+kept s false b st q = refl
 
 pub returns : goal.returns
+unfolding question5 last_at
 returns c =
-    ended c.loop-p.invariant c.loop-p-test.false
+    let s = c.args.image.now in
+    let turn : Option ℕ → Rec → Option (Option ℕ) = λ last r. cond (eqb r.kind kind.VERSION) (cond (follows (last_at s last) (r.body ! 0) (r.body ! 1)) (Some (Some r.at)) None) (Some last) in
+    c.err.ensures.value ∙ ap result_err (c.along.ensures turn (λ st at r h e. search rules))
+    ∙ keeps-place (last_at s) turn (judged following last_version) s (λ st q. kept s (eqb (kind_at s q) kind.VERSION) (follows (last_at s st) (body_at s q ! 0) (body_at s q ! 1)) st q) None ∙ err-along following last_version _ _

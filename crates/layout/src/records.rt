@@ -1,0 +1,79 @@
+//! The records of an image, one after the other.
+ghost use Rattle.std.specs.Prelude.{◌≡◌, Option};
+ghost use Rattle.std.specs.Iterator.{YieldsFirst, item_count};
+ghost use Rattle.layout.specs.Left.{left, spots};
+ghost use Rattle.layout.specs.Records.{Rec, records};
+ghost use Rattle.layout.specs.Scan.{Turns, along};
+
+use crate::size_at;
+
+/// Where a record stands, and its whole length; 0 for what is no whole record.
+#[derive(Clone, Copy)]
+pub struct Spot {
+    pub at: usize,
+    pub size: usize,
+}
+
+/// The records from a place of an image on. What is no whole record is the last.
+#[derive(Clone, Copy)]
+pub struct Records<'a> {
+    pub image: &'a [u8],
+    pub at: usize,
+}
+
+impl<'a> Records<'a> {
+    /// The records of an image.
+    pub fn of(image: &'a [u8]) -> Self
+        ensures { left result ≡ spots image.now 0 }
+    {
+        Records { image, at: 0 }
+    }
+
+    /// The records from the place `p` on.
+    pub fn behind(image: &'a [u8], p: usize) -> Self
+        ensures { left result ≡ spots image.now p }
+    {
+        Records { image, at: p }
+    }
+}
+
+impl<'a> Iterator for Records<'a> {
+    type Item = Spot;
+
+    ghost next_gives = { YieldsFirst left };
+
+    ghost remaining = { item_count left };
+
+    fn next(&mut self) -> Option<Spot> {
+        let at = self.at;
+        if self.image.len() <= at {
+            return None;
+        }
+        let size = size_at(self.image, at);
+        if size == 0 {
+            self.at = self.image.len();
+        } else {
+            self.at += size;
+        }
+        Some(Spot { at, size })
+    }
+}
+
+/// Goes along the records of an image: each turn makes what follows of what the records before it left. It ends where a turn
+/// gives nothing, or a record is not whole, and gives that place.
+pub fn along<S: Copy, F: Fn(S, Spot) -> Option<S>>(image: &[u8], start: S, turn: F) -> Result<S, usize>
+    requires { F.IsAlwaysCallable turn }
+    ensures { (t : S → Rec → Option S) → Turns (F.post turn) t image.now → result ≡ along t start (records image.now) }
+{
+    let mut state = start;
+    for record in Records::of(image) {
+        if record.size == 0 {
+            return Err(record.at);
+        }
+        let Some(next) = turn(state, record) else {
+            return Err(record.at);
+        };
+        state = next;
+    }
+    Ok(state)
+}
