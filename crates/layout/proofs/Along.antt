@@ -23,26 +23,25 @@ module _ {S : Type 0} (t : S → Rec → Option S) (st : S) (s : List ℕ) where
   along-end q h = simp (rest_end s q h)
 
   module _ {q : ℕ} {x : Spot} {xs : List Spot} (g : Given s q x xs) where
-    not_empty : (x.size ≡ 0 → ⊥) → size_at s q ≡ 0 → ⊥
+    not_empty : (x.size ≡ 0 → ⊥) → size_at s x.at ≡ 0 → ⊥
     not_empty z y = z (g.size ∙ y)
 
     -- at a record that is not whole
     pub along-broken : x.size ≡ 0 → along t st (rest s q) ≡ Err x.at
     unfolding along
-    along-broken z = let e : along t st (rest s q) ≡ Err q = simp (rest-cons s q g.inside, sym g.size ∙ z) in e ∙ ap Err (sym g.at)
+    along-broken z = rw g.at (let e : along t st (rest s x.at) ≡ Err x.at = simp (rest-cons s x.at g.inside, sym g.size ∙ z) in e)
 
     -- at one that fails
     pub along-stopped : (x.size ≡ 0 → ⊥) → t st (rec_at s x.at) ≡ None → along t st (rest s q) ≡ Err x.at
     unfolding along continued
-    along-stopped z e = let f : t st (rec_at s q) ≡ None = rw g.at at e in
-        let h : along t st (rest s q) ≡ Err q = simp (rest-cons s q g.inside, ne_eqb (size_at s q) 0 (not_empty z), f) in h ∙ ap Err (sym g.at)
+    along-stopped z f = rw g.at (let e : along t st (rest s x.at) ≡ Err x.at = simp (rest-cons s x.at g.inside, ne_eqb (size_at s x.at) 0 (not_empty z), f) in e)
 
     -- behind one that passes
-    pub along-passed : (x.size ≡ 0 → ⊥) → (next : S) → t st (rec_at s x.at) ≡ Some next → along t st (rest s q) ≡ along t next (rest s (q + x.size))
+    pub along-passed : (x.size ≡ 0 → ⊥) → (next : S) → t st (rec_at s x.at) ≡ Some next → along t st (rest s q) ≡ along t next (rest s (x.at + x.size))
     unfolding along continued
-    along-passed z next e = let f : t st (rec_at s q) ≡ Some next = rw g.at at e in
-        let h : along t st (rest s q) ≡ along t next (rest s (q + size_at s q)) = simp (rest-cons s q g.inside, ne_eqb (size_at s q) 0 (not_empty z), f) in
-        h ∙ ap (λ n. along t next (rest s (q + n))) (sym g.size)
+    along-passed z next f = rw g.at (
+        let e : along t st (rest s x.at) ≡ along t next (rest s (x.at + size_at s x.at)) = simp (rest-cons s x.at g.inside, ne_eqb (size_at s x.at) 0 (not_empty z), f) in
+        e ∙ ap (λ n. along t next (rest s (x.at + n))) (sym g.size))
 
 -- what a question says of where it came to
 unfoldable pub ended : {S : Type 0} → (S → Found) → Result S ℕ → Found

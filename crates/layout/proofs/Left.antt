@@ -28,12 +28,12 @@ pub spots-whole : (s : List ℕ) (p n : ℕ) → p < length s → n ≡ size_at 
 unfolding spots
 spots-whole s p n h e z = simp (spots-cons s p h, sym e, ne_eqb n 0 z)
 
--- An iterator that had the records from q on left has given x, and has xs left.
+-- An iterator that had the records from q on left has given x, which stands at q, and has xs left.
 pub record Given (s : List ℕ) (q : ℕ) (x : Spot) (xs : List Spot) : Type 0 where
-  pub inside : q < length s
-  pub at : x.at ≡ q
-  pub size : x.size ≡ size_at s q
-  pub whole : (x.size ≡ 0 → ⊥) → xs ≡ spots s (q + x.size)
+  pub at : q ≡ x.at
+  pub inside : x.at < length s
+  pub size : x.size ≡ size_at s x.at
+  pub whole : (x.size ≡ 0 → ⊥) → xs ≡ spots s (x.at + x.size)
 
 behind_first : List Spot → List Spot
 behind_first [] = []
@@ -58,14 +58,18 @@ module _ (s : List ℕ) (q : ℕ) {x : Spot} {xs : List Spot} (e : spots s q ≡
   unfolding behind_first
   given-others = sym (ap behind_first given-both)
 
-  pub given : Given s q x xs
+  given-at : q ≡ x.at
+  given-at = sym (ap (λ (y : Spot). y.at) given-first)
+
+  given-size : x.size ≡ size_at s q
+  given-size = ap (λ (y : Spot). y.size) given-first
+
+  given-whole : (x.size ≡ 0 → ⊥) → xs ≡ spots s (q + x.size)
   unfolding spots
-  given = record {
-    inside = given-inside;
-    at = ap (λ (y : Spot). y.at) given-first;
-    size = ap (λ (y : Spot). y.size) given-first;
-    whole = λ z. given-others ∙ ap (λ b. map spot (cond b [] (rest s (q + size_at s q)))) (ne_eqb (size_at s q) 0 (λ y. z (ap (λ (y : Spot). y.size) given-first ∙ y)))
-        ∙ ap (λ n. map spot (rest s (q + n))) (sym (ap (λ (y : Spot). y.size) given-first)) }
+  given-whole z = given-others ∙ ap (λ b. map spot (cond b [] (rest s (q + size_at s q)))) (ne_eqb (size_at s q) 0 (λ y. z (given-size ∙ y))) ∙ ap (λ n. map spot (rest s (q + n))) (sym given-size)
+
+  pub given : Given s q x xs
+  given = record { at = given-at; inside = rw given-at at given-inside; size = rw given-at at given-size; whole = λ z. rw given-at at (given-whole z) }
 
 -- nothing is left past the end alone
 pub none_left : (s : List ℕ) (q : ℕ) → spots s q ≡ [] → length s ≤ q
@@ -77,4 +81,4 @@ none_left s q e = go (ltb q (length s)) refl
 
 -- what it has given stands there
 pub stands : {s : List ℕ} {q : ℕ} {x : Spot} {xs : List Spot} → Given s q x xs → (x.size ≡ 0 → ⊥) → Stands s x
-stands g z = record { inside = rw (sym g.at) at g.inside; size = g.size ∙ ap (size_at _) (sym g.at); whole = z }
+stands g z = record { inside = g.inside; size = g.size; whole = z }

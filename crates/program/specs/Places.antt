@@ -1,5 +1,5 @@
 -- The program by offsets: what code that goes along the records has in hand.
-use Rattle.std.specs.Prelude.{List, [], ◌∷◌, map, Bool, true, cond, not, ℕ, zero, suc, ◌+◌, ◌-◌, ◌*◌, ◌/◌, ◌%◌, length, ltb, eqb, None, Some}
+use Rattle.std.specs.Prelude.{◌≡◌, List, [], ◌∷◌, map, Bool, true, cond, not, ℕ, zero, suc, ◌+◌, ◌-◌, ◌*◌, ◌/◌, ◌%◌, length, ltb, eqb, None, Some}
 use Rattle.layout.specs.Found.{Found}
 use Rattle.std.proofs.Math.Option.{Option, none, some}
 use Rattle.std.proofs.Math.ListN.{get_elem?}
@@ -102,3 +102,7 @@ asked q s h p =
     choose (kind_at s p) (cond begun (q.of_instr v (h.blocks - 1) (instr_at s p)) true) (
     (kind.VERSION, q.of_version (version_at s p)) ∷
     (kind.BLOCK, cond begun (q.of_block v (h.blocks - 1) (block_at s p)) true) ∷ [])
+
+-- calls of the code ask what the question asks
+abbrev pub Asks : (Here → ℕ → Bool → Type 0) → Question → List ℕ → Type 0
+Asks called q s = (h : Here) (p : ℕ) (b : Bool) → called h p b → b ≡ asked q s h p
