@@ -47,22 +47,5 @@ pub fn question_18(image: &[u8]) -> Option<usize>
     ensures { result ≡ first (question18 (program (records image.now))) (program (records image.now)) }
 {
     let table = lookup::versions(image);
-    let mut p: usize = 0;
-    let mut here = Here {
-        version: image.len(),
-        blocks: 0,
-    };
-    while p < image.len() {
-        let n = layout::size_at(image, p);
-        if n == 0 {
-            return None;
-        }
-        here = pass::moved(image, here, p);
-        if stays_down_at(image, &table, here, p) {
-            p += n;
-        } else {
-            return Some(p);
-        }
-    }
-    None
+    pass::first_failing(image, |here, p| stays_down_at(image, &table, here, p))
 }

@@ -98,22 +98,5 @@ pub fn types_at(image: &[u8], here: Here, p: usize) -> bool
 pub fn question_6(image: &[u8]) -> Option<usize>
     ensures { result ≡ first question6 (program (records image.now)) }
 {
-    let mut p: usize = 0;
-    let mut here = Here {
-        version: image.len(),
-        blocks: 0,
-    };
-    while p < image.len() {
-        let n = layout::size_at(image, p);
-        if n == 0 {
-            return None;
-        }
-        here = pass::moved(image, here, p);
-        if types_at(image, here, p) {
-            p += n;
-        } else {
-            return Some(p);
-        }
-    }
-    None
+    pass::first_failing(image, |here, p| types_at(image, here, p))
 }

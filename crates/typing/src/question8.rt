@@ -39,22 +39,5 @@ pub fn question_8(image: &[u8]) -> Option<usize>
     ensures { result ≡ first (question8 (program (records image.now))) (program (records image.now)) }
 {
     let table = lookup::versions(image);
-    let mut p: usize = 0;
-    let mut here = Here {
-        version: image.len(),
-        blocks: 0,
-    };
-    while p < image.len() {
-        let n = layout::size_at(image, p);
-        if n == 0 {
-            return None;
-        }
-        here = pass::moved(image, here, p);
-        if fits_at(image, &table, here, p) {
-            p += n;
-        } else {
-            return Some(p);
-        }
-    }
-    None
+    pass::first_failing(image, |here, p| fits_at(image, &table, here, p))
 }
