@@ -1,6 +1,4 @@
--- `program::question14::ends_within`: a SKIP is asked of the ends one place on, by a shift.
-use Rattle.layout.specs.Bounds.{INSTRUCTIONS}
-use Rattle.program.proofs.Ends.{ends-onward}
+-- `program::question14::ends_within`: a SKIP is asked of the ends from the next record on.
 use Rattle.program.specs.Skips.{ends_within}
 use borrow.Author.Tests.{ne_eqb}
 use mathlib.Core.Path.{sym, ◌∙◌}
@@ -10,8 +8,7 @@ pub returns-then-kind_at-eq-SKIP : goal.returns-then-kind_at-eq-SKIP
 unfolding ends_within
 returns-then-kind_at-eq-SKIP c =
     let is-skip = sym c.kind_at.ensures ∙ c.if-kind_at-eq-SKIP.true in
-    let shifted = ends-onward INSTRUCTIONS _ c.requires in
-    c.none_before.ensures ∙ simp (is-skip, ← c.field.ensures.0, shifted)
+    c.none_before.ensures ∙ simp (is-skip, ← c.field.ensures.0, c.onward.ensures)
 
 pub returns-else-kind_at-eq-SKIP : goal.returns-else-kind_at-eq-SKIP
 unfolding ends_within

@@ -1,55 +1,37 @@
-use Rattle.layout.proofs.Walk.{ended, broken, say-no, go_on, ends-inside}
-use Rattle.program.proofs.Ends.{ends-none}
-use Rattle.program.specs.Skips.{PLACES, ends_within, question14}
-use mathlib.Core.Path.{refl, sym, ◌∙◌}
-use native.Mathlib.Omega.{arith}
+-- `program::question14::question_14`: each record is met as the law of a question has it.
+use Rattle.std.proofs.Common.{sym, ap, ◌∙◌, arith}
+use Rattle.layout.specs.Left.{left}
+use Rattle.layout.specs.Records.{records}
+use Rattle.layout.proofs.Left.{given, none_left}
+use Rattle.layout.proofs.Walk.{ended, broken, say-no, go_on}
+use Rattle.program.specs.Skips.{question14}
 use Rattle.program.proofs.question14.question_14.Goals as goal
 
-pub loop-p-init : goal.loop-p-init
+pub loop-record-init : goal.loop-record-init
 unfolding question14
-loop-p-init c =
-    (record { inside = omega arith; left = rw (ends-none PLACES) refl }, omega arith)
+loop-record-init c =
+    (tt, tt, (0, ap left c.into_iter-record-iterator.ensures.into_iter_gives ∙ c.of-record-items.ensures, record { inside = omega arith; left = rw c.none-ends.ensures (λ i. question14 (records c.args.image.now)) }))
 
-pub returns-then-n-eq0 : goal.returns-then-n-eq0
-returns-then-n-eq0 c =
-    broken c.loop-p.invariant.0 c.loop-p-test.true c.size_at-n.ensures c.if-n-eq0.true
+pub returns-then-record-eq0 : goal.returns-then-record-eq0
+returns-then-record-eq0 c =
+    let i = c.loop-record.invariant.2 in
+    let x = given _ _ (sym i.1 ∙ c.in-Some.ensures.steps) in
+    broken (rw x.at at i.2) x.inside x.size c.if-record-eq0.true
 
-pub overflow_add-p : goal.overflow_add-p
-overflow_add-p c =
-    omega (
-      arith,
-      ends-inside (record {
-        along = c.loop-p.invariant.0;
-        inside = c.loop-p-test.true;
-        size = c.size_at-n.ensures;
-        whole = c.if-n-eq0.false;
-      }),
-    )
+pub returns-then-not-ends_within : goal.returns-then-not-ends_within
+returns-then-not-ends_within c =
+    let i = c.loop-record.invariant.2 in
+    let x = given _ _ (sym i.1 ∙ c.in-Some.ensures.steps) in
+    say-no (record { along = rw x.at at i.2; inside = x.inside; size = x.size; whole = c.if-record-eq0.false }) (sym c.ends_within.ensures ∙ c.if-not-ends_within.true)
 
-pub loop-p-smaller : goal.loop-p-smaller
-loop-p-smaller c =
-    omega (arith, c.if-n-eq0.false, c.loop-p-test.true)
-
-pub loop-p-preserved : goal.loop-p-preserved
-loop-p-preserved c = (
-  go_on (record {
-    along = c.loop-p.invariant.0;
-    inside = c.loop-p-test.true;
-    size = c.size_at-n.ensures;
-    whole = c.if-n-eq0.false;
-  }) _ (sym c.ends_within.ensures ∙ c.if-ends_within.true) (sym c.ends_after-ends.ensures.0),
-  c.ends_after-ends.ensures.1,
-)
-
-pub returns-else-ends_within : goal.returns-else-ends_within
-returns-else-ends_within c =
-    say-no (record {
-      along = c.loop-p.invariant.0;
-      inside = c.loop-p-test.true;
-      size = c.size_at-n.ensures;
-      whole = c.if-n-eq0.false;
-    }) (sym c.ends_within.ensures ∙ c.if-ends_within.false)
+pub loop-record-preserved : goal.loop-record-preserved
+loop-record-preserved c =
+    let i = c.loop-record.invariant.2 in
+    let x = given _ _ (sym i.1 ∙ c.in-Some.ensures.steps) in
+    (tt, tt, (_, x.whole c.if-record-eq0.false,
+        go_on (record { along = rw x.at at i.2; inside = x.inside; size = x.size; whole = c.if-record-eq0.false }) _ (sym c.ends_within.ensures ∙ c.if-not-ends_within.false) (sym c.ends_after-ends.ensures)))
 
 pub returns : goal.returns
 returns c =
-    ended c.loop-p.invariant.0 c.loop-p-test.false
+    let i = c.loop-record.invariant.2 in
+    ended i.2 (none_left _ _ (sym i.1 ∙ c.in-None.ensures.steps.0))
