@@ -5,7 +5,7 @@ use lib.Bits.{or_lt}
 use lib.Pow.{pow-lt}
 use Rattle.program.proofs.question14.Ends.with_end.Goals as goal
 
-pub invariant_of-result : goal.invariant_of-self
+pub invariant_of-result : goal.invariant_of-result
 invariant_of-result c = record { kept = rw (at_place c.if-n-ge-PLACES.false) (or_lt PLACES _ _ c.args.self.kept (pow-lt c.if-n-ge-PLACES.false)) }
 
 pub returns-then-n-ge-PLACES : goal.returns-then-n-ge-PLACES
