@@ -8,11 +8,16 @@ ghost use Rattle.flow.specs.Masks.{flowed};
 
 use crate::{Action, walk};
 use program::lookup;
+use program::lookup::Tabled;
 
 /// The action of the body of the version whose record stands at `v`.
 pub fn action(image: &[u8], v: usize) -> Option<Action>
     ensures { flowed result ≡ body_action (program (records image.now)) (version_at image.now v) }
 {
     let table = lookup::versions(image);
-    walk::body_action(image, &table, v)
+    let tabled = Tabled {
+        image,
+        table: &table,
+    };
+    walk::body_action(tabled, v)
 }

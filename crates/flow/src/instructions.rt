@@ -6,13 +6,14 @@ ghost use Rattle.layout.specs.Records.{records, body_at, every, fields, ◌!◌}
 ghost use Rattle.layout.specs.Kinds as kind;
 ghost use Rattle.sets.specs.Sets.{set_of, those};
 ghost use Rattle.program.specs.Program.{program, instr_of, arguments, given, find_version};
-ghost use Rattle.program.specs.Places.{version_at, instr_at, table_of};
+ghost use Rattle.program.specs.Places.{version_at, instr_at};
 ghost use Rattle.rules.specs.Actions.{reading, touching, emptied, promised, touch, action_of};
 ghost use Rattle.flow.specs.Masks.{flowed, alone};
 
 use crate::{Action, actions};
 use layout::{kinds, ownerships};
 use program::lookup;
+use program::lookup::Tabled;
 
 /// The registers that `n` fields of the record at `p` name, from the field `from` on, each `step` behind the one before.
 fn named(image: &[u8], p: usize, from: usize, step: usize, n: usize) -> u16
@@ -124,31 +125,27 @@ fn promising(image: &[u8], p: usize, entered: Option<Action>) -> Option<Action>
 }
 
 /// The registers that the CALL at `p` empties: none where its version is not there.
-fn call_empties(image: &[u8], table: &[usize; 128], p: usize) -> u16
-    requires { table.now ≡ table_of image.now }
+fn call_empties(tabled: Tabled, p: usize) -> u16
     ensures { set_of REGISTERS result
-        ≡ those REGISTERS (Option-elim (find_version (program (records image.now)) (body_at image.now p ! 1) (body_at image.now p ! 2)) []
-        (λ c. emptied (given c (fields (body_at image.now p) 4 (body_at image.now p ! 3))))) }
+        ≡ those REGISTERS (Option-elim (find_version (program (records tabled.entry.image.now)) (body_at tabled.entry.image.now p ! 1) (body_at tabled.entry.image.now p ! 2)) []
+        (λ c. emptied (given c (fields (body_at tabled.entry.image.now p) 4 (body_at tabled.entry.image.now p ! 3))))) }
 {
+    let image = tabled.image;
     let f = layout::field(image, p, 1);
     let w = layout::field(image, p, 2);
-    let Some(c) = lookup::listed(image, table, f, w) else {
+    let Some(c) = tabled.version(f, w) else {
         return 0;
     };
     given_owned(image, c, p)
 }
 
 /// CALL: it reads its operands, and empties those of owned parameters.
-fn calling(image: &[u8], table: &[usize; 128], p: usize) -> Option<Action>
-    requires { table.now ≡ table_of image.now }
-    ensures { flowed result ≡ alone (program (records image.now)) (instr_of kind.CALL (body_at image.now p)) }
+fn calling(tabled: Tabled, p: usize) -> Option<Action>
+    ensures { flowed result ≡ alone (program (records tabled.entry.image.now)) (instr_of kind.CALL (body_at tabled.entry.image.now p)) }
 {
+    let image = tabled.image;
     let reads = named(image, p, 4, 1, layout::field(image, p, 3));
-    actions::touching(
-        reads,
-        call_empties(image, table, p),
-        named(image, p, 0, 1, 1),
-    )
+    actions::touching(reads, call_empties(tabled, p), named(image, p, 0, 1, 1))
 }
 
 /// DISPATCH: it reads its operands, and empties those of owned types.
@@ -167,10 +164,10 @@ fn skipping(image: &[u8], p: usize) -> Option<Action>
 }
 
 /// What the instruction at `p` does, where `entered` is what the block does that a PROM names. The table is the image's.
-pub(crate) fn instruction(image: &[u8], table: &[usize; 128], p: usize, entered: Option<Action>) -> Option<Action>
-    requires { table.now ≡ table_of image.now }
-    ensures { flowed result ≡ action_of (λ block. flowed entered) (touch (program (records image.now)) (instr_at image.now p)) }
+pub(crate) fn instruction(tabled: Tabled, p: usize, entered: Option<Action>) -> Option<Action>
+    ensures { flowed result ≡ action_of (λ block. flowed entered) (touch (program (records tabled.entry.image.now)) (instr_at tabled.entry.image.now p)) }
 {
+    let image = tabled.image;
     match layout::kind_at(image, p) {
         kinds::MOVE => plain(image, p, 1, 1),
         kinds::USE => used(image, p),
@@ -188,7 +185,7 @@ pub(crate) fn instruction(image: &[u8], table: &[usize; 128], p: usize, entered:
         kinds::FORCE => plain(image, p, 1, 1),
         kinds::PEEK => plain(image, p, 1, 1),
         kinds::POKE => reads_only(image, p, 0, 2, 2),
-        kinds::CALL => calling(image, table, p),
+        kinds::CALL => calling(tabled, p),
         kinds::DISPATCH => dispatching(image, p),
         kinds::SKIP => skipping(image, p),
         _ => plain(image, p, 1, 0),

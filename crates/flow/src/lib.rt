@@ -16,4 +16,3 @@ pub struct Action {
     pub empties: u16,
     pub captures: u16,
 }
-

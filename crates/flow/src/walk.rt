@@ -2,7 +2,7 @@
 ghost use Rattle.std.specs.Prelude.{◌≡◌};
 ghost use Rattle.layout.specs.Records.{records};
 ghost use Rattle.program.specs.Program.{program};
-ghost use Rattle.program.specs.Places.{version_at, instr_at, table_of};
+ghost use Rattle.program.specs.Places.{version_at, instr_at};
 ghost use Rattle.rules.specs.Actions.{body_action};
 ghost use Rattle.flow.specs.Masks.{flowed};
 ghost use Rattle.rules.specs.Walks.{block_action, acts};
@@ -10,13 +10,14 @@ ghost use Rattle.rules.specs.Walks.{block_action, acts};
 use crate::{Action, actions, instructions, ways};
 use layout::kinds;
 use program::lookup;
+use program::lookup::Tabled;
 
 /// What the block `b` of the version at `v` does: its instructions one after the other, then it reads its result register.
 #[cycle(walk_block_walk_instruction)]
-fn walk_block(image: &[u8], table: &[usize; 128], v: usize, b: usize) -> Option<Action>
-    requires { table.now ≡ table_of image.now }
-    ensures { flowed result ≡ block_action (program (records image.now)) (version_at image.now v) b }
+fn walk_block(tabled: Tabled, v: usize, b: usize) -> Option<Action>
+    ensures { flowed result ≡ block_action (program (records tabled.entry.image.now)) (version_at tabled.entry.image.now v) b }
 {
+    let image = tabled.image;
     let Some(q) = lookup::block(image, v, b) else {
         return None;
     };
@@ -35,7 +36,7 @@ fn walk_block(image: &[u8], table: &[usize; 128], v: usize, b: usize) -> Option<
         let came = taken[at];
         let now = actions::chain(
             actions::join(done, came),
-            walk_instruction(image, table, v, b, p),
+            walk_instruction(tabled, v, b, p),
         );
         let skip = ways::skip_at(image, p);
         done = ways::goes_on(now, skip, count, i);
@@ -56,25 +57,24 @@ fn walk_block(image: &[u8], table: &[usize; 128], v: usize, b: usize) -> Option<
 
 /// What the instruction at `p` does, in the block `b` of the version at `v`: a PROM enters a block above its own.
 #[cycle(walk_block_walk_instruction)]
-fn walk_instruction(image: &[u8], table: &[usize; 128], v: usize, b: usize, p: usize) -> Option<Action>
-    requires { table.now ≡ table_of image.now }
-    ensures { flowed result ≡ acts (program (records image.now)) (version_at image.now v) b (instr_at image.now p) }
+fn walk_instruction(tabled: Tabled, v: usize, b: usize, p: usize) -> Option<Action>
+    ensures { flowed result ≡ acts (program (records tabled.entry.image.now)) (version_at tabled.entry.image.now v) b (instr_at tabled.entry.image.now p) }
 {
+    let image = tabled.image;
     if layout::kind_at(image, p) != kinds::PROM {
-        return instructions::instruction(image, table, p, None);
+        return instructions::instruction(tabled, p, None);
     }
     let block = layout::field(image, p, 1);
     if block <= b {
-        return instructions::instruction(image, table, p, None);
+        return instructions::instruction(tabled, p, None);
     }
-    instructions::instruction(image, table, p, walk_block(image, table, v, block))
+    instructions::instruction(tabled, p, walk_block(tabled, v, block))
 }
 
 /// What the body of the version at `v` does. The table is the image's: its callers make it once for many versions.
 /// A block is walked as often as it is named: once, where question 7 holds.
-pub(crate) fn body_action(image: &[u8], table: &[usize; 128], v: usize) -> Option<Action>
-    requires { table.now ≡ table_of image.now }
-    ensures { flowed result ≡ body_action (program (records image.now)) (version_at image.now v) }
+pub(crate) fn body_action(tabled: Tabled, v: usize) -> Option<Action>
+    ensures { flowed result ≡ body_action (program (records tabled.entry.image.now)) (version_at tabled.entry.image.now v) }
 {
-    walk_block(image, table, v, 0)
+    walk_block(tabled, v, 0)
 }

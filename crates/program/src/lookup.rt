@@ -6,7 +6,6 @@ ghost use Rattle.layout.specs.Kinds as kind;
 ghost use Rattle.program.specs.Program.{program, has_function, mark_of};
 ghost use Rattle.program.specs.Places.{version_at, version_place, block_place, is_line, table_of, slot_of, listed_in, function_in};
 
-
 /// The entries of the table of versions: 4 for each function.
 pub const TABLE: usize = 128;
 
@@ -235,10 +234,30 @@ pub fn listed(image: &[u8], table: &[usize; 128], f: usize, w: usize) -> Option<
         return version(image, f, w);
     }
     let p = table[layout::bounds::VERSIONS * f + w];
-    if p < image.len() {
-        Some(p)
-    } else {
-        None
+    if p < image.len() { Some(p) } else { None }
+}
+
+/// An image with the table of its versions.
+#[derive(Clone, Copy)]
+pub struct Tabled<'a> {
+    pub image: &'a [u8],
+    pub table: &'a [usize; 128],
+    ghost listed: { table.now ≡ table_of image.now },
+}
+
+impl Tabled<'_> {
+    /// Where the version `w` of the function `f` stands.
+    pub fn version(self, f: usize, w: usize) -> Option<usize>
+        ensures { result ≡ version_place self.entry.image.now f w }
+    {
+        listed(self.image, self.table, f, w)
+    }
+
+    /// Has the function `f` a version?
+    pub fn has_function(self, f: usize) -> bool
+        ensures { result ≡ has_function f (program (records self.entry.image.now)) }
+    {
+        has_function(self.image, self.table, f)
     }
 }
 

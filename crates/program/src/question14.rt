@@ -29,7 +29,9 @@ impl Ends {
     fn onward(self) -> Self
         ensures { ends_of PLACES result.digits ≡ onward (ends_of PLACES self.digits) }
     {
-        Ends { digits: self.digits >> 1 }
+        Ends {
+            digits: self.digits >> 1,
+        }
     }
 
     /// Does nothing end at the first `n` places?
@@ -50,7 +52,9 @@ impl Ends {
         if PLACES <= n {
             return self;
         }
-        Ends { digits: self.digits | 1u64 << n }
+        Ends {
+            digits: self.digits | 1u64 << n,
+        }
     }
 }
 

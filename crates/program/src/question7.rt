@@ -5,9 +5,10 @@ ghost use Rattle.layout.specs.Records.{records, body_at, every};
 ghost use Rattle.layout.specs.Kinds as kind;
 ghost use Rattle.program.specs.Program.{program, instr_of};
 ghost use Rattle.program.specs.Search.{first};
-ghost use Rattle.program.specs.Places.{version_at, block_at, instr_at, table_of, asked};
+ghost use Rattle.program.specs.Places.{version_at, block_at, instr_at, asked};
 ghost use Rattle.program.specs.Questions.{exists, names_block, namings, block_named, question7};
 
+use crate::lookup::Tabled;
 use crate::{Here, lookup, pass};
 use layout::{bounds, kinds};
 
@@ -123,10 +124,10 @@ fn poke_exists(image: &[u8], v: usize, b: usize, p: usize) -> bool
 }
 
 /// CALL: do its registers and its version exist, and is n the version's parameter count?
-fn call_exists(image: &[u8], table: &[usize; 128], v: usize, b: usize, p: usize) -> bool
-    requires { table.now ≡ table_of image.now }
-    ensures { result ≡ exists (program (records image.now)) (version_at image.now v) b (instr_of kind.CALL (body_at image.now p)) }
+fn call_exists(tabled: Tabled, v: usize, b: usize, p: usize) -> bool
+    ensures { result ≡ exists (program (records tabled.entry.image.now)) (version_at tabled.entry.image.now v) b (instr_of kind.CALL (body_at tabled.entry.image.now p)) }
 {
+    let image = tabled.image;
     let registers = lookup::registers(image, v);
     let n = layout::field(image, p, 3);
     if registers <= layout::field(image, p, 0) {
@@ -135,7 +136,7 @@ fn call_exists(image: &[u8], table: &[usize; 128], v: usize, b: usize, p: usize)
     if all_exist(image, p, 4, 1, n, registers) {
         let f = layout::field(image, p, 1);
         let w = layout::field(image, p, 2);
-        let Some(q) = lookup::listed(image, table, f, w) else {
+        let Some(q) = tabled.version(f, w) else {
             return false;
         };
         n == layout::field(image, q, 2)
@@ -145,26 +146,26 @@ fn call_exists(image: &[u8], table: &[usize; 128], v: usize, b: usize, p: usize)
 }
 
 /// DISPATCH: do its registers and its function exist?
-fn dispatch_exists(image: &[u8], table: &[usize; 128], v: usize, b: usize, p: usize) -> bool
-    requires { table.now ≡ table_of image.now }
-    ensures { result ≡ exists (program (records image.now)) (version_at image.now v) b (instr_of kind.DISPATCH (body_at image.now p)) }
+fn dispatch_exists(tabled: Tabled, v: usize, b: usize, p: usize) -> bool
+    ensures { result ≡ exists (program (records tabled.entry.image.now)) (version_at tabled.entry.image.now v) b (instr_of kind.DISPATCH (body_at tabled.entry.image.now p)) }
 {
+    let image = tabled.image;
     let registers = lookup::registers(image, v);
     if registers <= layout::field(image, p, 0) {
         return false;
     }
     if all_exist(image, p, 6, 2, layout::field(image, p, 4), registers) {
-        lookup::has_function(image, table, layout::field(image, p, 1))
+        tabled.has_function(layout::field(image, p, 1))
     } else {
         false
     }
 }
 
 /// Does all exist that the instruction at `p`, in the block `b` of the version at `v`, names?
-fn instruction_exists(image: &[u8], table: &[usize; 128], v: usize, b: usize, p: usize) -> bool
-    requires { table.now ≡ table_of image.now }
-    ensures { result ≡ exists (program (records image.now)) (version_at image.now v) b (instr_at image.now p) }
+fn instruction_exists(tabled: Tabled, v: usize, b: usize, p: usize) -> bool
+    ensures { result ≡ exists (program (records tabled.entry.image.now)) (version_at tabled.entry.image.now v) b (instr_at tabled.entry.image.now p) }
 {
+    let image = tabled.image;
     let registers = lookup::registers(image, v);
     match layout::kind_at(image, p) {
         kinds::MOVE => all_exist(image, p, 0, 1, 2, registers),
@@ -183,8 +184,8 @@ fn instruction_exists(image: &[u8], table: &[usize; 128], v: usize, b: usize, p:
         kinds::FORCE => all_exist(image, p, 0, 1, 2, registers),
         kinds::PEEK => peek_exists(image, v, b, p),
         kinds::POKE => poke_exists(image, v, b, p),
-        kinds::CALL => call_exists(image, table, v, b, p),
-        kinds::DISPATCH => dispatch_exists(image, table, v, b, p),
+        kinds::CALL => call_exists(tabled, v, b, p),
+        kinds::DISPATCH => dispatch_exists(tabled, v, b, p),
         kinds::SKIP => all_exist(image, p, 0, 1, 1, registers),
         _ => all_exist(image, p, 0, 1, 1, registers),
     }
@@ -252,10 +253,10 @@ fn block_named(image: &[u8], v: usize, b: usize, p: usize) -> bool
 }
 
 /// Does all exist that the record at `p` names, where the pass stands at `here`?
-fn exists_at(image: &[u8], table: &[usize; 128], here: Here, p: usize) -> bool
-    requires { table.now ≡ table_of image.now }
-    ensures { result ≡ asked (question7 (program (records image.now))) image.now here p }
+fn exists_at(tabled: Tabled, here: Here, p: usize) -> bool
+    ensures { result ≡ asked (question7 (program (records tabled.entry.image.now))) tabled.entry.image.now here p }
 {
+    let image = tabled.image;
     let version = here.version;
     let blocks = here.blocks;
     let kind = layout::kind_at(image, p);
@@ -271,7 +272,7 @@ fn exists_at(image: &[u8], table: &[usize; 128], here: Here, p: usize) -> bool
     if kind == kinds::BLOCK {
         block_named(image, version, blocks - 1, p)
     } else {
-        instruction_exists(image, table, version, blocks - 1, p)
+        instruction_exists(tabled, version, blocks - 1, p)
     }
 }
 
@@ -280,5 +281,9 @@ pub fn question_7(image: &[u8]) -> Option<usize>
     ensures { result ≡ first (question7 (program (records image.now))) (program (records image.now)) }
 {
     let table = lookup::versions(image);
-    pass::first_failing(image, |here, p| exists_at(image, &table, here, p))
+    let tabled = Tabled {
+        image,
+        table: &table,
+    };
+    pass::first_failing(image, |here, p| exists_at(tabled, here, p))
 }

@@ -4,12 +4,13 @@ ghost use Rattle.layout.specs.Tests.{all};
 ghost use Rattle.layout.specs.Records.{records, body_at, every};
 ghost use Rattle.layout.specs.Kinds as kind;
 ghost use Rattle.program.specs.Program.{program, instr_of};
-ghost use Rattle.program.specs.Places.{version_at, block_at, instr_at, table_of};
+ghost use Rattle.program.specs.Places.{version_at, block_at, instr_at};
 ghost use Rattle.rules.specs.Fits.{integer, fits, fits_result};
 
 use crate::{arguments, registers, types};
 use layout::{kinds, ownerships};
 use program::lookup;
+use program::lookup::Tabled;
 
 /// Are the `n` registers from the field 2 on integers?
 fn all_integers(image: &[u8], v: usize, p: usize, n: usize) -> bool
@@ -211,13 +212,13 @@ fn prom_fits(image: &[u8], v: usize, b: usize, p: usize) -> bool
 }
 
 /// CALL: the arguments and the return of the version that it names.
-fn call_fits(image: &[u8], table: &[usize; 128], v: usize, b: usize, p: usize) -> bool
-    requires { table.now ≡ table_of image.now }
-    ensures { result ≡ fits (program (records image.now)) (version_at image.now v) b (instr_of kind.CALL (body_at image.now p)) }
+fn call_fits(tabled: Tabled, v: usize, b: usize, p: usize) -> bool
+    ensures { result ≡ fits (program (records tabled.entry.image.now)) (version_at tabled.entry.image.now v) b (instr_of kind.CALL (body_at tabled.entry.image.now p)) }
 {
+    let image = tabled.image;
     let f = layout::field(image, p, 1);
     let w = layout::field(image, p, 2);
-    let Some(q) = lookup::listed(image, table, f, w) else {
+    let Some(q) = tabled.version(f, w) else {
         return false;
     };
     arguments::call_fits(
@@ -245,16 +246,10 @@ fn dispatch_fits(image: &[u8], v: usize, b: usize, p: usize) -> bool
 }
 
 /// Do the types of the instruction fit?
-pub(crate) fn instruction_fits(
-    image: &[u8],
-    table: &[usize; 128],
-    v: usize,
-    b: usize,
-    p: usize,
-) -> bool
-    requires { table.now ≡ table_of image.now }
-    ensures { result ≡ fits (program (records image.now)) (version_at image.now v) b (instr_at image.now p) }
+pub(crate) fn instruction_fits(tabled: Tabled, v: usize, b: usize, p: usize) -> bool
+    ensures { result ≡ fits (program (records tabled.entry.image.now)) (version_at tabled.entry.image.now v) b (instr_at tabled.entry.image.now p) }
 {
+    let image = tabled.image;
     match layout::kind_at(image, p) {
         kinds::MOVE => move_fits(image, v, b, p),
         kinds::USE => use_fits(image, v, b, p),
@@ -272,7 +267,7 @@ pub(crate) fn instruction_fits(
         kinds::FORCE => force_fits(image, v, b, p),
         kinds::PEEK => peek_fits(image, v, b, p),
         kinds::POKE => poke_fits(image, v, b, p),
-        kinds::CALL => call_fits(image, table, v, b, p),
+        kinds::CALL => call_fits(tabled, v, b, p),
         kinds::DISPATCH => dispatch_fits(image, v, b, p),
         kinds::SKIP => registers::is_integer(image, v, p, 0),
         _ => registers::takes_plain(image, v, p, 0, types::INTEGER),

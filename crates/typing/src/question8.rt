@@ -3,18 +3,19 @@ ghost use Rattle.std.specs.Prelude.{◌≡◌};
 ghost use Rattle.layout.specs.Records.{records};
 ghost use Rattle.program.specs.Program.{program};
 ghost use Rattle.program.specs.Search.{first};
-ghost use Rattle.program.specs.Places.{table_of, asked};
+ghost use Rattle.program.specs.Places.{asked};
 ghost use Rattle.rules.specs.Questions.{question8};
 
 use crate::fits;
 use layout::kinds;
+use program::lookup::Tabled;
 use program::{Here, lookup, pass};
 
 /// Do the types of the record at `p` fit, where the pass stands at `here`? Part of the loop along the records, whose table is made once.
-pub fn fits_at(image: &[u8], table: &[usize; 128], here: Here, p: usize) -> bool
-    requires { table.now ≡ table_of image.now }
-    ensures { result ≡ asked (question8 (program (records image.now))) image.now here p }
+pub fn fits_at(tabled: Tabled, here: Here, p: usize) -> bool
+    ensures { result ≡ asked (question8 (program (records tabled.entry.image.now))) tabled.entry.image.now here p }
 {
+    let image = tabled.image;
     let version = here.version;
     let blocks = here.blocks;
     let kind = layout::kind_at(image, p);
@@ -30,7 +31,7 @@ pub fn fits_at(image: &[u8], table: &[usize; 128], here: Here, p: usize) -> bool
     if kind == kinds::BLOCK {
         fits::result_fits(image, version, blocks - 1, p)
     } else {
-        fits::instruction_fits(image, table, version, blocks - 1, p)
+        fits::instruction_fits(tabled, version, blocks - 1, p)
     }
 }
 
@@ -39,5 +40,9 @@ pub fn question_8(image: &[u8]) -> Option<usize>
     ensures { result ≡ first (question8 (program (records image.now))) (program (records image.now)) }
 {
     let table = lookup::versions(image);
-    pass::first_failing(image, |here, p| fits_at(image, &table, here, p))
+    let tabled = Tabled {
+        image,
+        table: &table,
+    };
+    pass::first_failing(image, |here, p| fits_at(tabled, here, p))
 }

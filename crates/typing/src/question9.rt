@@ -5,47 +5,48 @@ ghost use Rattle.layout.specs.Records.{records, body_at};
 ghost use Rattle.layout.specs.Kinds as kind;
 ghost use Rattle.program.specs.Program.{Line, program, instr_of};
 ghost use Rattle.program.specs.Search.{first};
-ghost use Rattle.program.specs.Places.{version_at, block_at, instr_at, table_of, asked};
+ghost use Rattle.program.specs.Places.{version_at, block_at, instr_at, asked};
 ghost use Rattle.rules.specs.Effects.{reflective};
 ghost use Rattle.rules.specs.Questions.{question9};
 
 use crate::{registers, types};
 use layout::kinds;
+use program::lookup::Tabled;
 use program::{Here, lookup, pass};
 
 /// CALL: has the version that it names the mark 1?
-fn call_reflects(image: &[u8], table: &[usize; 128], v: usize, p: usize) -> bool
-    requires { table.now ≡ table_of image.now }
-    ensures { result ≡ reflective (program (records image.now)) (version_at image.now v) (instr_of kind.CALL (body_at image.now p)) }
+fn call_reflects(tabled: Tabled, v: usize, p: usize) -> bool
+    ensures { result ≡ reflective (program (records tabled.entry.image.now)) (version_at tabled.entry.image.now v) (instr_of kind.CALL (body_at tabled.entry.image.now p)) }
 {
+    let image = tabled.image;
     let f = layout::field(image, p, 1);
     let w = layout::field(image, p, 2);
-    let Some(q) = lookup::listed(image, table, f, w) else {
+    let Some(q) = tabled.version(f, w) else {
         return false;
     };
     lookup::mark(image, q) == 1
 }
 
 /// Is the effect of the instruction at `p` in the version at `v` reflective?
-fn reflects(image: &[u8], table: &[usize; 128], v: usize, p: usize) -> bool
-    requires { table.now ≡ table_of image.now }
-    ensures { result ≡ reflective (program (records image.now)) (version_at image.now v) (instr_at image.now p) }
+fn reflects(tabled: Tabled, v: usize, p: usize) -> bool
+    ensures { result ≡ reflective (program (records tabled.entry.image.now)) (version_at tabled.entry.image.now v) (instr_at tabled.entry.image.now p) }
 {
+    let image = tabled.image;
     match layout::kind_at(image, p) {
         kinds::FORCE => registers::kind_in(image, v, p, 1) == types::REFLECTIVE,
         kinds::PEEK => true,
         kinds::POKE => true,
-        kinds::CALL => call_reflects(image, table, v, p),
+        kinds::CALL => call_reflects(tabled, v, p),
         kinds::DISPATCH => layout::field(image, p, 2) == 1,
         _ => false,
     }
 }
 
 /// Is the effect of the block at `b` of the version at `v` reflective?
-fn block_reflects(image: &[u8], table: &[usize; 128], v: usize, b: usize) -> bool
-    requires { table.now ≡ table_of image.now }
-    ensures { result ≡ any (λ (l : Line). reflective (program (records image.now)) (version_at image.now v) l.does) (block_at image.now b).code }
+fn block_reflects(tabled: Tabled, v: usize, b: usize) -> bool
+    ensures { result ≡ any (λ (l : Line). reflective (program (records tabled.entry.image.now)) (version_at tabled.entry.image.now v) l.does) (block_at tabled.entry.image.now b).code }
 {
+    let image = tabled.image;
     if image.len() <= b {
         return false;
     }
@@ -62,7 +63,7 @@ fn block_reflects(image: &[u8], table: &[usize; 128], v: usize, b: usize) -> boo
         if k == kinds::BLOCK {
             return false;
         }
-        if reflects(image, table, v, p) {
+        if reflects(tabled, v, p) {
             return true;
         }
         p += n;
@@ -72,10 +73,10 @@ fn block_reflects(image: &[u8], table: &[usize; 128], v: usize, b: usize) -> boo
 
 /// Does the mark of the record at `p`, if it is a BLOCK, cover its effect, where the pass stands at `here`? Part of the loop along the
 /// records, whose table is made once.
-pub fn covers_at(image: &[u8], table: &[usize; 128], here: Here, p: usize) -> bool
-    requires { table.now ≡ table_of image.now }
-    ensures { result ≡ asked (question9 (program (records image.now))) image.now here p }
+pub fn covers_at(tabled: Tabled, here: Here, p: usize) -> bool
+    ensures { result ≡ asked (question9 (program (records tabled.entry.image.now))) tabled.entry.image.now here p }
 {
+    let image = tabled.image;
     let version = here.version;
     let blocks = here.blocks;
     if layout::kind_at(image, p) != kinds::BLOCK {
@@ -90,7 +91,7 @@ pub fn covers_at(image: &[u8], table: &[usize; 128], here: Here, p: usize) -> bo
     if layout::field(image, p, 0) == 1 {
         return true;
     }
-    if block_reflects(image, table, version, p) {
+    if block_reflects(tabled, version, p) {
         false
     } else {
         true
@@ -102,5 +103,9 @@ pub fn question_9(image: &[u8]) -> Option<usize>
     ensures { result ≡ first (question9 (program (records image.now))) (program (records image.now)) }
 {
     let table = lookup::versions(image);
-    pass::first_failing(image, |here, p| covers_at(image, &table, here, p))
+    let tabled = Tabled {
+        image,
+        table: &table,
+    };
+    pass::first_failing(image, |here, p| covers_at(tabled, here, p))
 }

@@ -18,8 +18,8 @@ decreases-walk_instruction l = 2 * (256 - l.b)
 
 abbrev pub invariant-walk_block-loop-at : goal.invariant-walk_block-loop-at
 invariant-walk_block-loop-at l =
-    (block_action (program (records l.image)) (version_at l.image l.v) l.b ≡ onward l.image l.v l.b l.q l.count l.i l.p (flowed l.done) (map flowed l.taken))
+    (block_action (program (records l.tabled.image.now)) (version_at l.tabled.image.now l.v) l.b ≡ onward l.tabled.image.now l.v l.b l.q l.count l.i l.p (flowed l.done) (map flowed l.taken))
     × (length l.taken ≡ 51) × (get_or (map flowed l.taken) 50 none ≡ none) × (l.i ≤ l.p)
 
 abbrev pub decreases-walk_block-loop-at : goal.decreases-walk_block-loop-at
-decreases-walk_block-loop-at l = length l.image - l.p
+decreases-walk_block-loop-at l = length l.tabled.image.now - l.p

@@ -17,9 +17,17 @@ returns-then-record-eq0 g c q a =
 pub loop-record-preserved : goal.loop-record-preserved
 loop-record-preserved g c =
     let i = c.loop-record.invariant.3 in
-    let x = given _ _ (sym i.1 ∙ c.in-Some.ensures.steps) in
-    (tt, tt, c.loop-record.invariant.2, (_, x.whole c.if-record-eq0.false, λ q a.
-        go_on (rw x.at at i.2 q a) (record { inside = x.inside; size = x.size; whole = c.if-record-eq0.false; kind = refl }) c.moved-here.ensures (sym (a _ _ _ c.asks.ensures) ∙ c.if-not-asks.false)))
+    let x = given _ _ (sym i.1 ∙ c.in-Some.ensures.steps) in (
+      tt,
+      tt,
+      c.loop-record.invariant.2,
+      (
+        _,
+        x.whole c.if-record-eq0.false,
+        λ q a.
+            go_on (rw x.at at i.2 q a) (record { inside = x.inside; size = x.size; whole = c.if-record-eq0.false; kind = refl }) c.moved-here.ensures (sym (a _ _ _ c.asks.ensures) ∙ c.if-not-asks.false),
+      ),
+    )
 
 pub returns-then-not-asks : goal.returns-then-not-asks
 returns-then-not-asks g c q a =

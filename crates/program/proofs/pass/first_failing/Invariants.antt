@@ -14,4 +14,4 @@ invariant-loop-record g l =
     × (goal.iterator-loop-record g).is_finite l.record-iterator
     × goal.F-IsAlwaysCallable g l.asks
     × ((p : ℕ) × (left l.record-iterator ≡ spots l.image p)
-        × ((q : Question) → Asks (goal.F-post g l.asks) q l.image → Asking q (first q (program (records l.image))) l.image p l.here))
+    × ((q : Question) → Asks (goal.F-post g l.asks) q l.image → Asking q (first q (program (records l.image))) l.image p l.here))

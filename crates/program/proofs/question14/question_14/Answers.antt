@@ -27,9 +27,15 @@ returns-then-not-ends_within c =
 pub loop-record-preserved : goal.loop-record-preserved
 loop-record-preserved c =
     let i = c.loop-record.invariant.2 in
-    let x = given _ _ (sym i.1 ∙ c.in-Some.ensures.steps) in
-    (tt, tt, (_, x.whole c.if-record-eq0.false,
-        go_on (record { along = rw x.at at i.2; inside = x.inside; size = x.size; whole = c.if-record-eq0.false }) _ (sym c.ends_within.ensures ∙ c.if-not-ends_within.false) (sym c.ends_after-ends.ensures)))
+    let x = given _ _ (sym i.1 ∙ c.in-Some.ensures.steps) in (
+      tt,
+      tt,
+      (
+        _,
+        x.whole c.if-record-eq0.false,
+        go_on (record { along = rw x.at at i.2; inside = x.inside; size = x.size; whole = c.if-record-eq0.false }) _ (sym c.ends_within.ensures ∙ c.if-not-ends_within.false) (sym c.ends_after-ends.ensures),
+      ),
+    )
 
 pub returns : goal.returns
 returns c =

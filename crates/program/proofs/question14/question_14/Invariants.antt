@@ -12,4 +12,4 @@ invariant-loop-record l =
     goal.iterator-loop-record.can_next l.record-iterator
     × goal.iterator-loop-record.is_finite l.record-iterator
     × ((p : ℕ) × (left l.record-iterator ≡ spots l.image p)
-        × Along ends_within ends_after nothing (question14 (records l.image)) l.image p (ends_of PLACES l.ends.digits))
+    × Along ends_within ends_after nothing (question14 (records l.image)) l.image p (ends_of PLACES l.ends.digits))

@@ -4,7 +4,6 @@ use Rattle.layout.proofs.Fields.{length-every}
 use Rattle.layout.specs.Records.{choose}
 use Rattle.program.proofs.Existence.{all_same}
 use Rattle.program.proofs.Lookups.{version-found, version-missing}
-use Rattle.program.proofs.Tables.{listed-right}
 use Rattle.program.specs.Places.{version_at}
 use Rattle.program.specs.Program.{instr_by}
 use Rattle.program.specs.Questions.{exists}
@@ -21,7 +20,7 @@ unfolding exists instr_by choose
 returns-in_default c =
     sym (and-on _ (is_below c.field.ensures.0 c.registers-registers.ensures.0 c.if-registers-field.false)
     ∙ and-on _ (sym (all_same _ 4 1 c.registers-registers.ensures.0 c.field-n.ensures.0) ∙ sym c.all_exist.ensures ∙ c.if-all_exist.true)
-    ∙ found_none _ (rw (← c.field-f.ensures.0, ← c.field-w.ensures.0) (version-missing _ _ _ (sym (c.listed.ensures ∙ listed-right _ _ _ _ c.requires) ∙ c.in_default.is))))
+    ∙ found_none _ (rw (← c.field-f.ensures.0, ← c.field-w.ensures.0) (version-missing _ _ _ (sym c.version.ensures ∙ c.in_default.is))))
 
 pub returns-in-Some : goal.returns-in-Some
 unfolding exists instr_by choose version_at
@@ -31,7 +30,7 @@ returns-in-Some c =
     ∙ and-on _ (sym (all_same _ 4 1 c.registers-registers.ensures.0 c.field-n.ensures.0) ∙ sym c.all_exist.ensures
     ∙ c.if-all_exist.true)
     ∙ found_some _ (rw (c.field-f.ensures.0, c.field-w.ensures.0) at
-    (version-found _ _ _ _ (sym (c.listed.ensures ∙ listed-right _ _ _ _ c.requires) ∙ c.in-Some.is)).0) ∙ simp length-every))
+    (version-found _ _ _ _ (sym c.version.ensures ∙ c.in-Some.is)).0) ∙ simp length-every))
 
 pub returns-else-all_exist : goal.returns-else-all_exist
 unfolding exists instr_by choose

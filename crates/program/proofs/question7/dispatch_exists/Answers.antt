@@ -2,7 +2,6 @@
 use Rattle.layout.proofs.Bools.{and-on, and-off, is_below, is-above}
 use Rattle.layout.specs.Records.{choose}
 use Rattle.program.proofs.Existence.{all_same, pairs-exist}
-use Rattle.program.proofs.Tables.{function-right}
 use Rattle.program.specs.Program.{instr_by}
 use Rattle.program.specs.Questions.{exists}
 use mathlib.Core.Path.{sym, ◌∙◌}
@@ -16,7 +15,7 @@ returns-then-registers-field c =
 pub returns-then-all_exist : goal.returns-then-all_exist
 unfolding exists instr_by choose
 returns-then-all_exist c =
-    c.has_function.ensures ∙ function-right _ _ _ c.requires
+    c.has_function.ensures
     ∙ rw c.field-then-all_exist.ensures.0
     (sym (and-on _ (is_below c.field.ensures.0 c.registers-registers.ensures.0 c.if-registers-field.false)
     ∙ and-on _ (pairs-exist _ _ 5 _ ∙ sym (all_same _ 6 2 c.registers-registers.ensures.0 c.field-2.ensures.0) ∙ sym c.all_exist.ensures ∙ c.if-all_exist.true)))

@@ -13,17 +13,17 @@ use Rattle.program.proofs.question7.instruction_exists.Goals as goal
 pub returns-in-17 : goal.returns-in-17
 unfolding exists instr_at instr_by choose all every
 returns-in-17 c =
-    c.all_exist.ensures ∙ all_same {n = 2} (body_at c.args.image.now c.args.p) 0 1 c.registers-registers.ensures.0 refl ∙ simp (sym c.kind_at.ensures ∙ c.in-17.is, and-true)
+    c.all_exist.ensures ∙ all_same {n = 2} (body_at c.args.tabled.image.now c.args.p) 0 1 c.registers-registers.ensures.0 refl ∙ simp (sym c.kind_at.ensures ∙ c.in-17.is, and-true)
 
 pub returns-in-18 : goal.returns-in-18
 unfolding exists instr_at instr_by choose all every
 returns-in-18 c =
-    c.all_exist-in-18.ensures ∙ all_same {n = 2} (body_at c.args.image.now c.args.p) 0 1 c.registers-registers.ensures.0 refl ∙ simp (sym c.kind_at.ensures ∙ c.in-18.is, and-true)
+    c.all_exist-in-18.ensures ∙ all_same {n = 2} (body_at c.args.tabled.image.now c.args.p) 0 1 c.registers-registers.ensures.0 refl ∙ simp (sym c.kind_at.ensures ∙ c.in-18.is, and-true)
 
 pub returns-in-19 : goal.returns-in-19
 unfolding exists instr_at instr_by choose all every
 returns-in-19 c =
-    c.all_exist-in-19.ensures ∙ all_same {n = 2} (body_at c.args.image.now c.args.p) 0 1 c.registers-registers.ensures.0 refl ∙ simp (sym c.kind_at.ensures ∙ c.in-19.is, and-true)
+    c.all_exist-in-19.ensures ∙ all_same {n = 2} (body_at c.args.tabled.image.now c.args.p) 0 1 c.registers-registers.ensures.0 refl ∙ simp (sym c.kind_at.ensures ∙ c.in-19.is, and-true)
 
 pub returns-in-20 : goal.returns-in-20
 unfolding instr_at
@@ -33,17 +33,17 @@ returns-in-20 c =
 pub returns-in-21 : goal.returns-in-21
 unfolding exists instr_at instr_by choose all every
 returns-in-21 c =
-    c.all_exist-in-21.ensures ∙ all_same {n = 2} (body_at c.args.image.now c.args.p) 0 1 c.registers-registers.ensures.0 refl ∙ simp (sym c.kind_at.ensures ∙ c.in-21.is, and-true)
+    c.all_exist-in-21.ensures ∙ all_same {n = 2} (body_at c.args.tabled.image.now c.args.p) 0 1 c.registers-registers.ensures.0 refl ∙ simp (sym c.kind_at.ensures ∙ c.in-21.is, and-true)
 
 pub returns-in-22 : goal.returns-in-22
 unfolding exists instr_at instr_by choose all every
 returns-in-22 c =
-    c.all_exist-in-22.ensures ∙ all_same {n = 3} (body_at c.args.image.now c.args.p) 0 1 c.registers-registers.ensures.0 refl ∙ simp (sym c.kind_at.ensures ∙ c.in-22.is, and-true)
+    c.all_exist-in-22.ensures ∙ all_same {n = 3} (body_at c.args.tabled.image.now c.args.p) 0 1 c.registers-registers.ensures.0 refl ∙ simp (sym c.kind_at.ensures ∙ c.in-22.is, and-true)
 
 pub returns-in-23 : goal.returns-in-23
 unfolding exists instr_at instr_by choose all every
 returns-in-23 c =
-    c.all_exist-in-23.ensures ∙ all_same {n = 3} (body_at c.args.image.now c.args.p) 0 1 c.registers-registers.ensures.0 refl ∙ simp (sym c.kind_at.ensures ∙ c.in-23.is, and-true)
+    c.all_exist-in-23.ensures ∙ all_same {n = 3} (body_at c.args.tabled.image.now c.args.p) 0 1 c.registers-registers.ensures.0 refl ∙ simp (sym c.kind_at.ensures ∙ c.in-23.is, and-true)
 
 pub returns-in-24 : goal.returns-in-24
 unfolding instr_at
@@ -53,12 +53,12 @@ returns-in-24 c =
 pub returns-in-25 : goal.returns-in-25
 unfolding exists instr_at instr_by choose all every
 returns-in-25 c =
-    c.all_exist-in-25.ensures ∙ all_same {n = 4} (body_at c.args.image.now c.args.p) 0 1 c.registers-registers.ensures.0 refl ∙ simp (sym c.kind_at.ensures ∙ c.in-25.is, and-true)
+    c.all_exist-in-25.ensures ∙ all_same {n = 4} (body_at c.args.tabled.image.now c.args.p) 0 1 c.registers-registers.ensures.0 refl ∙ simp (sym c.kind_at.ensures ∙ c.in-25.is, and-true)
 
 pub returns-in-26 : goal.returns-in-26
 unfolding exists instr_at instr_by choose all every
 returns-in-26 c =
-    c.all_exist-in-26.ensures ∙ all_same {n = 2} (body_at c.args.image.now c.args.p) 0 1 c.registers-registers.ensures.0 refl ∙ simp (sym c.kind_at.ensures ∙ c.in-26.is, and-true)
+    c.all_exist-in-26.ensures ∙ all_same {n = 2} (body_at c.args.tabled.image.now c.args.p) 0 1 c.registers-registers.ensures.0 refl ∙ simp (sym c.kind_at.ensures ∙ c.in-26.is, and-true)
 
 pub returns-in-27 : goal.returns-in-27
 unfolding instr_at
@@ -78,7 +78,7 @@ returns-in-29 c =
 pub returns-in-30 : goal.returns-in-30
 unfolding exists instr_at instr_by choose all every
 returns-in-30 c =
-    c.all_exist-in-30.ensures ∙ all_same {n = 2} (body_at c.args.image.now c.args.p) 0 1 c.registers-registers.ensures.0 refl ∙ simp (sym c.kind_at.ensures ∙ c.in-30.is, and-true)
+    c.all_exist-in-30.ensures ∙ all_same {n = 2} (body_at c.args.tabled.image.now c.args.p) 0 1 c.registers-registers.ensures.0 refl ∙ simp (sym c.kind_at.ensures ∙ c.in-30.is, and-true)
 
 pub returns-in-31 : goal.returns-in-31
 unfolding instr_at
@@ -103,12 +103,12 @@ returns-in-34 c =
 pub returns-in-35 : goal.returns-in-35
 unfolding exists instr_at instr_by choose all every
 returns-in-35 c =
-    c.all_exist-in-35.ensures ∙ all_same {n = 1} (body_at c.args.image.now c.args.p) 0 1 c.registers-registers.ensures.0 refl ∙ simp (sym c.kind_at.ensures ∙ c.in-35.is, and-true)
+    c.all_exist-in-35.ensures ∙ all_same {n = 1} (body_at c.args.tabled.image.now c.args.p) 0 1 c.registers-registers.ensures.0 refl ∙ simp (sym c.kind_at.ensures ∙ c.in-35.is, and-true)
 
 pub returns-in_default : goal.returns-in_default
 unfolding exists instr_at instr_by choose all every
 returns-in_default c =
-    c.all_exist-in_default.ensures ∙ all_same {n = 1} (body_at c.args.image.now c.args.p) 0 1 c.registers-registers.ensures.0 refl
+    c.all_exist-in_default.ensures ∙ all_same {n = 1} (body_at c.args.tabled.image.now c.args.p) 0 1 c.registers-registers.ensures.0 refl
     ∙ simp (
       ← c.kind_at.ensures,
       ne_eqb _ _ c.in_default.in_default-own.rest.0.0.0.0.0.0.0.0.0.0.0.0.0.0.0.0.0.0.1,

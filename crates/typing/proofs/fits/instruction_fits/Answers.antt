@@ -7,10 +7,6 @@ use borrow.Author.Tests.{ne_eqb}
 use mathlib.Core.Path.{sym, ◌∙◌}
 use Rattle.typing.proofs.fits.instruction_fits.Goals as goal
 
-pub call_fits-requires : goal.call_fits-requires
-call_fits-requires c =
-    c.requires
-
 pub returns-in-17 : goal.returns-in-17
 unfolding instr_at
 returns-in-17 c =

@@ -14,17 +14,13 @@ returns-then-kind_at-ne-CALL c =
 
 pub returns-then-image-version : goal.returns-then-image-version
 returns-then-image-version c =
-    sym (asked-outside (question18 (program (records c.args.image.now))) _ _ _ c.kind_at.ensures (omega (arith, c.if-kind_at-ne-CALL.false)) c.if-image-version.true)
+    sym (asked-outside (question18 (program (records c.args.tabled.image.now))) _ _ _ c.kind_at.ensures (omega (arith, c.if-kind_at-ne-CALL.false)) c.if-image-version.true)
 
 pub returns-then-blocks-eq0 : goal.returns-then-blocks-eq0
 returns-then-blocks-eq0 c =
-    sym (asked-before (question18 (program (records c.args.image.now))) _ _ _ c.kind_at.ensures (omega (arith, c.if-kind_at-ne-CALL.false)) c.if-blocks-eq0.true)
-
-pub call_stays_down-requires : goal.call_stays_down-requires
-call_stays_down-requires c =
-    c.requires
+    sym (asked-before (question18 (program (records c.args.tabled.image.now))) _ _ _ c.kind_at.ensures (omega (arith, c.if-kind_at-ne-CALL.false)) c.if-blocks-eq0.true)
 
 pub returns : goal.returns
 returns c =
     c.call_stays_down.ensures ∙ call_at _ _ _ _ c.kind_at.ensures c.if-kind_at-ne-CALL.false
-    ∙ sym (asked-line (question18 (program (records c.args.image.now))) _ _ _ c.kind_at.ensures (omega (arith, c.if-kind_at-ne-CALL.false)) (omega (arith, c.if-kind_at-ne-CALL.false)) c.if-image-version.false c.if-blocks-eq0.false)
+    ∙ sym (asked-line (question18 (program (records c.args.tabled.image.now))) _ _ _ c.kind_at.ensures (omega (arith, c.if-kind_at-ne-CALL.false)) (omega (arith, c.if-kind_at-ne-CALL.false)) c.if-image-version.false c.if-blocks-eq0.false)

@@ -8,24 +8,20 @@ use Rattle.typing.proofs.question8.fits_at.Goals as goal
 
 pub returns-then-kind-eq-VERSION : goal.returns-then-kind-eq-VERSION
 returns-then-kind-eq-VERSION c =
-    sym (asked-version (question8 (program (records c.args.image.now))) _ _ _ c.kind_at-kind.ensures c.if-kind-eq-VERSION.true)
+    sym (asked-version (question8 (program (records c.args.tabled.image.now))) _ _ _ c.kind_at-kind.ensures c.if-kind-eq-VERSION.true)
 
 pub returns-then-image-version : goal.returns-then-image-version
 returns-then-image-version c =
-    sym (asked-outside (question8 (program (records c.args.image.now))) _ _ _ c.kind_at-kind.ensures c.if-kind-eq-VERSION.false c.if-image-version.true)
+    sym (asked-outside (question8 (program (records c.args.tabled.image.now))) _ _ _ c.kind_at-kind.ensures c.if-kind-eq-VERSION.false c.if-image-version.true)
 
 pub returns-then-blocks-eq0 : goal.returns-then-blocks-eq0
 returns-then-blocks-eq0 c =
-    sym (asked-before (question8 (program (records c.args.image.now))) _ _ _ c.kind_at-kind.ensures c.if-kind-eq-VERSION.false c.if-blocks-eq0.true)
-
-pub instruction_fits-requires : goal.instruction_fits-requires
-instruction_fits-requires c =
-    c.requires
+    sym (asked-before (question8 (program (records c.args.tabled.image.now))) _ _ _ c.kind_at-kind.ensures c.if-kind-eq-VERSION.false c.if-blocks-eq0.true)
 
 pub returns-then-kind-eq-BLOCK : goal.returns-then-kind-eq-BLOCK
 returns-then-kind-eq-BLOCK c =
-    c.result_fits.ensures ∙ sym (asked-block (question8 (program (records c.args.image.now))) _ _ _ c.kind_at-kind.ensures c.if-kind-eq-BLOCK.true c.if-image-version.false c.if-blocks-eq0.false)
+    c.result_fits.ensures ∙ sym (asked-block (question8 (program (records c.args.tabled.image.now))) _ _ _ c.kind_at-kind.ensures c.if-kind-eq-BLOCK.true c.if-image-version.false c.if-blocks-eq0.false)
 
 pub returns-else-kind-eq-BLOCK : goal.returns-else-kind-eq-BLOCK
 returns-else-kind-eq-BLOCK c =
-    c.instruction_fits.ensures ∙ sym (asked-line (question8 (program (records c.args.image.now))) _ _ _ c.kind_at-kind.ensures c.if-kind-eq-VERSION.false c.if-kind-eq-BLOCK.false c.if-image-version.false c.if-blocks-eq0.false)
+    c.instruction_fits.ensures ∙ sym (asked-line (question8 (program (records c.args.tabled.image.now))) _ _ _ c.kind_at-kind.ensures c.if-kind-eq-VERSION.false c.if-kind-eq-BLOCK.false c.if-image-version.false c.if-blocks-eq0.false)

@@ -11,11 +11,11 @@ returns-then-image-b c =
 
 pub overflow_add-p : goal.overflow_add-p
 overflow_add-p c =
-    omega (arith, c.size_at.ensures, size_room c.args.image.now c.args.b (omega (arith, c.if-image-b.false)))
+    omega (arith, c.size_at.ensures, size_room c.args.tabled.image.now c.args.b (omega (arith, c.if-image-b.false)))
 
 pub loop-p-init : goal.loop-p-init
 loop-p-init c =
-    (omega (arith, c.size_at.ensures, size_room c.args.image.now c.args.b (omega (arith, c.if-image-b.false))), rw c.size_at.ensures)
+    (omega (arith, c.size_at.ensures, size_room c.args.tabled.image.now c.args.b (omega (arith, c.if-image-b.false))), rw c.size_at.ensures)
 
 pub returns-then-n-eq0 : goal.returns-then-n-eq0
 returns-then-n-eq0 c =
@@ -28,10 +28,6 @@ returns-then-k-eq-VERSION c =
 pub returns-then-k-eq-BLOCK : goal.returns-then-k-eq-BLOCK
 returns-then-k-eq-BLOCK c =
     sym (block-ahead _ _ _ ∙ c.loop-p.invariant.1 ∙ next-ahead _ (record { inside = c.loop-p-test.true; size = c.size_at-n.ensures; whole = c.if-n-eq0.false; kind = c.kind_at-k.ensures }) c.if-k-eq-BLOCK.true)
-
-pub reflects-requires : goal.reflects-requires
-reflects-requires c =
-    c.requires
 
 pub returns-then-reflects : goal.returns-then-reflects
 returns-then-reflects c =

@@ -10,7 +10,7 @@ use mathlib.Core.Path.{◌≡◌}
 use Rattle.typing.proofs.question9.block_reflects.Given as goal
 
 abbrev pub invariant-loop-p : goal.invariant-loop-p
-invariant-loop-p l = (l.p ≤ length l.image) × (any_ahead (reflective (program (records l.image)) (version_at l.image l.v)) l.image (past l.image l.b) ≡ any_ahead (reflective (program (records l.image)) (version_at l.image l.v)) l.image l.p)
+invariant-loop-p l = (l.p ≤ length l.tabled.image.now) × (any_ahead (reflective (program (records l.tabled.image.now)) (version_at l.tabled.image.now l.v)) l.tabled.image.now (past l.tabled.image.now l.b) ≡ any_ahead (reflective (program (records l.tabled.image.now)) (version_at l.tabled.image.now l.v)) l.tabled.image.now l.p)
 
 abbrev pub decreases-loop-p : goal.decreases-loop-p
-decreases-loop-p l = length l.image - l.p
+decreases-loop-p l = length l.tabled.image.now - l.p

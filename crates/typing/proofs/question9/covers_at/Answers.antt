@@ -11,32 +11,28 @@ use Rattle.typing.proofs.question9.covers_at.Goals as goal
 
 pub returns-then-kind_at-ne-BLOCK : goal.returns-then-kind_at-ne-BLOCK
 returns-then-kind_at-ne-BLOCK c =
-    sym (asked-no-block (question9 (program (records c.args.image.now))) _ _ _ c.kind_at.ensures c.if-kind_at-ne-BLOCK.true refl (λ v n. refl))
+    sym (asked-no-block (question9 (program (records c.args.tabled.image.now))) _ _ _ c.kind_at.ensures c.if-kind_at-ne-BLOCK.true refl (λ v n. refl))
 
 pub returns-then-image-version : goal.returns-then-image-version
 returns-then-image-version c =
-    sym (asked-outside (question9 (program (records c.args.image.now))) _ _ _ c.kind_at.ensures (omega (arith, c.if-kind_at-ne-BLOCK.false)) c.if-image-version.true)
+    sym (asked-outside (question9 (program (records c.args.tabled.image.now))) _ _ _ c.kind_at.ensures (omega (arith, c.if-kind_at-ne-BLOCK.false)) c.if-image-version.true)
 
 pub returns-then-blocks-eq0 : goal.returns-then-blocks-eq0
 returns-then-blocks-eq0 c =
-    sym (asked-before (question9 (program (records c.args.image.now))) _ _ _ c.kind_at.ensures (omega (arith, c.if-kind_at-ne-BLOCK.false)) c.if-blocks-eq0.true)
+    sym (asked-before (question9 (program (records c.args.tabled.image.now))) _ _ _ c.kind_at.ensures (omega (arith, c.if-kind_at-ne-BLOCK.false)) c.if-blocks-eq0.true)
 
 pub returns-then-field-eq1 : goal.returns-then-field-eq1
 unfolding block_at
 returns-then-field-eq1 c =
-    sym (asked-block (question9 (program (records c.args.image.now))) _ _ _ c.kind_at.ensures c.if-kind_at-ne-BLOCK.false c.if-image-version.false c.if-blocks-eq0.false ∙ covers-mark _ _ _ c.field.ensures.0 c.if-field-eq1.true)
-
-pub block_reflects-requires : goal.block_reflects-requires
-block_reflects-requires c =
-    c.requires
+    sym (asked-block (question9 (program (records c.args.tabled.image.now))) _ _ _ c.kind_at.ensures c.if-kind_at-ne-BLOCK.false c.if-image-version.false c.if-blocks-eq0.false ∙ covers-mark _ _ _ c.field.ensures.0 c.if-field-eq1.true)
 
 pub returns-then-block_reflects : goal.returns-then-block_reflects
 unfolding block_at
 returns-then-block_reflects c =
-    sym (asked-block (question9 (program (records c.args.image.now))) _ _ _ c.kind_at.ensures c.if-kind_at-ne-BLOCK.false c.if-image-version.false
+    sym (asked-block (question9 (program (records c.args.tabled.image.now))) _ _ _ c.kind_at.ensures c.if-kind_at-ne-BLOCK.false c.if-image-version.false
     c.if-blocks-eq0.false ∙ covers-not _ _ _ c.field.ensures.0 c.if-field-eq1.false (sym c.block_reflects.ensures ∙ c.if-block_reflects.true))
 
 pub returns-else-block_reflects : goal.returns-else-block_reflects
 returns-else-block_reflects c =
-    sym (asked-block (question9 (program (records c.args.image.now))) _ _ _ c.kind_at.ensures c.if-kind_at-ne-BLOCK.false c.if-image-version.false
+    sym (asked-block (question9 (program (records c.args.tabled.image.now))) _ _ _ c.kind_at.ensures c.if-kind_at-ne-BLOCK.false c.if-image-version.false
     c.if-blocks-eq0.false ∙ covers-quiet _ _ _ (sym c.block_reflects.ensures ∙ c.if-block_reflects.false))

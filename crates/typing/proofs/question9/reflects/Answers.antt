@@ -9,10 +9,6 @@ use lib.Dec.{eqb}
 use mathlib.Core.Path.{sym, ap, ◌∙◌}
 use Rattle.typing.proofs.question9.reflects.Goals as goal
 
-pub call_reflects-requires : goal.call_reflects-requires
-call_reflects-requires c =
-    c.requires
-
 pub returns-in-30 : goal.returns-in-30
 unfolding reflective instr_at instr_by choose
 returns-in-30 c =
