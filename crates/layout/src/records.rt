@@ -1,8 +1,8 @@
 //! The records of an image, one after the other.
-ghost use Rattle.std.specs.Prelude.{◌≡◌, Option};
+ghost use Rattle.std.specs.Prelude.{◌≡◌, ◌+◌, Option};
 ghost use Rattle.std.specs.Iterator.{YieldsFirst, item_count};
 ghost use Rattle.layout.specs.Left.{left, spots};
-ghost use Rattle.layout.specs.Records.{Rec, records};
+ghost use Rattle.layout.specs.Records.{Rec, records, size_at};
 ghost use Rattle.layout.specs.Scan.{Turns, along};
 
 use crate::size_at;
@@ -29,11 +29,15 @@ impl<'a> Records<'a> {
         Records { image, at: 0 }
     }
 
-    /// The records from the place `p` on.
+    /// The records behind that at the place `p`.
     pub fn behind(image: &'a [u8], p: usize) -> Self
-        ensures { left result ≡ spots image.now p }
+        ensures { left result ≡ spots image.now (p + size_at image.now p) }
     {
-        Records { image, at: p }
+        if image.len() <= p {
+            return Records { image, at: p };
+        }
+        let size = size_at(image, p);
+        Records { image, at: p + size }
     }
 }
 

@@ -6,6 +6,8 @@ ghost use Rattle.layout.specs.Kinds as kind;
 ghost use Rattle.program.specs.Program.{program, has_function, mark_of};
 ghost use Rattle.program.specs.Places.{version_at, version_place, block_place, is_line, table_of, slot_of, listed_in, function_in};
 
+use layout::records::Records;
+
 /// The entries of the table of versions: 4 for each function.
 pub const TABLE: usize = 128;
 
@@ -26,16 +28,13 @@ fn is_version(image: &[u8], p: usize, f: usize, w: usize) -> bool
 pub fn version(image: &[u8], f: usize, w: usize) -> Option<usize>
     ensures { result ≡ version_place image.now f w }
 {
-    let mut p: usize = 0;
-    while p < image.len() {
-        let n = layout::size_at(image, p);
-        if n == 0 {
+    for record in Records::of(image) {
+        if record.size == 0 {
             return None;
         }
-        if is_version(image, p, f, w) {
-            return Some(p);
+        if is_version(image, record.at, f, w) {
+            return Some(record.at);
         }
-        p += n;
     }
     None
 }
@@ -47,25 +46,20 @@ pub fn block(image: &[u8], v: usize, b: usize) -> Option<usize>
     if image.len() <= v {
         return None;
     }
-    let mut p = v + layout::size_at(image, v);
     let mut left = b;
-    while p < image.len() {
-        let n = layout::size_at(image, p);
-        if n == 0 {
+    for record in Records::behind(image, v) {
+        if record.size == 0 {
             return None;
         }
-        let k = layout::kind_at(image, p);
+        let k = layout::kind_at(image, record.at);
         if k == layout::kinds::VERSION {
             return None;
         }
         if k == layout::kinds::BLOCK {
             if left == 0 {
-                return Some(p);
+                return Some(record.at);
             }
             left -= 1;
-            p += n;
-        } else {
-            p += n;
         }
     }
     None
@@ -160,19 +154,14 @@ pub fn not_above(image: &[u8], v: usize, own: usize) -> bool
 fn search_function(image: &[u8], f: usize) -> bool
     ensures { result ≡ has_function f (program (records image.now)) }
 {
-    let mut p: usize = 0;
-    while p < image.len() {
-        let n = layout::size_at(image, p);
-        if n == 0 {
+    for record in Records::of(image) {
+        if record.size == 0 {
             return false;
         }
-        if layout::kind_at(image, p) == layout::kinds::VERSION {
-            if layout::field(image, p, 0) == f {
+        if layout::kind_at(image, record.at) == layout::kinds::VERSION {
+            if layout::field(image, record.at, 0) == f {
                 return true;
             }
-            p += n;
-        } else {
-            p += n;
         }
     }
     false
@@ -184,22 +173,15 @@ pub fn versions(image: &[u8]) -> [usize; 128]
 {
     let end = image.len();
     let mut table = [end; 128];
-    let mut p: usize = 0;
-    while p < image.len() {
-        let n = layout::size_at(image, p);
-        if n == 0 {
+    for record in Records::of(image) {
+        if record.size == 0 {
             return table;
         }
-        let k = slot(image, p);
+        let k = slot(image, record.at);
         if k < TABLE {
             if table[k] == end {
-                table[k] = p;
-                p += n;
-            } else {
-                p += n;
+                table[k] = record.at;
             }
-        } else {
-            p += n;
         }
     }
     table

@@ -4,10 +4,13 @@ use Rattle.program.proofs.Lookups.{block_from}
 use Rattle.program.specs.Places.{block_place}
 use lib.ListN.{length}
 use mathlib.Core.Path.{◌≡◌}
+use Rattle.layout.specs.Left.{left, spots}
+use Prim.Native.Nat.{ℕ}
 use Rattle.program.proofs.lookup.block.Given as goal
 
-abbrev pub invariant-loop-p : goal.invariant-loop-p
-invariant-loop-p l = (l.p ≤ length l.image) × (block_place l.image l.v l.b ≡ block_from l.image l.p l.left)
-
-abbrev pub decreases-loop-p : goal.decreases-loop-p
-decreases-loop-p l = length l.image - l.p
+abbrev pub invariant-loop-record : goal.invariant-loop-record
+invariant-loop-record l =
+    goal.iterator-loop-record.can_next l.record-iterator
+    × goal.iterator-loop-record.is_finite l.record-iterator
+    × ((p : ℕ) × (left l.record-iterator ≡ spots l.image p)
+        × (block_place l.image l.v l.b ≡ block_from l.image p l.left))
