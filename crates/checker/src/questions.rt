@@ -7,6 +7,7 @@ ghost use Rattle.checker.specs.Verdicts.{from2, from3, from4, from5, from6, from
 use crate::Verdict;
 use flow::question10;
 use layout::Form;
+use layout::records::Records;
 use program::{question7, question14};
 use typing::{question6, question8, question9, question18};
 
@@ -14,18 +15,13 @@ use typing::{question6, question8, question9, question18};
 fn count_versions(image: &[u8]) -> usize
     ensures { result ≡ length (program (records image.now)) }
 {
-    let mut p: usize = 0;
     let mut count: usize = 0;
-    while p < image.len() {
-        let n = layout::size_at(image, p);
-        if n == 0 {
+    for record in Records::of(image) {
+        if record.size == 0 {
             return count;
         }
-        if layout::kind_at(image, p) == layout::kinds::VERSION {
+        if layout::kind_at(image, record.at) == layout::kinds::VERSION {
             count += 1;
-            p += n;
-        } else {
-            p += n;
         }
     }
     count

@@ -9,6 +9,7 @@ ghost use Rattle.checker.specs.Reports.{counts, counts_of, spaced, version_line,
 
 use crate::{Counts, Line, Verdict, questions};
 use layout::Form;
+use layout::records::Records;
 
 /// The counts of registers in each set of the body of the version at `v`.
 fn counts_at(image: &[u8], v: usize) -> Counts
@@ -64,18 +65,13 @@ fn lines_length(image: &[u8]) -> usize
     requires { length image.now ≤ IMAGE }
     ensures { (result ≡ length (version_lines (program (records image.now)) (program (records image.now)))) × (result ≤ 128 * IMAGE) }
 {
-    let mut p: usize = 0;
     let mut total: usize = 0;
-    while p < image.len() {
-        let n = layout::size_at(image, p);
-        if n == 0 {
+    for record in Records::of(image) {
+        if record.size == 0 {
             return total;
         }
-        if layout::kind_at(image, p) == layout::kinds::VERSION {
-            total += line_length(line_at(image, p));
-            p += n;
-        } else {
-            p += n;
+        if layout::kind_at(image, record.at) == layout::kinds::VERSION {
+            total += line_length(line_at(image, record.at));
         }
     }
     total
@@ -130,18 +126,13 @@ fn put_lines(image: &[u8], out: &mut [u8]) -> usize
     ensures { (result ≡ length (version_lines (program (records image.now)) (program (records image.now))))
         × (out.new ≡ placed out.old 0 (version_lines (program (records image.now)) (program (records image.now)))) }
 {
-    let mut p: usize = 0;
     let mut at: usize = 0;
-    while p < image.len() {
-        let n = layout::size_at(image, p);
-        if n == 0 {
+    for record in Records::of(image) {
+        if record.size == 0 {
             return at;
         }
-        if layout::kind_at(image, p) == layout::kinds::VERSION {
-            at = put_line(out, at, line_at(image, p));
-            p += n;
-        } else {
-            p += n;
+        if layout::kind_at(image, record.at) == layout::kinds::VERSION {
+            at = put_line(out, at, line_at(image, record.at));
         }
     }
     at

@@ -72,8 +72,8 @@ module _ (s : List ℕ) (q : ℕ) {x : Spot} {xs : List Spot} (e : spots s q ≡
   given = record { at = given-at; inside = rw given-at at given-inside; size = rw given-at at given-size; whole = λ z. rw given-at at (given-whole z) }
 
 -- nothing is left past the end alone
-pub none_left : (s : List ℕ) (q : ℕ) → spots s q ≡ [] → length s ≤ q
-none_left s q e = go (ltb q (length s)) refl
+pub exhausted : (s : List ℕ) (q : ℕ) → spots s q ≡ [] → length s ≤ q
+exhausted s q e = go (ltb q (length s)) refl
   where
     go : (b : Bool) → ltb q (length s) ≡ b → length s ≤ q
     go true f = let z : ◌≡◌ {A = ℕ} 0 (suc (length (map spot (cond (eqb (size_at s q) 0) [] (rest s (q + size_at s q)))))) = ap length (sym e ∙ spots-cons s q (ltb-true q (length s) f)) in absurd (omega (arith, z))

@@ -10,6 +10,7 @@ ghost use Rattle.program.specs.Questions.{exists, names_block, namings, block_na
 
 use crate::lookup::Tabled;
 use crate::{Here, lookup, pass};
+use layout::records::Records;
 use layout::{bounds, kinds};
 
 /// Are `n` fields of the record at `p` below `registers`, from the field `from` on, each `step` behind the one before?
@@ -209,30 +210,22 @@ fn count_namings(image: &[u8], v: usize, b: usize) -> usize
     if image.len() <= v {
         return 0;
     }
-    let mut p = v + layout::size_at(image, v);
     let mut count: usize = 0;
     let mut begun = false;
-    while p < image.len() {
-        let n = layout::size_at(image, p);
-        if n == 0 {
+    for record in Records::behind(image, v) {
+        if record.size == 0 {
             return count;
         }
-        let k = layout::kind_at(image, p);
+        let k = layout::kind_at(image, record.at);
         if k == kinds::VERSION {
             return count;
         }
         if k == kinds::BLOCK {
             begun = true;
-            p += n;
         } else if begun {
-            if names_block(image, p, b) {
+            if names_block(image, record.at, b) {
                 count += 1;
-                p += n;
-            } else {
-                p += n;
             }
-        } else {
-            p += n;
         }
     }
     count

@@ -11,6 +11,7 @@ ghost use Rattle.rules.specs.Questions.{question9};
 
 use crate::{registers, types};
 use layout::kinds;
+use layout::records::Records;
 use program::lookup::Tabled;
 use program::{Here, lookup, pass};
 
@@ -50,23 +51,20 @@ fn block_reflects(tabled: Tabled, v: usize, b: usize) -> bool
     if image.len() <= b {
         return false;
     }
-    let mut p = b + layout::size_at(image, b);
-    while p < image.len() {
-        let n = layout::size_at(image, p);
-        if n == 0 {
+    for record in Records::behind(image, b) {
+        if record.size == 0 {
             return false;
         }
-        let k = layout::kind_at(image, p);
+        let k = layout::kind_at(image, record.at);
         if k == kinds::VERSION {
             return false;
         }
         if k == kinds::BLOCK {
             return false;
         }
-        if reflects(tabled, v, p) {
+        if reflects(tabled, v, record.at) {
             return true;
         }
-        p += n;
     }
     false
 }

@@ -1,55 +1,46 @@
 use Rattle.checker.proofs.Asks.{none_ahead, one-ahead, same_ahead}
 use Rattle.layout.proofs.Walk.{size_in}
 use Rattle.program.proofs.Views.{view-end, view-past}
-use mathlib.Core.Path.{sym, ◌∙◌}
+use mathlib.Core.Path.{sym, ◌∙◌, ap}
 use native.Mathlib.Nat.{zero-add, add-zero}
 use native.Mathlib.Omega.{arith}
+use Rattle.layout.proofs.Left.{given, exhausted}
+use Rattle.layout.specs.Left.{left}
 use Rattle.checker.proofs.questions.count_versions.Goals as goal
 
-pub loop-p-init : goal.loop-p-init
-loop-p-init c =
-    (omega arith, omega arith, sym (zero-add _))
+pub loop-record-init : goal.loop-record-init
+loop-record-init c =
+    (tt, tt, (0, ap left c.into_iter-record-iterator.ensures.into_iter_gives ∙ c.of-record-items.ensures, omega arith, sym (zero-add _)))
 
-pub returns-then-n-eq0 : goal.returns-then-n-eq0
-returns-then-n-eq0 c =
-    sym (c.loop-p.invariant.2 ∙ rw (none_ahead _ _ (view-past _ _ (sym c.size_at-n.ensures ∙ c.if-n-eq0.true)), add-zero))
+pub returns-then-record-eq0 : goal.returns-then-record-eq0
+returns-then-record-eq0 c =
+    let i = c.loop-record.invariant.2 in
+    let x = given _ _ (sym i.1 ∙ c.in-Some.ensures.steps) in
+    sym ((rw x.at at i.3) ∙ rw (none_ahead _ _ (view-past _ _ (sym x.size ∙ c.if-record-eq0.true)), add-zero))
 
 pub overflow_add-count : goal.overflow_add-count
 overflow_add-count c =
-    omega (arith, c.loop-p.invariant.0, c.loop-p.invariant.1, c.loop-p-test.true)
+    let i = c.loop-record.invariant.2 in
+    let x = given _ _ (sym i.1 ∙ c.in-Some.ensures.steps) in
+    omega (arith, x.inside, (rw x.at at i.2), x.inside)
 
-pub overflow_add-p : goal.overflow_add-p
-overflow_add-p c =
-    omega (arith, size_in _ _ c.size_at-n.ensures c.if-n-eq0.false)
+pub loop-record-preserved-then-kind_at-eq-VERSION : goal.loop-record-preserved-then-kind_at-eq-VERSION
+loop-record-preserved-then-kind_at-eq-VERSION c =
+    let i = c.loop-record.invariant.2 in
+    let x = given _ _ (sym i.1 ∙ c.in-Some.ensures.steps) in
+    (tt, tt, (_, x.whole c.if-record-eq0.false, omega (arith, (rw x.at at i.2), c.if-record-eq0.false),
+  (rw x.at at i.3)
+      ∙ rw (one-ahead (record { inside = x.inside; size = x.size; whole = c.if-record-eq0.false; kind = c.kind_at.ensures }) c.if-kind_at-eq-VERSION.true) (omega arith)))
 
-pub loop-p-smaller-then-kind_at-eq-VERSION : goal.loop-p-smaller-then-kind_at-eq-VERSION
-loop-p-smaller-then-kind_at-eq-VERSION c =
-    omega (arith, c.if-n-eq0.false, c.loop-p-test.true)
-
-pub loop-p-preserved-then-kind_at-eq-VERSION : goal.loop-p-preserved-then-kind_at-eq-VERSION
-loop-p-preserved-then-kind_at-eq-VERSION c = (
-  omega (arith, size_in _ _ c.size_at-n.ensures c.if-n-eq0.false),
-  omega (arith, c.loop-p.invariant.1, c.if-n-eq0.false),
-  c.loop-p.invariant.2
-      ∙ rw (one-ahead (record { inside = c.loop-p-test.true; size = c.size_at-n.ensures; whole = c.if-n-eq0.false; kind = c.kind_at.ensures }) c.if-kind_at-eq-VERSION.true) (omega arith),
-)
-
-pub overflow_add-p-else-kind_at-eq-VERSION : goal.overflow_add-p-else-kind_at-eq-VERSION
-overflow_add-p-else-kind_at-eq-VERSION c =
-    omega (arith, size_in _ _ c.size_at-n.ensures c.if-n-eq0.false)
-
-pub loop-p-smaller : goal.loop-p-smaller
-loop-p-smaller c =
-    omega (arith, c.if-n-eq0.false, c.loop-p-test.true)
-
-pub loop-p-preserved : goal.loop-p-preserved
-loop-p-preserved c = (
-  omega (arith, size_in _ _ c.size_at-n.ensures c.if-n-eq0.false),
-  omega (arith, c.loop-p.invariant.1),
-  c.loop-p.invariant.2
-      ∙ rw (same_ahead (record { inside = c.loop-p-test.true; size = c.size_at-n.ensures; whole = c.if-n-eq0.false; kind = c.kind_at.ensures }) c.if-kind_at-eq-VERSION.false),
-)
+pub loop-record-preserved : goal.loop-record-preserved
+loop-record-preserved c =
+    let i = c.loop-record.invariant.2 in
+    let x = given _ _ (sym i.1 ∙ c.in-Some.ensures.steps) in
+    (tt, tt, (_, x.whole c.if-record-eq0.false, omega (arith, (rw x.at at i.2)),
+  (rw x.at at i.3)
+      ∙ rw (same_ahead (record { inside = x.inside; size = x.size; whole = c.if-record-eq0.false; kind = c.kind_at.ensures }) c.if-kind_at-eq-VERSION.false)))
 
 pub returns : goal.returns
 returns c =
-    sym (c.loop-p.invariant.2 ∙ rw (none_ahead _ _ (view-end _ _ c.loop-p-test.false), add-zero))
+    let i = c.loop-record.invariant.2 in
+    sym (i.3 ∙ rw (none_ahead _ _ (view-end _ _ (exhausted _ _ (sym i.1 ∙ c.in-None.ensures.steps.0))), add-zero))

@@ -6,10 +6,13 @@ use Rattle.layout.specs.Records.{records}
 use Rattle.program.specs.Program.{program}
 use lib.ListN.{length}
 use mathlib.Core.Path.{◌≡◌}
+use Rattle.layout.specs.Left.{left, spots}
+use Prim.Native.Nat.{ℕ}
 use Rattle.checker.proofs.report.lines_length.Given as goal
 
-abbrev pub invariant-loop-p : goal.invariant-loop-p
-invariant-loop-p l = (l.p ≤ length l.image) × (l.total ≤ 128 * l.p) × (length (version_lines (program (records l.image)) (program (records l.image))) ≡ l.total + length (lines_ahead (program (records l.image)) l.image l.p))
-
-abbrev pub decreases-loop-p : goal.decreases-loop-p
-decreases-loop-p l = length l.image - l.p
+abbrev pub invariant-loop-record : goal.invariant-loop-record
+invariant-loop-record l =
+    goal.iterator-loop-record.can_next l.record-iterator
+    × goal.iterator-loop-record.is_finite l.record-iterator
+    × ((p : ℕ) × (left l.record-iterator ≡ spots l.image p)
+        × (p ≤ length l.image) × (l.total ≤ 128 * p) × (length (version_lines (program (records l.image)) (program (records l.image))) ≡ l.total + length (lines_ahead (program (records l.image)) l.image p)))

@@ -12,76 +12,69 @@ use lib.ListN.{length}
 use mathlib.Core.Path.{refl, sym, ap, ◌∙◌}
 use native.Mathlib.Nat.{zero-add}
 use native.Mathlib.Omega.{arith}
+use Rattle.layout.proofs.Left.{given, exhausted}
+use Rattle.layout.specs.Left.{left}
 use Rattle.checker.proofs.report.put_lines.Goals as goal
 
-pub loop-p-init : goal.loop-p-init
-loop-p-init c =
-    (omega arith, refl, writing-first _ _)
+pub loop-record-init : goal.loop-record-init
+loop-record-init c =
+    (tt, tt, (0, ap left c.into_iter-record-iterator.ensures.into_iter_gives ∙ c.of-record-items.ensures, refl, writing-first _ _))
 
-pub shape_of-out-then-n-eq0 : goal.shape_of-out-then-n-eq0
-shape_of-out-then-n-eq0 c =
-    c.loop-p.invariant.1
+pub shape_of-out-then-record-eq0 : goal.shape_of-out-then-record-eq0
+shape_of-out-then-record-eq0 c =
+    let i = c.loop-record.invariant.2 in
+    i.2
 
-pub returns-then-n-eq0 : goal.returns-then-n-eq0
-returns-then-n-eq0 c =
-    let w = writing-last (writing-as (none_left (program (records c.args.image.now)) _ _ (view-past _ _ (sym c.size_at-n.ensures ∙ c.if-n-eq0.true))) c.loop-p.invariant.2) in
+pub returns-then-record-eq0 : goal.returns-then-record-eq0
+returns-then-record-eq0 c =
+    let i = c.loop-record.invariant.2 in
+    let x = given _ _ (sym i.1 ∙ c.in-Some.ensures.steps) in
+    let w = writing-last (writing-as (none_left (program (records c.args.image.now)) _ _ (view-past _ _ (sym x.size ∙ c.if-record-eq0.true))) (rw x.at at i.3)) in
     (w.ends ∙ zero-add _, w.writes)
 
 pub put_line-at-requires : goal.put_line-at-requires
 put_line-at-requires c =
-    rw (c.line_at.ensures, c.loop-p.invariant.1)
-    (writing-fits (version_line (program (records c.args.image.now)) (version_at c.args.image.now c.loop-p.p))
-    (lines_ahead (program (records c.args.image.now)) c.args.image.now (c.loop-p.p + c.size_at-n.result))
+    let i = c.loop-record.invariant.2 in
+    let x = given _ _ (sym i.1 ∙ c.in-Some.ensures.steps) in
+    rw (c.line_at.ensures, i.2)
+    (writing-fits (version_line (program (records c.args.image.now)) (version_at c.args.image.now c.in-Some.record.at))
+    (lines_ahead (program (records c.args.image.now)) c.args.image.now (c.in-Some.record.at + c.in-Some.record.size))
     (writing-as (line-left (program (records c.args.image.now))
-    (record { inside = c.loop-p-test.true; size = c.size_at-n.ensures; whole = c.if-n-eq0.false; kind = c.kind_at.ensures }) c.if-kind_at-eq-VERSION.true) c.loop-p.invariant.2)
+    (record { inside = x.inside; size = x.size; whole = c.if-record-eq0.false; kind = c.kind_at.ensures }) c.if-kind_at-eq-VERSION.true) (rw x.at at i.3))
     c.requires)
 
-pub overflow_add-p : goal.overflow_add-p
-overflow_add-p c =
-    omega (arith, size_in _ _ c.size_at-n.ensures c.if-n-eq0.false)
-
-pub loop-p-smaller-then-kind_at-eq-VERSION : goal.loop-p-smaller-then-kind_at-eq-VERSION
-loop-p-smaller-then-kind_at-eq-VERSION c =
-    omega (arith, c.if-n-eq0.false, c.loop-p-test.true)
-
-pub loop-p-preserved-then-kind_at-eq-VERSION : goal.loop-p-preserved-then-kind_at-eq-VERSION
-loop-p-preserved-then-kind_at-eq-VERSION c = (
-  omega (arith, size_in _ _ c.size_at-n.ensures c.if-n-eq0.false),
-  ap length c.put_line-at.ensures.1 ∙ placed-length _ _ _
-      ∙ c.loop-p.invariant.1,
+pub loop-record-preserved-then-kind_at-eq-VERSION : goal.loop-record-preserved-then-kind_at-eq-VERSION
+loop-record-preserved-then-kind_at-eq-VERSION c =
+    let i = c.loop-record.invariant.2 in
+    let x = given _ _ (sym i.1 ∙ c.in-Some.ensures.steps) in
+    (tt, tt, (_, x.whole c.if-record-eq0.false, ap length c.put_line-at.ensures.1 ∙ placed-length _ _ _
+      ∙ i.2,
   writing-next
       (version_line (program (records c.args.image.now))
-      (version_at c.args.image.now c.loop-p.p))
+      (version_at c.args.image.now c.in-Some.record.at))
       (lines_ahead (program (records c.args.image.now)) c.args.image.now
-      (c.loop-p.p + c.size_at-n.result))
+      (c.in-Some.record.at + c.in-Some.record.size))
       (writing-as (line-left (program (records c.args.image.now))
-      (record { inside = c.loop-p-test.true; size = c.size_at-n.ensures; whole = c.if-n-eq0.false; kind = c.kind_at.ensures })
-      c.if-kind_at-eq-VERSION.true) c.loop-p.invariant.2) c.requires
-      (record { writes = rw c.line_at.ensures at c.put_line-at.ensures.1; ends = rw c.line_at.ensures at c.put_line-at.ensures.0 }),
-)
+      (record { inside = x.inside; size = x.size; whole = c.if-record-eq0.false; kind = c.kind_at.ensures })
+      c.if-kind_at-eq-VERSION.true) (rw x.at at i.3)) c.requires
+      (record { writes = rw c.line_at.ensures at c.put_line-at.ensures.1; ends = rw c.line_at.ensures at c.put_line-at.ensures.0 })))
 
-pub overflow_add-p-else-kind_at-eq-VERSION : goal.overflow_add-p-else-kind_at-eq-VERSION
-overflow_add-p-else-kind_at-eq-VERSION c =
-    omega (arith, size_in _ _ c.size_at-n.ensures c.if-n-eq0.false)
-
-pub loop-p-smaller : goal.loop-p-smaller
-loop-p-smaller c =
-    omega (arith, c.if-n-eq0.false, c.loop-p-test.true)
-
-pub loop-p-preserved : goal.loop-p-preserved
-loop-p-preserved c = (
-  omega (arith, size_in _ _ c.size_at-n.ensures c.if-n-eq0.false),
-  c.loop-p.invariant.1,
+pub loop-record-preserved : goal.loop-record-preserved
+loop-record-preserved c =
+    let i = c.loop-record.invariant.2 in
+    let x = given _ _ (sym i.1 ∙ c.in-Some.ensures.steps) in
+    (tt, tt, (_, x.whole c.if-record-eq0.false, i.2,
   writing-as
-      (same_left (program (records c.args.image.now)) (record { inside = c.loop-p-test.true; size = c.size_at-n.ensures; whole = c.if-n-eq0.false; kind = c.kind_at.ensures }) c.if-kind_at-eq-VERSION.false)
-      c.loop-p.invariant.2,
-)
+      (same_left (program (records c.args.image.now)) (record { inside = x.inside; size = x.size; whole = c.if-record-eq0.false; kind = c.kind_at.ensures }) c.if-kind_at-eq-VERSION.false)
+      (rw x.at at i.3)))
 
 pub shape_of-out : goal.shape_of-out
 shape_of-out c =
-    c.loop-p.invariant.1
+    let i = c.loop-record.invariant.2 in
+    i.2
 
 pub returns : goal.returns
 returns c =
-    let w = writing-last (writing-as (none_left (program (records c.args.image.now)) _ _ (view-end _ _ c.loop-p-test.false)) c.loop-p.invariant.2) in
+    let i = c.loop-record.invariant.2 in
+    let w = writing-last (writing-as (none_left (program (records c.args.image.now)) _ _ (view-end _ _ (exhausted _ _ (sym i.1 ∙ c.in-None.ensures.steps.0)))) i.3) in
     (w.ends ∙ zero-add _, w.writes)

@@ -7,10 +7,13 @@ use Rattle.layout.specs.Records.{records}
 use Rattle.program.specs.Program.{program}
 use lib.ListN.{length}
 use mathlib.Core.Path.{◌≡◌}
+use Rattle.layout.specs.Left.{left, spots}
+use Prim.Native.Nat.{ℕ}
 use Rattle.checker.proofs.report.put_lines.Given as goal
 
-abbrev pub invariant-loop-p : goal.invariant-loop-p
-invariant-loop-p l = (l.p ≤ length l.image) × (length l.out ≡ length l.initial.out) × Writing (version_lines (program (records l.image)) (program (records l.image))) (lines_ahead (program (records l.image)) l.image l.p) l.initial.out l.out l.at
-
-abbrev pub decreases-loop-p : goal.decreases-loop-p
-decreases-loop-p l = length l.image - l.p
+abbrev pub invariant-loop-record : goal.invariant-loop-record
+invariant-loop-record l =
+    goal.iterator-loop-record.can_next l.record-iterator
+    × goal.iterator-loop-record.is_finite l.record-iterator
+    × ((p : ℕ) × (left l.record-iterator ≡ spots l.image p)
+        × (length l.out ≡ length l.initial.out) × Writing (version_lines (program (records l.image)) (program (records l.image))) (lines_ahead (program (records l.image)) l.image p) l.initial.out l.out l.at)

@@ -1,5 +1,5 @@
 use Rattle.std.proofs.Common.{sym, ◌∙◌}
-use Rattle.layout.proofs.Left.{given, none_left, stands}
+use Rattle.layout.proofs.Left.{given, exhausted, stands}
 use Rattle.layout.proofs.Along.{along-end, along-broken, along-stopped, along-passed}
 use Rattle.layout.proofs.records.along.Goals as goal
 
@@ -23,4 +23,4 @@ loop-record-preserved g c =
 pub returns : goal.returns
 returns g c t m =
     let i = c.loop-record.invariant.3 in
-    sym (i.2 t m ∙ along-end t _ _ _ (none_left _ _ (sym i.1 ∙ c.in-None.ensures.steps.0)))
+    sym (i.2 t m ∙ along-end t _ _ _ (exhausted _ _ (sym i.1 ∙ c.in-None.ensures.steps.0)))

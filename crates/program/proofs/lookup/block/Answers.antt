@@ -3,7 +3,7 @@ use Rattle.program.proofs.Views.{view-end, view-past}
 use Rattle.program.specs.Places.{block_place, version_at}
 use mathlib.Core.Path.{refl, sym, ◌∙◌, ap}
 use native.Mathlib.Omega.{arith}
-use Rattle.layout.proofs.Left.{given, none_left}
+use Rattle.layout.proofs.Left.{given, exhausted}
 use Rattle.layout.specs.Left.{left}
 use Rattle.program.proofs.lookup.block.Goals as goal
 
@@ -56,4 +56,4 @@ loop-record-preserved c =
 pub returns : goal.returns
 returns c =
     let i = c.loop-record.invariant.2 in
-    sym (i.2 ∙ block-nowhere _ _ _ (view-end _ _ (none_left _ _ (sym i.1 ∙ c.in-None.ensures.steps.0))))
+    sym (i.2 ∙ block-nowhere _ _ _ (view-end _ _ (exhausted _ _ (sym i.1 ∙ c.in-None.ensures.steps.0))))

@@ -3,7 +3,7 @@ use Rattle.program.proofs.Tables.{filled-empty, filled-last, filled-past, filled
 use Rattle.program.proofs.Views.{view-end, view-past}
 use mathlib.Core.Path.{refl, sym, ◌∙◌, ap}
 use native.Mathlib.Omega.{arith}
-use Rattle.layout.proofs.Left.{given, none_left}
+use Rattle.layout.proofs.Left.{given, exhausted}
 use Rattle.layout.specs.Left.{left}
 use Rattle.program.proofs.lookup.versions.Goals as goal
 
@@ -59,4 +59,4 @@ loop-record-preserved c =
 pub returns : goal.returns
 returns c =
     let i = c.loop-record.invariant.2 in
-    filled-last _ _ _ i.3 (view-end _ _ (none_left _ _ (sym i.1 ∙ c.in-None.ensures.steps.0)))
+    filled-last _ _ _ i.3 (view-end _ _ (exhausted _ _ (sym i.1 ∙ c.in-None.ensures.steps.0)))

@@ -1,6 +1,6 @@
 use Rattle.std.proofs.Common.{refl, sym, ap, ◌∙◌}
 use Rattle.layout.specs.Left.{left}
-use Rattle.layout.proofs.Left.{given, none_left}
+use Rattle.layout.proofs.Left.{given, exhausted}
 use Rattle.program.proofs.Passes.{start, at-end, at-broken, say-no, go_on}
 use Rattle.program.proofs.pass.first_failing.Goals as goal
 
@@ -38,4 +38,4 @@ returns-then-not-asks g c q a =
 pub returns : goal.returns
 returns g c q a =
     let i = c.loop-record.invariant.3 in
-    at-end (i.2 q a) (none_left _ _ (sym i.1 ∙ c.in-None.ensures.steps.0))
+    at-end (i.2 q a) (exhausted _ _ (sym i.1 ∙ c.in-None.ensures.steps.0))

@@ -2,7 +2,7 @@
 use Rattle.std.proofs.Common.{sym, ap, ◌∙◌, arith}
 use Rattle.layout.specs.Left.{left}
 use Rattle.layout.specs.Records.{records}
-use Rattle.layout.proofs.Left.{given, none_left}
+use Rattle.layout.proofs.Left.{given, exhausted}
 use Rattle.layout.proofs.Walk.{ended, broken, say-no, go_on}
 use Rattle.program.specs.Skips.{question14}
 use Rattle.program.proofs.question14.question_14.Goals as goal
@@ -40,4 +40,4 @@ loop-record-preserved c =
 pub returns : goal.returns
 returns c =
     let i = c.loop-record.invariant.2 in
-    ended i.2 (none_left _ _ (sym i.1 ∙ c.in-None.ensures.steps.0))
+    ended i.2 (exhausted _ _ (sym i.1 ∙ c.in-None.ensures.steps.0))

@@ -7,10 +7,13 @@ use Rattle.typing.proofs.Lines.{any_ahead}
 use Rattle.rules.specs.Effects.{reflective}
 use lib.ListN.{length}
 use mathlib.Core.Path.{◌≡◌}
+use Rattle.layout.specs.Left.{left, spots}
+use Prim.Native.Nat.{ℕ}
 use Rattle.typing.proofs.question9.block_reflects.Given as goal
 
-abbrev pub invariant-loop-p : goal.invariant-loop-p
-invariant-loop-p l = (l.p ≤ length l.tabled.image.now) × (any_ahead (reflective (program (records l.tabled.image.now)) (version_at l.tabled.image.now l.v)) l.tabled.image.now (past l.tabled.image.now l.b) ≡ any_ahead (reflective (program (records l.tabled.image.now)) (version_at l.tabled.image.now l.v)) l.tabled.image.now l.p)
-
-abbrev pub decreases-loop-p : goal.decreases-loop-p
-decreases-loop-p l = length l.tabled.image.now - l.p
+abbrev pub invariant-loop-record : goal.invariant-loop-record
+invariant-loop-record l =
+    goal.iterator-loop-record.can_next l.record-iterator
+    × goal.iterator-loop-record.is_finite l.record-iterator
+    × ((p : ℕ) × (left l.record-iterator ≡ spots l.tabled.image.now p)
+        × (any_ahead (reflective (program (records l.tabled.image.now)) (version_at l.tabled.image.now l.v)) l.tabled.image.now (past l.tabled.image.now l.b) ≡ any_ahead (reflective (program (records l.tabled.image.now)) (version_at l.tabled.image.now l.v)) l.tabled.image.now p))
