@@ -1,8 +1,7 @@
 -- Answers as numbers, field by field as include/fir.h has them.
-use Rattle.std.specs.Prelude.{cond, List, ℕ, ◌+◌, ◌*◌, eqb, ℤ, pos}
+use Rattle.std.specs.Prelude.{cond, List, ℕ, ◌+◌, ◌*◌, eqb, ℤ, pos, Err, Ok}
 use Rattle.layout.specs.declared.Form.{Form}
 use Rattle.bounds.specs.declared.Bounding.{Bounding}
-use Rattle.checker.specs.declared.Verdict.{Verdict}
 use Rattle.joins.specs.declared.Joined.{Joined}
 use Rattle.loaded.specs.declared.Loaded.{Loaded}
 use Rattle.machine.specs.Runs.{saying}
@@ -32,11 +31,12 @@ use Rattle.abi.specs.declared.answers.FirVerdict.{FirVerdict}
 use Rattle.abi.specs.declared.answers.FirVersion.{FirVersion}
 use Rattle.abi.specs.declared.answers.FirWatched.{FirWatched}
 use Rattle.abi.specs.declared.answers.FirWhere.{FirWhere}
+use Rattle.checker.specs.Verdicts.{Verdict}
 
 -- the number of versions, or the offset and the number of a refusal
 unfoldable pub verdict_numbers : Verdict → FirVerdict
-verdict_numbers (Verdict.Accepted n) = record { detail = n; question = 0 }
-verdict_numbers (Verdict.Refused q p) = record { detail = p; question = q }
+verdict_numbers (Ok n) = record { detail = n; question = 0 }
+verdict_numbers (Err why) = record { detail = why.at; question = why.question }
 
 -- a move: the length of the image in the other form, or the offset and the number of a refusal
 unfoldable pub moved_numbers : Moving → FirVerdict

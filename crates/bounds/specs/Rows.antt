@@ -1,9 +1,8 @@
 -- What is written of a report: of the row i its numbers at 2 × i and 2 × i + 1 of one array, and its bound at i of another.
-use Rattle.std.specs.Prelude.{List, [], ◌∷◌, cond, ℕ, zero, suc, ◌+◌, ◌*◌, ◌/◌, ◌%◌, length, set}
+use Rattle.std.specs.Prelude.{List, [], ◌∷◌, cond, ℕ, zero, suc, ◌+◌, ◌*◌, ◌/◌, ◌%◌, length, set, Err, Ok}
 use Rattle.layout.specs.Bounds.{VERSIONS}
 use Rattle.program.specs.Program.{Program}
-use Rattle.checker.specs.Verdicts.{verdict_of}
-use Rattle.checker.specs.declared.Verdict.{Verdict}
+use Rattle.checker.specs.Verdicts.{verdict_of, Verdict}
 use Rattle.machine.specs.Begin.{program_of}
 use Rattle.bounds.specs.Bounds.{Bound, steps, large, unbounded, Entry, report}
 use Rattle.bounds.specs.Counts.{open_at}
@@ -37,8 +36,8 @@ rest_from s known (suc n) k =
 
 -- how many rows, or the image's refusal as it is
 unfoldable pub listing : Verdict → Program → Bounding
-listing (Verdict.Accepted n) P = Bounding.Listed (length (report P))
-listing (Verdict.Refused q p) P = Bounding.Refused q p
+listing (Ok n) P = Bounding.Listed (length (report P))
+listing (Err why) P = Bounding.Refused why.question why.at
 
 -- 02, 12: what becomes of an image
 unfoldable pub bounds_of : List ℕ → Bounding

@@ -1,4 +1,5 @@
 -- 02, 14: the claims hold.
+use Rattle.std.specs.Prelude.{Err, Ok}
 use mathlib.Core.Path.{◌≡◌, refl, sym, ap, ◌∙◌, subst}
 use mathlib.Core.Logic.{inl, inr}
 use mathlib.Core.List.{List, [], ◌∷◌}
@@ -12,8 +13,7 @@ use borrow.Author.Tests.{ne_eqb, not-true, eqb-false}
 use Rattle.layout.specs.Records.{◌!◌, records}
 use Rattle.layout.proofs.Bools.{and_both, and-on}
 use Rattle.program.specs.Program.{program}
-use Rattle.checker.specs.Verdicts.{verdict_of}
-use Rattle.checker.specs.declared.Verdict.{Verdict}
+use Rattle.checker.specs.Verdicts.{verdict_of, Verdict, refused}
 use Rattle.mends.specs.declared.Change.{Change}
 use Rattle.mends.specs.declared.Change.TheVariants.{To, Nowhere}
 use Rattle.mends.specs.declared.Mended.TheVariants.{Refused, Byte, Unmended}
@@ -80,22 +80,22 @@ module _ (s : List ℕ) where
   found = first_place (mends_by s) VALUES (places (program (records s)))
 
   -- what the answer says of the verdict
-  pub answered_byte : (q r p x : ℕ) (v : Verdict) → verdict_of s ≡ v → mend_after v s ≡ Byte q r p x → (verdict_of s ≡ Verdict.Refused q r) × (mendable q ≡ true) × (found ≡ To p x)
+  pub answered_byte : (q r p x : ℕ) (v : Verdict) → verdict_of s ≡ v → mend_after v s ≡ Byte q r p x → (verdict_of s ≡ Err (refused q r)) × (mendable q ≡ true) × (found ≡ To p x)
   unfolding mend_after
-  answered_byte q r p x (Verdict.Accepted n) e f = let z : ◌≡◌ {A = ℕ} 0 1 = cc in absurd (omega arith)
-  answered_byte q r p x (Verdict.Refused a b) e f = go (mendable a) refl f
+  answered_byte q r p x (Ok n) e f = let z : ◌≡◌ {A = ℕ} 0 1 = cc in absurd (omega arith)
+  answered_byte q r p x (Err why) e f = go (mendable why.question) refl f
     where
-      go : (t : Bool) → mendable a ≡ t → cond t (beside a b found) (Refused a b) ≡ Byte q r p x → (verdict_of s ≡ Verdict.Refused q r) × (mendable q ≡ true) × (found ≡ To p x)
-      go true g h = let t = found-byte a b q r p x found h in (e ∙ rw (t.0, t.1) refl, ap mendable (sym t.0) ∙ g, t.2)
+      go : (t : Bool) → mendable why.question ≡ t → cond t (beside why.question why.at found) (Refused why.question why.at) ≡ Byte q r p x → (verdict_of s ≡ Err (refused q r)) × (mendable q ≡ true) × (found ≡ To p x)
+      go true g h = let t = found-byte why.question why.at q r p x found h in (e ∙ rw (t.0, t.1) refl, ap mendable (sym t.0) ∙ g, t.2)
       go false g h = let z : ◌≡◌ {A = ℕ} 0 1 = cc in absurd (omega arith)
 
   answered-none : (q r : ℕ) (v : Verdict) → verdict_of s ≡ v → mend_after v s ≡ Unmended q r → found ≡ Nowhere
   unfolding mend_after
-  answered-none q r (Verdict.Accepted n) e f = let z : ◌≡◌ {A = ℕ} 0 1 = cc in absurd (omega arith)
-  answered-none q r (Verdict.Refused a b) e f = go (mendable a) f
+  answered-none q r (Ok n) e f = let z : ◌≡◌ {A = ℕ} 0 1 = cc in absurd (omega arith)
+  answered-none q r (Err why) e f = go (mendable why.question) f
     where
-      go : (t : Bool) → cond t (beside a b found) (Refused a b) ≡ Unmended q r → found ≡ Nowhere
-      go true h = (found_none a b q r found h).2
+      go : (t : Bool) → cond t (beside why.question why.at found) (Refused why.question why.at) ≡ Unmended q r → found ≡ Nowhere
+      go true h = (found_none why.question why.at q r found h).2
       go false h = let z : ◌≡◌ {A = ℕ} 0 1 = cc in absurd (omega arith)
 
 -- THE LAW: a byte that is named mends

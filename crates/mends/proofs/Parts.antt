@@ -1,5 +1,5 @@
 -- What the parts of the search for a mend know on their way.
-use Rattle.std.specs.Prelude.{None}
+use Rattle.std.specs.Prelude.{None, Err, Ok}
 use mathlib.Core.Path.{◌≡◌, refl, sym, ap, ◌∙◌, subst}
 use mathlib.Core.Logic.{inl, inr}
 use mathlib.Core.List.{List, [], ◌∷◌, ◌++◌, flat_map, append-nil}
@@ -26,8 +26,7 @@ use Rattle.program.proofs.Laid.{passed}
 use Rattle.program.proofs.Views.{Whole, at-version, view-end, view-past}
 use Rattle.rules.specs.Types.{is_owned}
 use Rattle.rules.specs.Flows.{question10}
-use Rattle.checker.specs.Verdicts.{verdict_of}
-use Rattle.checker.specs.declared.Verdict.{Verdict}
+use Rattle.checker.specs.Verdicts.{verdict_of, refused}
 use Rattle.checker.proofs.Asks.{same_ahead}
 use Rattle.writer.specs.Text.{placed}
 use Rattle.writer.proofs.Placed.{placed-fits}
@@ -108,11 +107,11 @@ fails-first q h r s f e z = go (is_accepted (verdict_of s)) refl
     go true g = sym z ∙ e ∙ f (accepted-first s q g) ∙ sym g
     go false g = sym g
 
-pub is-accepted : (s : List ℕ) {n : ℕ} → verdict_of s ≡ Verdict.Accepted n → true ≡ is_accepted (verdict_of s)
+pub is-accepted : (s : List ℕ) {n : ℕ} → verdict_of s ≡ Ok n → true ≡ is_accepted (verdict_of s)
 unfolding is_accepted
 is-accepted s e = rw e refl
 
-pub is-refused : (s : List ℕ) {q r : ℕ} → verdict_of s ≡ Verdict.Refused q r → false ≡ is_accepted (verdict_of s)
+pub is-refused : (s : List ℕ) {q r : ℕ} → verdict_of s ≡ Err (refused q r) → false ≡ is_accepted (verdict_of s)
 unfolding is_accepted
 is-refused s e = rw e refl
 
@@ -347,14 +346,14 @@ pub beside-nowhere : (q r : ℕ) {c d : Change} → c ≡ d → c ≡ Nowhere �
 unfolding beside
 beside-nowhere q r e f = ap (beside q r) (sym f ∙ e)
 
-pub mend-accepted : (s : List ℕ) (n : ℕ) → verdict_of s ≡ Verdict.Accepted n → Accepted n ≡ mend_of s
+pub mend-accepted : (s : List ℕ) (n : ℕ) → verdict_of s ≡ Ok n → Accepted n ≡ mend_of s
 unfolding mend_of mend_after
 mend-accepted s n e = rw e refl
 
-pub mend-other : (s : List ℕ) (q r : ℕ) {b : Bool} → verdict_of s ≡ Verdict.Refused q r → b ≡ mendable q → b ≡ false → Refused q r ≡ mend_of s
+pub mend-other : (s : List ℕ) (q r : ℕ) {b : Bool} → verdict_of s ≡ Err (refused q r) → b ≡ mendable q → b ≡ false → Refused q r ≡ mend_of s
 unfolding mend_of mend_after
 mend-other s q r e f g = rw (e, sym f, g) refl
 
-pub mend-refused : (s : List ℕ) (q r : ℕ) {m : Mended} {b : Bool} → verdict_of s ≡ Verdict.Refused q r → b ≡ mendable q → b ≡ true → m ≡ beside q r (first_place (mends_by s) VALUES (places (program (records s)))) → m ≡ mend_of s
+pub mend-refused : (s : List ℕ) (q r : ℕ) {m : Mended} {b : Bool} → verdict_of s ≡ Err (refused q r) → b ≡ mendable q → b ≡ true → m ≡ beside q r (first_place (mends_by s) VALUES (places (program (records s)))) → m ≡ mend_of s
 unfolding mend_of mend_after
 mend-refused s q r e f g h = h ∙ sym (rw (e, sym f, g) refl)

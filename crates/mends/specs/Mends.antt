@@ -1,12 +1,11 @@
 -- 02, 14: the smallest mend.
 use mathlib.Core.List.{List, [], ◌∷◌, flat_map}
-use Rattle.std.specs.Prelude.{Bool, true, false, cond, not, ◌||◌, ℕ, ◌+◌, length, set, eqb}
+use Rattle.std.specs.Prelude.{Bool, true, false, cond, not, ◌||◌, ℕ, ◌+◌, length, set, eqb, Err, Ok}
 use Rattle.layout.specs.Tests.{◌and◌}
 use Rattle.layout.specs.Records.{◌!◌, records}
 use Rattle.program.specs.Program.{Version, Program, program}
 use Rattle.program.specs.Places.{numbers}
-use Rattle.checker.specs.Verdicts.{verdict_of}
-use Rattle.checker.specs.declared.Verdict.{Verdict}
+use Rattle.checker.specs.Verdicts.{verdict_of, Verdict}
 use Rattle.mends.specs.declared.Change.{Change}
 use Rattle.mends.specs.declared.Change.TheVariants.{To, Nowhere}
 use Rattle.mends.specs.declared.Mended.{Mended}
@@ -30,8 +29,8 @@ VALUES = numbers 0 256
 
 -- is the image accepted?
 unfoldable pub is_accepted : Verdict → Bool
-is_accepted (Verdict.Accepted n) = true
-is_accepted (Verdict.Refused q p) = false
+is_accepted (Ok n) = true
+is_accepted (Err why) = false
 
 -- does the byte at p, changed to x, make the image accepted?
 unfoldable pub mends_by : List ℕ → ℕ → ℕ → Bool
@@ -67,8 +66,8 @@ beside q r Nowhere = Unmended q r
 
 -- other refusals are returned as they are, and an accepted image is named accepted
 unfoldable pub mend_after : Verdict → List ℕ → Mended
-mend_after (Verdict.Accepted n) s = Accepted n
-mend_after (Verdict.Refused q r) s = cond (mendable q) (beside q r (first_place (mends_by s) VALUES (places (program (records s))))) (Refused q r)
+mend_after (Ok n) s = Accepted n
+mend_after (Err why) s = cond (mendable why.question) (beside why.question why.at (first_place (mends_by s) VALUES (places (program (records s))))) (Refused why.question why.at)
 
 -- 02, 14: the one register type byte whose change makes the image accepted
 unfoldable pub mend_of : List ℕ → Mended

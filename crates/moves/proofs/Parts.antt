@@ -1,5 +1,5 @@
 -- What a pass along the records of an image that it moves knows at each record.
-use Rattle.std.specs.Prelude.{None, Some}
+use Rattle.std.specs.Prelude.{None, Some, Err, Ok}
 use mathlib.Core.Path.{◌≡◌, refl, sym, ap, ◌∙◌}
 use Rattle.layout.specs.Found.{Found}
 use mathlib.Core.List.{List, [], ◌∷◌, ◌++◌, append_assoc}
@@ -20,8 +20,7 @@ use Rattle.layout.specs.declared.Form.{Form}
 use Rattle.layout.proofs.Printed.{body-long, record-slice}
 use Rattle.layout.proofs.Walk.{Along, ended, broken, refused, passed, rest-cons, rest_end, size-head, size_room}
 use Rattle.runs.proofs.Moved.{number-long}
-use Rattle.checker.specs.Verdicts.{verdict_in}
-use Rattle.checker.specs.declared.Verdict.{Verdict}
+use Rattle.checker.specs.Verdicts.{verdict_in, refused}
 use Rattle.checker.proofs.Accepted.{passed as all-passed}
 use Rattle.checker.proofs.Asks.{accepted-short}
 use Rattle.checker.proofs.Puts.{Put, Writing, put_as, put_then, writing-as, writing-first, writing-fits, writing-last, writing-next}
@@ -285,13 +284,13 @@ fit-says form s n places e f g = g ∙ rw (e, f) refl
 -- ---- behind the verdict
 
 module _ (form : Form) (s : List ℕ) where
-  pub ready : (k : ℕ) → ((i : ℕ) → s ! i < 256) → verdict_in form s ≡ Verdict.Accepted k → Ready form s
+  pub ready : (k : ℕ) → ((i : ℕ) → s ! i < 256) → verdict_in form s ≡ Ok k → Ready form s
   ready k b e = record { bytes = b; short = accepted-short form s k e; known = (all-passed s k e).q3 }
 
-  pub accepted-says : {r : Moving} {last : List ℕ} (k : ℕ) (out : List ℕ) → verdict_in form s ≡ Verdict.Accepted k → r ≡ from16 form s (length out) → last ≡ leaves r out (moved form (records s)) → (r ≡ move_of form s (length out)) × (last ≡ buffer_after form s out)
+  pub accepted-says : {r : Moving} {last : List ℕ} (k : ℕ) (out : List ℕ) → verdict_in form s ≡ Ok k → r ≡ from16 form s (length out) → last ≡ leaves r out (moved form (records s)) → (r ≡ move_of form s (length out)) × (last ≡ buffer_after form s out)
   unfolding move_of after
   accepted-says {r} {last} k out e f g = let z : r ≡ move_of form s (length out) = f ∙ sym (rw e refl) in (z, g ∙ ap (λ (m : Moving). leaves m out (moved form (records s))) z)
 
-  pub refused_says : (q p : ℕ) (out : List ℕ) → verdict_in form s ≡ Verdict.Refused q p → (Refused q p ≡ move_of form s (length out)) × (out ≡ buffer_after form s out)
+  pub refused_says : (q p : ℕ) (out : List ℕ) → verdict_in form s ≡ Err (refused q p) → (Refused q p ≡ move_of form s (length out)) × (out ≡ buffer_after form s out)
   unfolding move_of after leaves
   refused_says q p out e = (rw e refl, rw e refl)

@@ -1,5 +1,5 @@
 -- 02, 6: a move that is written gives an image that is asked, printed and run as the one that it was, and there and back is that image.
-use Rattle.std.specs.Prelude.{None, Some}
+use Rattle.std.specs.Prelude.{None, Some, Err, Ok}
 use mathlib.Core.Path.{◌≡◌, refl, sym, ap, ◌∙◌}
 use Rattle.layout.specs.Found.{Found}
 use mathlib.Core.Logic.{◌⊎◌, inl, inr}
@@ -21,9 +21,8 @@ use Rattle.layout.proofs.Bools.{and_both}
 use Rattle.layout.proofs.Lists.{Each, each_both, each-then}
 use Rattle.layout.proofs.Printed.{all_pass}
 use Rattle.program.specs.Program.{program, number_in}
-use Rattle.checker.specs.Verdicts.{verdict_in}
+use Rattle.checker.specs.Verdicts.{verdict_in, Verdict}
 use Rattle.checker.specs.Reports.{report_in}
-use Rattle.checker.specs.declared.Verdict.{Verdict}
 use Rattle.checker.proofs.Accepted.{passed}
 use Rattle.checker.proofs.Alike.{answer-shape}
 use Rattle.rules.proofs.Shapes.{shape}
@@ -41,10 +40,10 @@ use Rattle.moves.proofs.Numbers.{fitting-returns, narrow-fits}
 
 -- ---- what a written move passed
 
-after-written : (v : Verdict) (more : Moving) (m : ℕ) → after v more ≡ Written m → ((n : ℕ) × (v ≡ Verdict.Accepted n)) × (more ≡ Written m)
+after-written : (v : Verdict) (more : Moving) (m : ℕ) → after v more ≡ Written m → ((n : ℕ) × (v ≡ Ok n)) × (more ≡ Written m)
 unfolding after
-after-written (Verdict.Accepted n) more m e = ((n, refl), e)
-after-written (Verdict.Refused q p) more m e = let z : ◌≡◌ {A = ℕ} 0 1 = cc in absurd (omega arith)
+after-written (Ok n) more m e = ((n, refl), e)
+after-written (Err why) more m e = let z : ◌≡◌ {A = ℕ} 0 1 = cc in absurd (omega arith)
 
 asking-written : (n : ℕ) (f : Found) (more : Moving) (m : ℕ) → asking n f more ≡ Written m → (f ≡ None) × (more ≡ Written m)
 unfolding asking
@@ -81,7 +80,7 @@ all_fit Form.Wide rs k e =
 record Made (form : Form) (s : List ℕ) (places m : ℕ) : Type 0 where
   bytes : (i : ℕ) → s ! i < 256
   versions : ℕ
-  accepted : verdict_in form s ≡ Verdict.Accepted versions
+  accepted : verdict_in form s ≡ Ok versions
   size : m ≡ length (result form s)
   short : m ≤ IMAGE
   room : m ≤ places
@@ -117,7 +116,7 @@ made form s places m h =
     }
 
 -- its source is of bytes and accepted
-pub accepted-source : (form : Form) (s : List ℕ) (places m : ℕ) → Moves form s places m → ((i : ℕ) → s ! i < 256) × (n : ℕ) × (verdict_in form s ≡ Verdict.Accepted n)
+pub accepted-source : (form : Form) (s : List ℕ) (places m : ℕ) → Moves form s places m → ((i : ℕ) → s ! i < 256) × (n : ℕ) × (verdict_in form s ≡ Ok n)
 accepted-source form s places m h = let a = made form s places m h in (a.bytes, a.versions, a.accepted)
 
 -- ---- the two images
@@ -130,7 +129,7 @@ widened Form.Wide s places m a = records-narrower (records s) a.known a.returns
 result-one : (form : Form) (s : List ℕ) (places m : ℕ) → Made form s places m → question1 (result form s) ≡ None
 result-one form s places m a = moved-one form s (passed s a.versions a.accepted).q1 a.back (omega (arith, a.short, a.size))
 
-result-accepted : (form : Form) (s : List ℕ) (places m : ℕ) (a : Made form s places m) → verdict_in (other form) (result form s) ≡ Verdict.Accepted a.versions
+result-accepted : (form : Form) (s : List ℕ) (places m : ℕ) (a : Made form s places m) → verdict_in (other form) (result form s) ≡ Ok a.versions
 unfolding other narrow_of wide_of
 result-accepted Form.Narrow s places m a = wide-accepted s (result Form.Narrow s) (widened Form.Narrow s places m a) a.versions a.accepted (result-one Form.Narrow s places m a)
 result-accepted Form.Wide s places m a = narrow-accepted (result Form.Wide s) s (widened Form.Wide s places m a) a.versions a.accepted (result-one Form.Wide s places m a)
@@ -185,7 +184,7 @@ pub same-report : SameReport
 unfolding SameReport report_in
 same-report form s places m h =
     let a = made form s places m h in
-    rw (a.accepted, result-accepted form s places m a) (sym (answer-shape _ _ (same_shape form s places m a) (Verdict.Accepted a.versions)))
+    rw (a.accepted, result-accepted form s places m a) (sym (answer-shape _ _ (same_shape form s places m a) (Ok a.versions)))
 
 pub returned : ThereAndBack
 unfolding ThereAndBack move_of after asking
@@ -202,7 +201,7 @@ runs-agree Form.Narrow s places m h level f v words budget buffer u =
 runs-agree Form.Wide s places m h level f v words budget buffer u =
     let a = made Form.Wide s places m h in
     let t = result Form.Wide s in
-    let e : verdict_in Form.Wide (result Form.Narrow t) ≡ Verdict.Accepted a.versions = ap (verdict_in Form.Wide) a.back ∙ a.accepted in
+    let e : verdict_in Form.Wide (result Form.Narrow t) ≡ Ok a.versions = ap (verdict_in Form.Wide) a.back ∙ a.accepted in
     ap (λ (x : List ℕ). run_of x level f v words budget buffer) (sym a.back)
     ∙ sixty-four t (moved-bytes Form.Wide (records s) a.known) a.versions a.versions (result-accepted Form.Wide s places m a) e level f v words budget buffer u
 

@@ -1,5 +1,5 @@
 -- 02, 6: what is promised of a move that was written: the statements alone.
-use Rattle.std.specs.Prelude.{◌≡◌, ◌≢◌, List, [], ◌∷◌, cond, ℕ, ◌+◌, ◌*◌, ◌≤◌, ◌<◌, ℤ, length, eqb, None}
+use Rattle.std.specs.Prelude.{◌≡◌, ◌≢◌, List, [], ◌∷◌, cond, ℕ, ◌+◌, ◌*◌, ◌≤◌, ◌<◌, ℤ, length, eqb, None, Ok}
 use Rattle.layout.specs.Bounds.{IMAGE}
 use Rattle.layout.specs.Records.{Rec, ◌!◌, records}
 use Rattle.layout.specs.Forms.{literal_kind, moved, other}
@@ -7,7 +7,6 @@ use Rattle.layout.specs.declared.Form.{Form}
 use Rattle.program.specs.Program.{program_by}
 use Rattle.checker.specs.Verdicts.{verdict_in}
 use Rattle.checker.specs.Reports.{report_in}
-use Rattle.checker.specs.declared.Verdict.{Verdict}
 use Rattle.machine.specs.Begin.{run_of}
 use Rattle.machine.specs.declared.Answer.{Answer}
 use Rattle.machine.specs.declared.End.{End}
@@ -40,7 +39,7 @@ NarrowedLength = (s : List ℕ) (places m : ℕ) → Moves Form.Wide s places m 
 -- so 17 refuses no accepted image that is narrowed into a buffer as long as the image
 unfoldable pub NarrowedFits : Type 0
 NarrowedFits =
-    (s : List ℕ) → ((i : ℕ) → s ! i < 256) → (n : ℕ) → verdict_in Form.Wide s ≡ Verdict.Accepted n → (places : ℕ) → length s ≤ places → question17 (length (result Form.Wide s)) places ≡ None
+    (s : List ℕ) → ((i : ℕ) → s ! i < 256) → (n : ℕ) → verdict_in Form.Wide s ≡ Ok n → (places : ℕ) → length s ≤ places → question17 (length (result Form.Wide s)) places ≡ None
 
 -- a widened image is 4 bytes longer for each literal: it has at most 13 bytes for each 9 of its source
 unfoldable pub WidenedLength : Type 0
@@ -48,7 +47,7 @@ WidenedLength = (s : List ℕ) (places m : ℕ) → Moves Form.Narrow s places m
 
 -- it is accepted by the other form's questions, with as many versions
 unfoldable pub MovedAccepted : Type 0
-MovedAccepted = (form : Form) (s : List ℕ) (places m : ℕ) → Moves form s places m → (n : ℕ) × (verdict_in form s ≡ Verdict.Accepted n) × (verdict_in (other form) (result form s) ≡ Verdict.Accepted n)
+MovedAccepted = (form : Form) (s : List ℕ) (places m : ℕ) → Moves form s places m → (n : ℕ) × (verdict_in form s ≡ Ok n) × (verdict_in (other form) (result form s) ≡ Ok n)
 
 -- `check` prints the same of both, the four counts of each version included
 unfoldable pub SameReport : Type 0

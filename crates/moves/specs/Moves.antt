@@ -1,5 +1,5 @@
 -- 02, 6: an image moved to the other form, into a lent buffer.
-use Rattle.std.specs.Prelude.{List, Bool, cond, not, ◌||◌, ℕ, ℤ, pos, negsuc, length, eqb, ltb, leb, None, Some}
+use Rattle.std.specs.Prelude.{List, Bool, cond, not, ◌||◌, ℕ, ℤ, pos, negsuc, length, eqb, ltb, leb, None, Some, Err, Ok}
 use Rattle.layout.specs.Found.{Found}
 use Rattle.layout.specs.Bounds.{IMAGE}
 use Rattle.layout.specs.Tests.{◌and◌}
@@ -10,8 +10,7 @@ use Rattle.layout.specs.Forms.{literal_kind, moved}
 use Rattle.layout.specs.declared.Form.{Form}
 use Rattle.writer.specs.Text.{placed}
 use Rattle.program.specs.Program.{number_in}
-use Rattle.checker.specs.Verdicts.{verdict_in}
-use Rattle.checker.specs.declared.Verdict.{Verdict}
+use Rattle.checker.specs.Verdicts.{verdict_in, Verdict}
 use Rattle.machine.specs.Values.{NARROW-RANGE}
 use Rattle.moves.specs.declared.Moving.{Moving}
 use Rattle.moves.specs.declared.Moving.TheVariants.{Written, Refused}
@@ -40,8 +39,8 @@ asking n (Some p) more = Refused n p
 
 -- the image's own questions come first
 unfoldable pub after : Verdict → Moving → Moving
-after (Verdict.Accepted n) more = more
-after (Verdict.Refused q p) more = Refused q p
+after (Ok n) more = more
+after (Err why) more = Refused why.question why.at
 
 -- 16, 17, else how many bytes are written
 abbrev pub from16 : Form → List ℕ → ℕ → Moving
