@@ -27,6 +27,7 @@ use Rattle.rules.specs.Types.{parameter_type, kind_of, ownership_of, is_shared, 
 use Rattle.rules.specs.Questions.{question6}
 use Rattle.checker.specs.Verdicts.{ask, verdict_of, verdict_in, Verdict, refused}
 use Rattle.checker.proofs.Accepted.{passed}
+use Rattle.checker.proofs.Asks.{refused-same}
 use Rattle.mends.specs.Mends.{type_places, places, VALUES, is_accepted, mends_by, first_place, mendable}
 use Rattle.mends.specs.Parts.{Among, TYPES}
 use Rattle.mends.specs.Retyped.{within, retype_one, retype}
@@ -39,7 +40,7 @@ use Rattle.mends.proofs.Searches.{kept, places-kept}
 pub refused-behind : (n q r : ℕ) (x : Found) (more : Verdict) → mendable n ≡ false → mendable q ≡ true → ask n x more ≡ Err (refused q r) → (x ≡ None) × (more ≡ Err (refused q r))
 unfolding ask
 refused-behind n q r None more a b e = (refl, e)
-refused-behind n q r (Some p) more a b e = let z : n ≡ q = cc in absurd (true≢false (sym b ∙ ap mendable (sym z) ∙ a))
+refused-behind n q r (Some p) more a b e = absurd (true≢false (sym b ∙ ap mendable (sym (refused-same e).0) ∙ a))
 
 -- it passed 1, 2 and 3
 pub sound-records : (s : List ℕ) (q r : ℕ) → mendable q ≡ true → verdict_of s ≡ Err (refused q r) → (question1 s ≡ None) × (question2 (records s) ≡ None) × (question3 Form.Wide (records s) ≡ None)
@@ -120,7 +121,6 @@ held_in q g v (u ∷ vs) (inr i) h = held_in q g v vs i h.1
 -- ---- the laws
 
 pub accepted-some : (v : Verdict) → is_accepted v ≡ true → (k : ℕ) × (v ≡ Ok k)
-unfolding is_accepted
 accepted-some (Ok k) e = (k, refl)
 accepted-some (Err why) e = absurd (true≢false (sym e))
 

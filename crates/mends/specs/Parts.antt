@@ -32,13 +32,13 @@ unfoldable pub Told : ℕ → Here → ℕ → List ℕ → Type 0
 Told q h r s = (p x : ℕ) → Among p (places (program (records s))) → Passing q h r (set s p x)
 
 -- an image that is refused by q, which may be mended
-pub record Refusal (s : List ℕ) (q r : ℕ) : Type 0 where
+pub record RefusedBy (s : List ℕ) (q r : ℕ) : Type 0 where
   pub may : mendable q ≡ true
   pub refused : verdict_of s ≡ Err (refused q r)
 
 -- it is refused at the record at r, where a pass stands at h; t is its table of versions
 pub record Failing (s t : List ℕ) (q r : ℕ) (h : Here) : Type 0 where
-  pub refusal : Refusal s q r
+  pub refusal : RefusedBy s q r
   pub table : t ≡ table_of s
   pub told : Told q h r s
 
