@@ -30,6 +30,12 @@ pub ask-no : (n : ℕ) {p : ℕ} {x : Found} (more : Verdict) → x ≡ Some p �
 unfolding ask
 ask-no n more e = rw e
 
+-- a question that says no refuses, whatever follows
+pub still-refused : (n : ℕ) (x : Found) (k : ℕ) (more : Verdict) {why : Refusal} → ask n x (Ok k) ≡ Err why → ask n x more ≡ Err why
+unfolding ask
+still-refused n None k more e = let z : ◌≡◌ {A = ℕ} 0 1 = cc in absurd (omega arith)
+still-refused n (Some p) k more e = e
+
 -- one refusal has one number and one offset
 pub refused-same : {q p n m : ℕ} → ◌≡◌ {A = Verdict} (Err (refused q p)) (Err (refused n m)) → (q ≡ n) × (p ≡ m)
 refused-same {q} {p} {n} {m} e = let z : refused q p ≡ refused n m = cc in (ap (λ (why : Refusal). why.question) z, ap (λ (why : Refusal). why.at) z)

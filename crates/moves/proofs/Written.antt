@@ -1,5 +1,5 @@
 -- 02, 6: a move that is written gives an image that is asked, printed and run as the one that it was, and there and back is that image.
-use Rattle.std.specs.Prelude.{None, Some, Err, Ok}
+use Rattle.std.specs.Prelude.{None, Some, Err, Ok, Result}
 use mathlib.Core.Path.{◌≡◌, refl, sym, ap, ◌∙◌}
 use Rattle.layout.specs.Found.{Found}
 use mathlib.Core.Logic.{◌⊎◌, inl, inr}
@@ -21,7 +21,7 @@ use Rattle.layout.proofs.Bools.{and_both}
 use Rattle.layout.proofs.Lists.{Each, each_both, each-then}
 use Rattle.layout.proofs.Printed.{all_pass}
 use Rattle.program.specs.Program.{program, number_in}
-use Rattle.checker.specs.Verdicts.{verdict_in, Verdict}
+use Rattle.checker.specs.Verdicts.{verdict_in, Verdict, ask}
 use Rattle.checker.specs.Reports.{report_in}
 use Rattle.checker.proofs.Accepted.{passed}
 use Rattle.checker.proofs.Alike.{answer-shape}
@@ -32,23 +32,18 @@ use Rattle.runs.proofs.Widened.{Literal, Kept, Widened, old-whole, new-whole, fo
 use Rattle.runs.proofs.Moved.{Known, Returns, all_known, all-return, literal-long, moved-bytes, not-literal, records-narrower, records-wider, there_and_back}
 use Rattle.runs.proofs.Longer.{long-enough, moved-one, narrow-accepted, wide-accepted}
 use Rattle.runs.proofs.SixtyFour.{sixty-four}
-use Rattle.moves.specs.Moves.{fits32, fitting32, question16, question17, asking, after, move_of}
+use Rattle.checker.proofs.Asks.{asked}
+use Rattle.moves.specs.Moves.{fits32, fitting32, question16, question17, after, move_of}
 use Rattle.moves.specs.Claims.{result, Moves, MovedWhole, MovedAccepted, SameReport, ThereAndBack, RunsAgree, MovedAlike, narrow_of, wide_of}
-use Rattle.moves.specs.declared.Moving.{Moving}
-use Rattle.moves.specs.declared.Moving.TheVariants.{Written, Refused}
 use Rattle.moves.proofs.Numbers.{fitting-returns, narrow-fits}
+use Rattle.checker.specs.declared.Refusal.{Refusal}
 
 -- ---- what a written move passed
 
-after-written : (v : Verdict) (more : Moving) (m : ℕ) → after v more ≡ Written m → ((n : ℕ) × (v ≡ Ok n)) × (more ≡ Written m)
+after-written : (v : Verdict) (more : Result ℕ Refusal) (m : ℕ) → after v more ≡ Ok m → ((n : ℕ) × (v ≡ Ok n)) × (more ≡ Ok m)
 unfolding after
 after-written (Ok n) more m e = ((n, refl), e)
 after-written (Err why) more m e = let z : ◌≡◌ {A = ℕ} 0 1 = cc in absurd (omega arith)
-
-asking-written : (n : ℕ) (f : Found) (more : Moving) (m : ℕ) → asking n f more ≡ Written m → (f ≡ None) × (more ≡ Written m)
-unfolding asking
-asking-written n None more m e = (refl, e)
-asking-written n (Some p) more m e = let z : ◌≡◌ {A = ℕ} 0 1 = cc in absurd (omega arith)
 
 short-enough : (n places : ℕ) → question17 n places ≡ None → (n ≤ IMAGE) × (n ≤ places)
 unfolding question17
@@ -88,16 +83,16 @@ record Made (form : Form) (s : List ℕ) (places m : ℕ) : Type 0 where
   back : result (other form) (result form s) ≡ s
   returns : Each (Returns form) (records s)
 
-carried : Moving → ℕ
-carried (Written n) = n
-carried (Refused q p) = p
+carried : Result ℕ Refusal → ℕ
+carried (Ok n) = n
+carried (Err why) = why.at
 
 made : (form : Form) (s : List ℕ) (places m : ℕ) → Moves form s places m → Made form s places m
 unfolding Moves move_of carried
 made form s places m h =
     let a = after-written _ _ m h.1 in
-    let b = asking-written 16 _ _ m a.1 in
-    let c = asking-written 17 _ _ m b.1 in
+    let b = asked 16 _ _ m a.1 in
+    let c = asked 17 _ _ m b.1 in
     let d = short-enough _ places c.0 in
     let p = passed s a.0.0 a.0.1 in
     let k = all_known form s h.0 p.q2 p.q3 in
@@ -187,7 +182,7 @@ same-report form s places m h =
     rw (a.accepted, result-accepted form s places m a) (sym (answer-shape _ _ (same_shape form s places m a) (Ok a.versions)))
 
 pub returned : ThereAndBack
-unfolding ThereAndBack move_of after asking
+unfolding ThereAndBack move_of after ask
 returned form s places m h =
     let a = made form s places m h in
     let l = (long-enough s (passed s a.versions a.accepted).q1).1 in

@@ -13,7 +13,6 @@ use Rattle.machine.specs.declared.End.{End}
 use Rattle.runs.specs.Alike.{AllAlike}
 use Rattle.runs.specs.Wider.{run_before}
 use Rattle.moves.specs.Moves.{move_of, question17}
-use Rattle.moves.specs.declared.Moving.TheVariants.{Written}
 
 -- the image that a move writes
 abbrev pub result : Form → List ℕ → List ℕ
@@ -21,7 +20,7 @@ result form s = moved form (records s)
 
 -- an image of bytes whose move is written, as m bytes
 unfoldable pub Moves : Form → List ℕ → ℕ → ℕ → Type 0
-Moves form s places m = ((i : ℕ) → s ! i < 256) × (move_of form s places ≡ Written m)
+Moves form s places m = ((i : ℕ) → s ! i < 256) × (move_of form s places ≡ Ok m)
 
 -- what is written is the result, of bytes, no longer than an image or the buffer
 unfoldable pub MovedWhole : Type 0
@@ -56,7 +55,7 @@ SameReport = (form : Form) (s : List ℕ) (places m : ℕ) → Moves form s plac
 -- there and back gives the same bytes, from both sides: the way back is written wherever the image itself has room
 unfoldable pub ThereAndBack : Type 0
 ThereAndBack = (form : Form) (s : List ℕ) (places m : ℕ) → Moves form s places m → (result (other form) (result form s) ≡ s)
-    × ((room : ℕ) → length s ≤ room → move_of (other form) (result form s) room ≡ Written (length s))
+    × ((room : ℕ) → length s ≤ room → move_of (other form) (result form s) room ≡ Ok (length s))
 
 -- the image of 32 bits of such a pair, and that of 64
 unfoldable pub narrow_of : Form → List ℕ → List ℕ
