@@ -1,8 +1,6 @@
 -- Answers as numbers, field by field as include/fir.h has them.
-use Rattle.std.specs.Prelude.{cond, List, ℕ, ◌+◌, ◌*◌, eqb, ℤ, pos}
+use Rattle.std.specs.Prelude.{cond, List, ℕ, ◌+◌, ◌*◌, eqb, ℤ, pos, Err, Ok, Result}
 use Rattle.layout.specs.declared.Form.{Form}
-use Rattle.bounds.specs.declared.Bounding.{Bounding}
-use Rattle.checker.specs.declared.Verdict.{Verdict}
 use Rattle.joins.specs.declared.Joined.{Joined}
 use Rattle.loaded.specs.declared.Loaded.{Loaded}
 use Rattle.machine.specs.Runs.{saying}
@@ -17,7 +15,6 @@ use Rattle.machine.specs.declared.PoolSaid.{PoolSaid}
 use Rattle.machine.specs.declared.Search.{Search}
 use Rattle.machine.specs.declared.Watch.{Watch}
 use Rattle.mends.specs.declared.Mended.{Mended}
-use Rattle.moves.specs.declared.Moving.{Moving}
 use Rattle.store.specs.Store.{state_in}
 use Rattle.whereabouts.specs.declared.Where.{Where}
 use Rattle.abi.specs.declared.answers.FirAnswer.{FirAnswer}
@@ -32,21 +29,23 @@ use Rattle.abi.specs.declared.answers.FirVerdict.{FirVerdict}
 use Rattle.abi.specs.declared.answers.FirVersion.{FirVersion}
 use Rattle.abi.specs.declared.answers.FirWatched.{FirWatched}
 use Rattle.abi.specs.declared.answers.FirWhere.{FirWhere}
+use Rattle.checker.specs.Verdicts.{Verdict}
+use Rattle.checker.specs.declared.Refusal.{Refusal}
 
 -- the number of versions, or the offset and the number of a refusal
 unfoldable pub verdict_numbers : Verdict → FirVerdict
-verdict_numbers (Verdict.Accepted n) = record { detail = n; question = 0 }
-verdict_numbers (Verdict.Refused q p) = record { detail = p; question = q }
+verdict_numbers (Ok n) = record { detail = n; question = 0 }
+verdict_numbers (Err why) = record { detail = why.at; question = why.question }
 
 -- a move: the length of the image in the other form, or the offset and the number of a refusal
-unfoldable pub moved_numbers : Moving → FirVerdict
-moved_numbers (Moving.Written n) = record { detail = n; question = 0 }
-moved_numbers (Moving.Refused q p) = record { detail = p; question = q }
+unfoldable pub moved_numbers : Result ℕ Refusal → FirVerdict
+moved_numbers (Ok n) = record { detail = n; question = 0 }
+moved_numbers (Err why) = record { detail = why.at; question = why.question }
 
 -- bounds: the number of rows, or the offset and the number of a refusal
-unfoldable pub bounding_numbers : Bounding → FirVerdict
-bounding_numbers (Bounding.Listed n) = record { detail = n; question = 0 }
-bounding_numbers (Bounding.Refused q p) = record { detail = p; question = q }
+unfoldable pub bounding_numbers : Result ℕ Refusal → FirVerdict
+bounding_numbers (Ok n) = record { detail = n; question = 0 }
+bounding_numbers (Err why) = record { detail = why.at; question = why.question }
 
 -- a join: the length of the joined image, or the offset and the number of a refusal, and the image that it refuses: 1 the first, 2 the second, 0 neither
 unfoldable pub joined_numbers : Joined → FirJoined

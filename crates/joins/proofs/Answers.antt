@@ -1,4 +1,5 @@
 -- 02, 13: the answer of a join, as the code finds it.
+use Rattle.std.specs.Prelude.{Err, Ok}
 use mathlib.Core.Path.{◌≡◌, refl, sym, ap, ◌∙◌}
 use mathlib.Core.List.{List, [], ◌∷◌}
 use mathlib.Core.Bool.{Bool, true, false, cond}
@@ -17,8 +18,7 @@ use Rattle.program.specs.Program.{Program, program}
 use Rattle.program.specs.Questions.{question7}
 use Rattle.writer.specs.Text.{placed}
 use Rattle.writer.proofs.Placed.{placed-then}
-use Rattle.checker.specs.Verdicts.{verdict_of}
-use Rattle.checker.specs.declared.Verdict.{Verdict}
+use Rattle.checker.specs.Verdicts.{verdict_of, refused}
 use Rattle.checker.proofs.Accepted.{passed}
 use Rattle.checker.proofs.Asks.{accepted-short}
 use Rattle.machine.specs.Begin.{program_of}
@@ -47,14 +47,14 @@ versions-few (r ∷ rs) p e c f = go (eqb r.kind kind.VERSION) refl (versions-fe
     go false x h = let n : length (program (r ∷ rs)) ≡ length (program rs) = ap (λ (vs : Program). length vs) (program-other r rs f.0.size x) in omega (arith, h, n, f.0.size)
 
 -- an accepted image: its count, and bounds that keep sums small
-pub counted-versions : (s : List ℕ) (n : ℕ) → verdict_of s ≡ Verdict.Accepted n → (versions_in s ≡ n) × (n ≤ IMAGE) × (length s ≤ IMAGE)
+pub counted-versions : (s : List ℕ) (n : ℕ) → verdict_of s ≡ Ok n → (versions_in s ≡ n) × (n ≤ IMAGE) × (length s ≤ IMAGE)
 counted-versions s n e =
     let w = passed s n e in
     let l = accepted-short Form.Wide s n e in
     (w.count, omega (arith, l, w.count, versions-few (records s) 0 (length s) (chained s w.q2) (fits-image s n w)), l)
 
 -- its records can be raised as far as functions go
-pub ready : (k : ℕ) (s : List ℕ) (n : ℕ) → Bytes s → verdict_of s ≡ Verdict.Accepted n → k + functions_in s ≤ FUNCTIONS → Ready k s
+pub ready : (k : ℕ) (s : List ℕ) (n : ℕ) → Bytes s → verdict_of s ≡ Ok n → k + functions_in s ≤ FUNCTIONS → Ready k s
 ready k s n b e h =
     let w = passed s n e in
     record {
@@ -122,15 +122,15 @@ module _ (a b out : List ℕ) where
 -- ---- behind the verdicts
 
 module _ (a b out : List ℕ) where
-  pub first-refused : (q p : ℕ) → verdict_of a ≡ Verdict.Refused q p → (First q p ≡ join_of a b (length out)) × (out ≡ joined_buffer a b out)
+  pub first-refused : (q p : ℕ) → verdict_of a ≡ Err (refused q p) → (First q p ≡ join_of a b (length out)) × (out ≡ joined_buffer a b out)
   unfolding join_of join_after leaves
   first-refused q p e = (rw e refl, rw e refl)
 
-  pub second-refused : (n q p : ℕ) → verdict_of a ≡ Verdict.Accepted n → verdict_of b ≡ Verdict.Refused q p → (Second q p ≡ join_of a b (length out)) × (out ≡ joined_buffer a b out)
+  pub second-refused : (n q p : ℕ) → verdict_of a ≡ Ok n → verdict_of b ≡ Err (refused q p) → (Second q p ≡ join_of a b (length out)) × (out ≡ joined_buffer a b out)
   unfolding join_of join_after leaves
   second-refused n q p e f = (rw (e, f) refl, rw (e, f) refl)
 
-  pub both-accepted : {r : Joined} {last : List ℕ} (n m : ℕ) → verdict_of a ≡ Verdict.Accepted n → verdict_of b ≡ Verdict.Accepted m → Says a b out r last → (r ≡ join_of a b (length out)) × (last ≡ joined_buffer a b out)
+  pub both-accepted : {r : Joined} {last : List ℕ} (n m : ℕ) → verdict_of a ≡ Ok n → verdict_of b ≡ Ok m → Says a b out r last → (r ≡ join_of a b (length out)) × (last ≡ joined_buffer a b out)
   unfolding join_of join_after
   both-accepted {r} n m e f s =
       let z : r ≡ join_of a b (length out) = s.0 ∙ sym (rw (e, f) refl) in

@@ -1,7 +1,6 @@
 -- 02, 13: what is promised of a join that was written: the statements alone.
-use Rattle.std.specs.Prelude.{◌≡◌, List, [], ◌∷◌, ℕ, ◌+◌, ◌≤◌, ◌<◌, ℤ, length}
+use Rattle.std.specs.Prelude.{◌≡◌, List, [], ◌∷◌, ℕ, ◌+◌, ◌≤◌, ◌<◌, ℤ, length, Ok}
 use Rattle.checker.specs.Verdicts.{verdict_of}
-use Rattle.checker.specs.declared.Verdict.TheVariants.{Accepted}
 use Rattle.machine.specs.Runs.{buffer_of}
 use Rattle.machine.specs.Events.{Run, Event, single, budget, change, after, replies}
 use Rattle.machine.specs.Begin.{begin_of, run_of}
@@ -38,7 +37,7 @@ pub record SameRuns (k n : ℕ) (s : List ℕ) (f : ℕ) (t : List ℕ) (g : ℕ
 pub record Joins (a b : List ℕ) (n : ℕ) : Type 0 where
   pub size : length (joined a b) ≡ n
   -- the joined image is accepted, with the versions of both
-  pub accepted : verdict_of (joined a b) ≡ Accepted (versions_in a + versions_in b)
+  pub accepted : verdict_of (joined a b) ≡ Ok (versions_in a + versions_in b)
   -- each entry, under its new number, has the same results and steps as alone
   pub first : (f : ℕ) → f < functions_in a → SameRuns 0 (functions_in a) a f (joined a b) f
   pub second : (f : ℕ) → f < functions_in b → SameRuns (functions_in a) (functions_in b) b f (joined a b) (functions_in a + f)

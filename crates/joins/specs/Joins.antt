@@ -1,5 +1,5 @@
 -- 02, 13: two images into one.
-use Rattle.std.specs.Prelude.{List, [], ◌∷◌, ◌++◌, map, Bool, cond, ℕ, ◌+◌, length, set, leb}
+use Rattle.std.specs.Prelude.{List, [], ◌∷◌, ◌++◌, map, Bool, cond, ℕ, ◌+◌, length, set, leb, Err, Ok}
 use Rattle.layout.specs.Bounds.{IMAGE, FUNCTIONS, ALL-VERSIONS}
 use Rattle.layout.specs.Kinds as kind
 use Rattle.layout.specs.Tests.{◌and◌}
@@ -7,8 +7,7 @@ use Rattle.layout.specs.Records.{Rec, ◌!◌, records, choose}
 use Rattle.layout.specs.Forms.{printed}
 use Rattle.program.specs.Program.{Program}
 use Rattle.writer.specs.Text.{placed}
-use Rattle.checker.specs.Verdicts.{verdict_of}
-use Rattle.checker.specs.declared.Verdict.{Verdict}
+use Rattle.checker.specs.Verdicts.{verdict_of, Verdict}
 use Rattle.machine.specs.Begin.{program_of}
 use Rattle.joins.specs.declared.Joined.{Joined}
 use Rattle.joins.specs.declared.Joined.TheVariants.{Written, First, Second, Together}
@@ -59,9 +58,9 @@ in_bounds a b room =
 
 -- 23, at 0, behind the questions to both
 unfoldable pub join_after : Verdict → Verdict → List ℕ → List ℕ → ℕ → Joined
-join_after (Verdict.Refused q p) x a b room = First q p
-join_after (Verdict.Accepted n) (Verdict.Refused q p) a b room = Second q p
-join_after (Verdict.Accepted n) (Verdict.Accepted m) a b room = cond (in_bounds a b room) (Written (length a + length b)) (Together 23 0)
+join_after (Err why) x a b room = First why.question why.at
+join_after (Ok n) (Err why) a b room = Second why.question why.at
+join_after (Ok n) (Ok m) a b room = cond (in_bounds a b room) (Written (length a + length b)) (Together 23 0)
 
 -- 02, 13: what becomes of a join, each image put to its questions first, the first image before the second
 unfoldable pub join_of : List ℕ → List ℕ → ℕ → Joined

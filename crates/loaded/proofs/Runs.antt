@@ -1,4 +1,5 @@
 -- A loaded image runs as its program: begins, steps, budgets, steps back, searches, positions and records of the topmost call are the same, for every state, in a pool too.
+use Rattle.std.specs.Prelude.{Err, Ok}
 use mathlib.Core.Path.{◌≡◌, refl, sym, ap, ap₂, ◌∙◌}
 use mathlib.Core.List.{List, [], ◌∷◌}
 use mathlib.Core.Bool.{Bool, true, false}
@@ -12,8 +13,7 @@ use Rattle.layout.specs.Bounds.{REGISTERS, VERSIONS}
 use Rattle.layout.specs.Tests.{◌and◌, found}
 use Rattle.program.specs.Program.{Argument, Instr, LIT, MOVE, USE, DUP, VEC, LEN, GET, SET, ARITH, SELECT, CAST, NAMED, STORE, PROM, FORCE, PEEK, POKE, CALL, DISPATCH, SKIP, Program}
 use Rattle.program.specs.Program.{Version, find_version}
-use Rattle.checker.specs.Verdicts.{verdict_of}
-use Rattle.checker.specs.declared.Verdict.{Verdict}
+use Rattle.checker.specs.Verdicts.{verdict_of, Verdict}
 use Rattle.machine.specs.Allowed.{vectors_in, needs_vector, execute_with, proceed_with, advance_with, step_in_with, step_with, run_with, budget_in_with, budget_with}
 use Rattle.machine.specs.Begin.{begin_after, begin_of, entered_of, program_of, run_after_to, run_of_to}
 use Rattle.machine.specs.Calls.{dispatches, finish, looked, passed, present, searched, versions_of}
@@ -296,8 +296,8 @@ unfolding Stands answered begin_of begin_after
 loaded-begin s t m n e h level f w words buffer = entered-same (program_in s t) (program_of s) h level f w words buffer ∙ go (verdict_of s) e
   where
     go : (v : Verdict) → answered v (length s) m ≡ Loaded.Ready n → entered_of (program_of s) level f w words buffer ≡ begin_after v (program_of s) level f w words buffer
-    go (Verdict.Accepted k) g = refl
-    go (Verdict.Refused q p) g = let z : ◌≡◌ {A = ℕ} 0 1 = cc in absurd (omega arith)
+    go (Ok k) g = refl
+    go (Err why) g = let z : ◌≡◌ {A = ℕ} 0 1 = cc in absurd (omega arith)
 
 module _ (s t : List ℕ) (n : ℕ) (h : Stands s t (Loaded.Ready n)) where
   pub loaded-step : (R : ℕ) (x : State) → step_of_to R (program_in s t) x ≡ step_of_to R (program_of s) x

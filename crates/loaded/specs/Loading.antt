@@ -1,8 +1,7 @@
 -- What loading answers, and what the table stands for behind it.
-use Rattle.std.specs.Prelude.{◌≡◌, List, [], cond, ℕ, ◌+◌, ◌*◌, ◌/◌, length, ltb}
+use Rattle.std.specs.Prelude.{◌≡◌, List, [], cond, ℕ, ◌+◌, ◌*◌, ◌/◌, length, ltb, Err, Ok}
 use Rattle.program.specs.Program.{find_version}
-use Rattle.checker.specs.Verdicts.{verdict_of}
-use Rattle.checker.specs.declared.Verdict.{Verdict}
+use Rattle.checker.specs.Verdicts.{verdict_of, Verdict}
 use Rattle.machine.specs.Begin.{program_of}
 use Rattle.loaded.specs.Loaded.{RECORDS, program_in}
 use Rattle.loaded.specs.declared.Loaded.{Loaded}
@@ -13,8 +12,8 @@ bytes_for n = RECORDS + 8 * (n / 6)
 
 -- the answer by the verdict, for a table of m bytes
 unfoldable pub answered : Verdict → ℕ → ℕ → Loaded
-answered (Verdict.Accepted k) n m = cond (ltb m (bytes_for n)) (Loaded.Short (bytes_for n)) (Loaded.Ready k)
-answered (Verdict.Refused q p) n m = Loaded.Refused q p
+answered (Ok k) n m = cond (ltb m (bytes_for n)) (Loaded.Short (bytes_for n)) (Loaded.Ready k)
+answered (Err why) n m = Loaded.Refused why.question why.at
 
 -- the answer to an image, for a table of m bytes
 abbrev pub load_of : List ℕ → ℕ → Loaded
