@@ -13,6 +13,8 @@ ghost use Rattle.mends.specs.Parts.{Among, Failing, Helps, Owned, Passing, Refus
 use checker::{Refusal, questions};
 use flow::question10;
 use layout::kinds;
+use layout::records::Records;
+use program::lookup::Tabled;
 use program::{Here, lookup, pass};
 use typing::{question6, question8, question9};
 
@@ -71,46 +73,37 @@ fn standing(image: &[u8], why: Refusal) -> Here
     requires { RefusedBy image.now why.question why.at }
     ensures { Told why.question result why.at image.now }
 {
-    let mut p: usize = 0;
     let mut here = Here {
         version: image.len(),
         blocks: 0,
     };
-    while p < image.len() {
-        let n = layout::size_at(image, p);
-        here = pass::moved(image, here, p);
-        if p == why.at {
+    for record in Records::of(image) {
+        here = pass::moved(image, here, record.at);
+        if record.at == why.at {
             return here;
         }
-        p += n;
     }
     here
 }
 
 /// What the question that refused asks of the record that failed, where a pass stands at `here`.
-fn passes(image: &[u8], table: &[usize; 128], why: Refusal, here: Here) -> bool
-    requires { table.now ≡ table_of image.now }
-    ensures { result ≡ asked (question_by why.question (program (records image.now))) image.now here why.at }
+fn passes(tabled: Tabled, why: Refusal, here: Here) -> bool
+    ensures { result ≡ asked (question_by why.question (program (records tabled.entry.image.now))) tabled.entry.image.now here why.at }
 {
     match why.question {
-        6 => question6::types_at(image, here, why.at),
-        8 => question8::fits_at(image, table, here, why.at),
-        9 => question9::covers_at(image, table, here, why.at),
-        _ => question10::flows_at(image, table, here, why.at),
+        6 => question6::types_at(tabled.image, here, why.at),
+        8 => question8::fits_at(tabled, here, why.at),
+        9 => question9::covers_at(tabled, here, why.at),
+        _ => question10::flows_at(tabled, here, why.at),
     }
 }
 
 /// Is the image accepted? The record that failed is asked first.
-fn accepts(image: &[u8], table: &[usize; 128], why: Refusal, here: Here) -> bool
-    requires table_value { table.now ≡ table_of image.now }
-    requires passing { Passing why.question here why.at image.now }
-    ensures { result ≡ is_accepted (verdict_of image.now) }
+fn accepts(tabled: Tabled, why: Refusal, here: Here) -> bool
+    requires { Passing why.question here why.at tabled.image.now }
+    ensures { result ≡ is_accepted (verdict_of tabled.entry.image.now) }
 {
-    if passes(image, table, why, here) {
-        questions::verdict(image).is_ok()
-    } else {
-        false
-    }
+    passes(tabled, why, here) && questions::verdict(tabled.image).is_ok()
 }
 
 /// Does the byte at `p`, changed to `x`, make the image accepted? It is changed back.
@@ -124,7 +117,7 @@ fn mends(image: &mut [u8], table: &[usize; 128], why: Refusal, here: Here, p: us
         return false;
     }
     image[p] = x;
-    let m = accepts(image, table, why, here);
+    let m = accepts(Tabled { image, table }, why, here);
     image[p] = old;
     m
 }
@@ -151,7 +144,7 @@ fn may_help(image: &mut [u8], table: &[usize; 128], why: Refusal, here: Here, p:
     let was = image[p];
     let x = other_ownership(was);
     image[p] = x;
-    let m = passes(image, table, why, here);
+    let m = passes(Tabled { image, table }, why, here);
     image[p] = was;
     m
 }

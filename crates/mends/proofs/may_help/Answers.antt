@@ -17,9 +17,8 @@ pub bounds-image-p-2 : goal.bounds-image-p-2
 bounds-image-p-2 c =
     place_inside c.requires.failing.refusal c.args.p c.requires.among
 
-pub passes-m-requires : goal.passes-m-requires
-passes-m-requires c =
-    still-table c.requires.failing c.args.p _ c.requires.among
+pub invariant_of-passes : goal.invariant_of-passes
+invariant_of-passes c = record { listed = still-table c.requires.failing c.args.p _ c.requires.among }
 
 pub bounds-image-p-3 : goal.bounds-image-p-3
 bounds-image-p-3 c =

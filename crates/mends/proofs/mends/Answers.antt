@@ -17,9 +17,12 @@ pub bounds-image-p-2 : goal.bounds-image-p-2
 bounds-image-p-2 c =
     place_inside c.requires.failing.refusal c.args.p c.requires.among
 
+pub invariant_of-accepts : goal.invariant_of-accepts
+invariant_of-accepts c = record { listed = still-table c.requires.failing c.args.p c.args.x c.requires.among }
+
 pub accepts-m-requires : goal.accepts-m-requires
 unfolding Told
-accepts-m-requires c = record { table_value = still-table c.requires.failing c.args.p c.args.x c.requires.among; passing = c.requires.failing.told c.args.p c.args.x c.requires.among }
+accepts-m-requires c = c.requires.failing.told c.args.p c.args.x c.requires.among
 
 pub bounds-image-p-3 : goal.bounds-image-p-3
 bounds-image-p-3 c =
