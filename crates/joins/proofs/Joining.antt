@@ -14,6 +14,7 @@ use borrow.Author.Tests.{leb-true, ltb-true, lt-ltb, le-leb}
 use Rattle.layout.specs.Bounds.{IMAGE, FUNCTIONS, ALL-VERSIONS}
 use Rattle.layout.specs.Tests.{◌and◌}
 use Rattle.layout.specs.Records.{Rec, records}
+use Rattle.layout.specs.Found.{Found}
 use Rattle.layout.specs.Forms.{printed}
 use Rattle.layout.specs.Questions.{question1, question5}
 use Rattle.layout.specs.declared.Form.{Form}
@@ -161,7 +162,7 @@ module _ (a b : List ℕ) (n m room : ℕ) (va : verdict_of a ≡ Accepted n) (v
       one : (0 < length a) × (length a ≤ IMAGE)
       one = let t = and_both _ _ (laid.passed (ltb 0 (length a) and leb (length a) IMAGE) None 0 (flip wa.q1)).0 in (ltb-true _ _ t.0, leb-true _ _ t.1)
         where
-          flip : question1 a ≡ None → cond (ltb 0 (length a) and leb (length a) IMAGE) None (Some 0) ≡ None
+          flip : question1 a ≡ None → cond {A = Found} (ltb 0 (length a) and leb (length a) IMAGE) None (Some 0) ≡ None
           flip e = e
 
   passed-joined : Passed Form.Wide (joined a b) (versions_in a + versions_in b)

@@ -55,7 +55,7 @@ short-enough : (n places : ℕ) → question17 n places ≡ None → (n ≤ IMAG
 unfolding question17
 short-enough n places e = go (leb n IMAGE and leb n places) refl e
   where
-    go : (b : Bool) → (leb n IMAGE and leb n places) ≡ b → cond b None (Some 0) ≡ None → (n ≤ IMAGE) × (n ≤ places)
+    go : (b : Bool) → (leb n IMAGE and leb n places) ≡ b → cond {A = Found} b None (Some 0) ≡ None → (n ≤ IMAGE) × (n ≤ places)
     go true x y = let z = and_both _ _ x in (leb-true n IMAGE z.0, leb-true n places z.1)
     go false x y = let z : ◌≡◌ {A = ℕ} 0 1 = cc in absurd (omega arith)
 

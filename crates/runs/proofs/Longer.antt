@@ -216,7 +216,7 @@ pub long-enough : (s : List ℕ) → question1 s ≡ None → (0 < length s) × 
 unfolding question1
 long-enough s e = go (ltb 0 (length s) and leb (length s) IMAGE) refl e
   where
-    go : (b : Bool) → (ltb 0 (length s) and leb (length s) IMAGE) ≡ b → cond b None (Some 0) ≡ None → (0 < length s) × (length s ≤ IMAGE)
+    go : (b : Bool) → (ltb 0 (length s) and leb (length s) IMAGE) ≡ b → cond {A = Found} b None (Some 0) ≡ None → (0 < length s) × (length s ≤ IMAGE)
     go true x y = let z = and_both _ _ x in (ltb-true 0 (length s) z.0, leb-true (length s) IMAGE z.1)
     go false x y = let z : ◌≡◌ {A = ℕ} 0 1 = cc in absurd (omega arith)
 

@@ -11,10 +11,10 @@ loop-i-preserved c =
     gather-on _ _ _ _ _ c.loop-i.invariant c.loop-i-test.true
     (whole_is c.integer.ensures c.in-Some.is)
 
-pub returns-in-Stuck : goal.returns-in-Stuck
-returns-in-Stuck c =
+pub returns-in-None : goal.returns-in-None
+returns-in-None c =
     gather-stuck _ _ _ _ _ c.loop-i.invariant c.loop-i-test.true
-    (whole-stuck c.integer.ensures c.in-Stuck.is)
+    (whole-stuck c.integer.ensures c.in-None.is)
 
 pub returns : goal.returns
 returns c =

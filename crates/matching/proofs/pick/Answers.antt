@@ -5,20 +5,20 @@ pub loop-w-init : goal.loop-w-init
 loop-w-init c =
     left-all _ _ _ _ _
 
-pub returns-in-Some : goal.returns-in-Some
-returns-in-Some c =
+pub returns-in-Some-passes : goal.returns-in-Some-passes
+returns-in-Some-passes c =
     left_here _ _ _ _ _ _ c.loop-w.invariant
     c.loop-w-test.true
     c.byte-f.ensures _
     (c.version.ensures _) c.in-Some.is _
     c.passes.ensures _ _ (first_of _ _
-    c.requires.1) c.in-Some.is
+    c.requires.1) c.in-Some-passes.is
 
-pub loop-w-preserved-in-None : goal.loop-w-preserved-in-None
-loop-w-preserved-in-None c =
+pub loop-w-preserved-in-None-passes : goal.loop-w-preserved-in-None-passes
+loop-w-preserved-in-None-passes c =
     left-past _ _ _ _ _ _ c.loop-w.invariant c.loop-w-test.true
     c.byte-f.ensures _ (c.version.ensures _)
-    c.in-Some.is _ c.passes.ensures c.in-None.is
+    c.in-Some.is _ c.passes.ensures c.in-None-passes.is
 
 pub loop-w-preserved : goal.loop-w-preserved
 loop-w-preserved c =

@@ -12,11 +12,11 @@ overflow_add-result c =
     let f = c.loop-w.invariant.few in omega
     (arith, f, c.loop-w-test.true)
 
-pub returns-in-Some : goal.returns-in-Some
-returns-in-Some c =
+pub returns-in-Some-passes : goal.returns-in-Some-passes
+returns-in-Some-passes c =
     count-here _ _ _ _ _ _ c.loop-w.invariant c.loop-w-test.true _
     (c.version.ensures _) c.in-Some.is
-    (passes-here _ _ _ _ _ _ _ c.passes.ensures c.in-Some.is) ∙ searched-is _ _ _ _ _
+    (passes-here _ _ _ _ _ _ _ c.passes.ensures c.in-Some-passes.is) ∙ searched-is _ _ _ _ _
     c.byte-f.ensures
 
 pub overflow_add-c : goal.overflow_add-c
@@ -24,11 +24,11 @@ overflow_add-c c =
     let f = c.loop-w.invariant.few in omega
     (arith, f, c.loop-w-test.true)
 
-pub loop-w-preserved-in-None : goal.loop-w-preserved-in-None
-loop-w-preserved-in-None c =
+pub loop-w-preserved-in-None-passes : goal.loop-w-preserved-in-None-passes
+loop-w-preserved-in-None-passes c =
     count_past _ _ _ _ _ _ c.loop-w.invariant c.loop-w-test.true _
     (c.version.ensures _) c.in-Some.is
-    (passes-past _ _ _ _ _ _ _ c.passes.ensures c.in-None.is)
+    (passes-past _ _ _ _ _ _ _ c.passes.ensures c.in-None-passes.is)
 
 pub loop-w-preserved : goal.loop-w-preserved
 loop-w-preserved c =
