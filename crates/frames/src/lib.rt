@@ -16,10 +16,7 @@ use store::{cells, stack};
 pub fn is_live(bytes: &[u8; 2632], k: usize) -> bool
     ensures { Lives result bytes.now k }
 {
-    if 32 <= k {
-        return false;
-    }
-    k < layout::wide(bytes[2624])
+    k < 32 && k < layout::wide(bytes[2624])
 }
 
 /// Takes the cells of the frame `k` out of the counts, up to the last that refers to a vector or a promise.
@@ -64,10 +61,8 @@ fn clear(bytes: &mut [u8; 2632], k: usize)
     requires { (k < 32) × (length bytes.old ≡ 2632) }
     ensures { Cleared bytes.old bytes.new k 24 }
 {
-    let mut c: usize = 0;
-    while c < 24 {
+    for c in 0..24 {
         bytes[32 * k + c] = 0;
-        c += 1;
     }
 }
 
@@ -95,8 +90,7 @@ pub fn open(
 fn few(n: u8) -> usize
     ensures { (result ≡ at_most n) × (result ≤ 32) }
 {
-    let m = layout::wide(n);
-    if m < 32 { m } else { 32 }
+    layout::wide(n).min(32)
 }
 
 /// Adds the cells of the frame `k` to the counts.
@@ -104,10 +98,8 @@ fn add_frame(bytes: &[u8; 2632], numbers: &[i64; 2129], counts: &mut [u16; 800],
     requires { (k < 32) × Room counts.old × (length counts.old ≡ 800) }
     ensures { Added bytes.now numbers.now counts.old counts.new k 24 }
 {
-    let mut e: usize = 0;
-    while e < 24 {
+    for e in 0..24 {
         cells::retain(bytes, numbers, counts, k, e);
-        e += 1;
     }
 }
 
@@ -117,10 +109,8 @@ fn add_frames(bytes: &[u8; 2632], numbers: &[i64; 2129], counts: &mut [u16; 800]
     ensures { Tallied bytes.now numbers.now counts.new (at_most (bytes.now ! CALLS)) 0 }
 {
     let calls = few(bytes[2624]);
-    let mut k: usize = 0;
-    while k < calls {
+    for k in 0..calls {
         add_frame(bytes, numbers, counts, k);
-        k += 1;
     }
 }
 
@@ -132,11 +122,8 @@ pub fn tally(bytes: &[u8; 2632], numbers: &[i64; 2129], counts: &mut [u16; 800])
 {
     add_frames(bytes, numbers, counts);
     let depth = few(bytes[2625]);
-    let mut i: usize = 0;
-    while i < depth {
+    for i in 0..depth {
         let a = stack::activation(bytes, i);
-        let opener = a.opener;
-        stack::pend(counts, opener);
-        i += 1;
+        stack::pend(counts, a.opener);
     }
 }

@@ -1,41 +1,45 @@
 -- What the tests of the code make of the definitions.
-use Rattle.std.specs.Prelude.{None, Some}
+use Rattle.std.specs.Prelude.{Option, None, Some, Ok, Err}
 use Prim.Native.Nat.{ℕ, ◌≤◌, ◌<◌}
+use Rattle.std.specs.Option.{SomeIff, ok_or}
+use mir.Syntax.{w64}
+use mir.Val.{SFits}
 use mathlib.Core.Path.{◌≡◌, refl}
-use mathlib.Core.Bool.{Bool, true, false, cond}
+use mathlib.Core.Bool.{Bool, true, false}
 use native.Mathlib.Omega.{arith}
 use lib.IntN.{ℤ, pos, negsuc, nat_abs}
 use lib.Signed.{mag, le_z, lt_z, non_neg}
 use lib.Dec.{T, ltb, leb→le}
 use borrow.Author.Tests.{ltb-true, lt-ltb, le-ltb}
-use Rattle.machine.specs.Try.{got, ◌>>◌, end_unless}
+use Rattle.machine.specs.Try.{◌>>◌, end_unless}
 use Rattle.machine.specs.Values.{RANGE, ranged, ranged_to, is_zero, floored, divided, divided_to, index}
 use Rattle.integers.specs.Computed.{computed_of, indexed_of}
-use Rattle.integers.specs.declared.Computed.{Computed}
+use Rattle.integers.specs.declared.Fault.{Fault}
 
-pub in-range : (z : ℤ) → ltb (mag z) RANGE ≡ true → Computed.Integer z ≡ computed_of (ranged z)
+pub in-range : (z : ℤ) → ltb (mag z) RANGE ≡ true → Ok z ≡ computed_of (ranged z)
 unfolding computed_of ranged_to end_unless ◌>>◌
 in-range z e = rw e
 
-pub out_of_range : (z : ℤ) → ltb (mag z) RANGE ≡ false → Computed.Undef ≡ computed_of (ranged z)
+pub out_of_range : (z : ℤ) → ltb (mag z) RANGE ≡ false → Err Fault.Undef ≡ computed_of (ranged z)
 unfolding computed_of ranged_to end_unless ◌>>◌
 out_of_range z e = rw e
 
-pub by_zero : (x y : ℤ) → is_zero y ≡ true → Computed.Undef ≡ computed_of (divided x y)
+-- what a checked operation of the library answers
+pub checked : (r : Option ℤ) (z : ℤ) → SomeIff r (SFits w64 z) z → ok_or r Fault.Undef ≡ computed_of (ranged z)
+checked None z h = out_of_range z (past (ltb (mag z) RANGE) refl)
+  where
+    past : (b : Bool) → ltb (mag z) RANGE ≡ b → ltb (mag z) RANGE ≡ false
+    past true e = absurd (h (record { sfits = ltb-true (mag z) RANGE e }))
+    past false e = e
+checked (Some x) z h = rw h.1 (in-range z (lt-ltb _ _ h.0.sfits))
+
+pub by_zero : (x y : ℤ) → is_zero y ≡ true → Err Fault.Undef ≡ computed_of (divided x y)
 unfolding computed_of divided_to end_unless ◌>>◌
 by_zero x y e = rw e
 
 pub not-by-zero : (x y : ℤ) → is_zero y ≡ false → ranged (floored x y) ≡ divided x y
 unfolding divided_to end_unless ◌>>◌
 not-by-zero x y e = rw e
-
-pub is-less : {t : Bool} → t ≡ true → Computed.Integer (pos 1) ≡ computed_of (got (cond t (pos 1) (pos 0)))
-unfolding computed_of
-is-less e = rw e
-
-pub not-less : {t : Bool} → t ≡ false → Computed.Integer (pos 0) ≡ computed_of (got (cond t (pos 1) (pos 0)))
-unfolding computed_of
-not-less e = rw e
 
 -- an index below 0 is outside; another is a natural number, and inside where that is below the length
 pub negative : (z b : ℤ) (n : ℕ) → T (le_z b (pos 0)) → lt_z z b ≡ true → None ≡ indexed_of (index z n)

@@ -1,28 +1,16 @@
--- Laws of signed numbers: their range, their bits, and the products of two narrow ones.
-use Prim.Native.Nat.{ℕ, zero, suc, ◌+◌, ◌-◌, ◌*◌, ◌≤◌, ◌<◌, zero-le}
+-- Laws of signed numbers and their bits.
+use Prim.Native.Nat.{ℕ, zero, suc, ◌<◌}
 use mathlib.Core.Path.{◌≡◌, refl, sym, ◌∙◌}
-use mathlib.Core.Bool.{Bool, true, false}
+use mathlib.Core.Bool.{Bool, false}
 use native.Mathlib.Omega.{arith}
-use native.Mathlib.Nat.{mul-le-mul_left, mul-le-mul_right, le_trans, le_of_lt, lt_of_le_of_lt}
-use lib.IntN.{ℤ, pos, negsuc, neg_ℤ, ◌*ℤ◌}
-use lib.Signed.{mag, lt_z, le_z}
-use lib.Dec.{ltb, eqb, lit<, leb-suc-suc}
+use lib.IntN.{ℤ, pos, negsuc}
+use lib.Dec.{eqb}
 use mir.Syntax.{w64}
 use mir.Val.{SFits, to_z, of_z}
 use mir.Facts.{to_z-of_z}
-use borrow.Author.Tests.{ltb-true, ltb-false, lt-ltb, le-ltb, ne_eqb}
+use borrow.Author.Tests.{ne_eqb}
 use Rattle.machine.specs.Values.{is_zero}
 use Rattle.integers.specs.Computed.{is_minus_one}
-
--- ---- the range: the numbers from −(k + 1) to m, where both k + 1 and m + 1 are h
-
-pub below : (h k : ℕ) → h ≤ suc k → (z : ℤ) → lt_z z (negsuc k) ≡ true → ltb (mag z) h ≡ false
-below h k p (pos n) e = cc
-below h k p (negsuc n) e = le-ltb n h (omega (arith, ltb-true k n e))
-
-pub within : (h k m : ℕ) → suc k ≤ h → h ≡ suc m → (z : ℤ) → lt_z z (negsuc k) ≡ false → le_z z (pos m) ≡ ltb (mag z) h
-within h k m p q (pos n) e = rw (q, leb-suc-suc)
-within h k m p q (negsuc n) e = rw (lt-ltb n h (omega (arith, ltb-false k n e)))
 
 -- ---- bits
 
@@ -47,18 +35,3 @@ unfolding is_zero
 bits_above (pos zero) p e = let z : ◌≡◌ {A = ℕ} 0 1 = cc in absurd (omega arith)
 bits_above (pos (suc n)) p e = omega arith
 bits_above (negsuc n) p e = omega (arith, p.sfits)
-
--- ---- products of narrow numbers
-
-mag-neg-pos : (n : ℕ) → mag (neg_ℤ (pos n)) ≤ n
-mag-neg-pos zero = zero-le
-mag-neg-pos (suc n) = omega arith
-
-prod : (a b : ℕ) → a ≤ 2147483648 → b ≤ 2147483648 → a * b < 9223372036854775808
-prod a b p q = lt_of_le_of_lt (le_trans (mul-le-mul_left a q) (mul-le-mul_right 2147483648 p)) (lit< tt)
-
-pub mag-mul : (x y : ℤ) → mag x < 2147483648 → mag y < 2147483648 → mag (x *ℤ y) < 9223372036854775808
-mag-mul (pos a) (pos b) p q = prod a b (le_of_lt p) (le_of_lt q)
-mag-mul (pos a) (negsuc b) p q = lt_of_le_of_lt (mag-neg-pos (a * suc b)) (prod a (suc b) (le_of_lt p) q)
-mag-mul (negsuc a) (pos b) p q = lt_of_le_of_lt (mag-neg-pos (suc a * b)) (prod (suc a) b p (le_of_lt q))
-mag-mul (negsuc a) (negsuc b) p q = prod (suc a) (suc b) p q

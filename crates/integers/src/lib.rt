@@ -1,26 +1,18 @@
 //! The integer arithmetic of the machine's steps: results in range, UNDEF or stuck.
 #![tactic(auto)]
 
-ghost use Rattle.std.specs.Prelude.{◌≡◌, false, cond, pos, nat_abs, ◌+ℤ◌, ◌-ℤ◌, ◌*ℤ◌, ◌*◌, ltb, leb};
+ghost use Rattle.std.specs.Prelude.{◌≡◌, false, cond, pos, ◌+ℤ◌, ◌-ℤ◌, ◌*ℤ◌, ◌*◌, ltb, leb};
 ghost use Rattle.std.specs.Int.Signed.{mag, lt_z};
-ghost use Rattle.layout.specs.Tests.{◌and◌};
 ghost use Rattle.machine.specs.Try.{got};
 ghost use Rattle.machine.specs.Values.{RANGE, NARROW-RANGE, ranged, is_zero, floored, divided, arith, index};
 ghost use Rattle.integers.specs.Computed.{computed_of, indexed_of, is_minus_one, limit_of};
 
-/// What an operation on integers comes to: an integer, UNDEF, or stuck where there is no such operation.
+/// Why an operation on integers has no result: UNDEF, or there is no such operation.
 #[derive(Clone, Copy)]
-pub enum Computed {
-    Integer(i64),
+pub enum Fault {
     Undef,
     Stuck,
 }
-
-/// The greatest integer.
-const GREATEST: i64 = 9223372036854775807;
-
-/// The least integer.
-const LEAST: i64 = -9223372036854775808;
 
 /// The greatest integer of 32 bits.
 const NARROW_GREATEST: i64 = 2147483647;
@@ -33,36 +25,6 @@ const ABOVE: u64 = 9223372036854775807;
 
 /// The distance of the least integer from 0.
 const BELOW: u64 = 9223372036854775808;
-
-/// Is the sum in range?
-fn sum_in_range(x: i64, y: i64) -> bool
-    ensures { result ≡ ltb (mag (x +ℤ y)) RANGE }
-{
-    if y < 0 {
-        return LEAST - y <= x;
-    }
-    x <= GREATEST - y
-}
-
-/// Is the difference in range?
-fn difference_in_range(x: i64, y: i64) -> bool
-    ensures { result ≡ ltb (mag (x -ℤ y)) RANGE }
-{
-    if y < 0 {
-        return x <= GREATEST + y;
-    }
-    LEAST + y <= x
-}
-
-/// How far `x` is from 0.
-fn magnitude(x: i64) -> u64
-    ensures { result ≡ nat_abs x }
-{
-    if x < 0 {
-        return (-1 - x) as u64 + 1;
-    }
-    x as u64
-}
 
 /// Is the product of `a` and `b` at most `n`?
 fn product_at_most(a: u64, b: u64, n: u64) -> bool
@@ -78,76 +40,48 @@ fn product_at_most(a: u64, b: u64, n: u64) -> bool
 fn product_limit(x: i64, y: i64) -> u64
     ensures { result ≡ limit_of x y }
 {
-    if x < 0 {
-        if y < 0 {
-            return ABOVE;
-        }
-        return BELOW;
-    }
-    if y < 0 {
-        return BELOW;
-    }
-    ABOVE
+    if (x < 0) == (y < 0) { ABOVE } else { BELOW }
 }
 
 /// Is `z` an integer of 32 bits?
 fn is_narrow(z: i64) -> bool
     ensures { result ≡ ltb (mag z) NARROW-RANGE }
 {
-    if z < NARROW_LEAST {
-        return false;
-    }
-    z <= NARROW_GREATEST
-}
-
-/// Are both integers of 32 bits?
-fn are_narrow(x: i64, y: i64) -> bool
-    ensures { result ≡ (ltb (mag x) NARROW-RANGE and ltb (mag y) NARROW-RANGE) }
-{
-    if is_narrow(x) {
-        return is_narrow(y);
-    }
-    false
+    NARROW_LEAST <= z && z <= NARROW_GREATEST
 }
 
 /// Is the product in range? Of two integers of 32 bits it always is; that test costs no division.
 fn product_in_range(x: i64, y: i64) -> bool
     ensures { result ≡ ltb (mag (x *ℤ y)) RANGE }
 {
-    if are_narrow(x, y) {
+    if is_narrow(x) && is_narrow(y) {
         return true;
     }
-    product_at_most(magnitude(x), magnitude(y), product_limit(x, y))
+    product_at_most(x.unsigned_abs(), y.unsigned_abs(), product_limit(x, y))
 }
 
 /// The sum, or UNDEF where it is out of range.
-fn add(x: i64, y: i64) -> Computed
+fn add(x: i64, y: i64) -> Result<i64, Fault>
     ensures { result ≡ computed_of (ranged (x +ℤ y)) }
 {
-    if sum_in_range(x, y) {
-        return Computed::Integer(x + y);
-    }
-    Computed::Undef
+    x.checked_add(y).ok_or(Fault::Undef)
 }
 
 /// The difference, or UNDEF where it is out of range.
-fn subtract(x: i64, y: i64) -> Computed
+fn subtract(x: i64, y: i64) -> Result<i64, Fault>
     ensures { result ≡ computed_of (ranged (x -ℤ y)) }
 {
-    if difference_in_range(x, y) {
-        return Computed::Integer(x - y);
-    }
-    Computed::Undef
+    x.checked_sub(y).ok_or(Fault::Undef)
 }
 
 /// The product, or UNDEF where it is out of range.
-fn multiply(x: i64, y: i64) -> Computed
+fn multiply(x: i64, y: i64) -> Result<i64, Fault>
     ensures { result ≡ computed_of (ranged (x *ℤ y)) }
 {
     if product_in_range(x, y) {
-        return Computed::Integer(x * y);
+        return Ok(x * y);
     }
-    Computed::Undef
+    Err(Fault::Undef)
 }
 
 /// The quotient by a divisor that is neither 0 nor −1, rounded toward minus infinity: where the signs differ, one below that of
@@ -172,30 +106,27 @@ fn floor(x: i64, y: i64) -> i64
 }
 
 /// The quotient, or UNDEF where `y` is 0, or is −1 and `x` the least integer.
-fn divide(x: i64, y: i64) -> Computed
+fn divide(x: i64, y: i64) -> Result<i64, Fault>
     ensures { result ≡ computed_of (divided x y) }
 {
     if is_zero(y) {
-        return Computed::Undef;
+        return Err(Fault::Undef);
     }
     if is_minus_one(y) {
         return subtract(0, x);
     }
-    Computed::Integer(floor(x, y))
+    Ok(floor(x, y))
 }
 
 /// 1 where `x` is less than `y`, else 0.
-fn less(x: i64, y: i64) -> Computed
+fn less(x: i64, y: i64) -> Result<i64, Fault>
     ensures { result ≡ computed_of (got (cond (lt_z x y) (pos 1) (pos 0))) }
 {
-    if x < y {
-        return Computed::Integer(1);
-    }
-    Computed::Integer(0)
+    Ok(i64::from(x < y))
 }
 
 /// The operation `op` on `x` and `y`: 0 add, 1 subtract, 2 multiply, 3 divide, 4 less.
-pub fn arith(op: u8, x: i64, y: i64) -> Computed
+pub fn arith(op: u8, x: i64, y: i64) -> Result<i64, Fault>
     ensures { result ≡ computed_of (arith op x y) }
 {
     match op {
@@ -204,7 +135,7 @@ pub fn arith(op: u8, x: i64, y: i64) -> Computed
         2 => multiply(x, y),
         3 => divide(x, y),
         4 => less(x, y),
-        _ => Computed::Stuck,
+        _ => Err(Fault::Stuck),
     }
 }
 
@@ -216,11 +147,7 @@ pub fn index(z: i64, n: u8) -> Option<u8>
         return None;
     }
     let i = z as u64;
-    if i < n as u64 {
-        Some(i as u8)
-    } else {
-        None
-    }
+    if i < n as u64 { Some(i as u8) } else { None }
 }
 
 /// Is `z` 0?

@@ -1,13 +1,13 @@
 -- Steps, computed: what each instruction leaves in a small state, what makes it stuck or UNDEF, and what block ends, DISPATCH, 19, changes and history come to. A wrong clause makes a row false.
 use mathlib.Core.Path.{◌≡◌, refl, ap, ◌∙◌}
 use mathlib.Core.List.{List, [], ◌∷◌, ◌++◌, map}
-use mathlib.Core.Bool.{true, false, not}
+use mathlib.Core.Bool.{true}
 use Prim.Native.Nat.{ℕ}
 use native.Mathlib.Omega.{arith}
 use lib.IntN.{ℤ, pos}
-use lib.ListN.{length, take, set, replicate}
+use lib.ListN.{length, replicate}
 use Rattle.layout.specs.Tests.{◌and◌, any, found}
-use Rattle.program.specs.Program.{Argument, Instr, LIT, MOVE, USE, DUP, VEC, LEN, GET, SET, SELECT, CAST, NAMED, STORE, PROM, FORCE, PEEK, POKE, CALL, DISPATCH, Block, Version, Program, find_version, first_mark}
+use Rattle.program.specs.Program.{Argument, Instr, LIT, MOVE, USE, DUP, VEC, LEN, GET, SET, SELECT, CAST, NAMED, STORE, PROM, FORCE, PEEK, POKE, CALL, Block, Version, Program, find_version, first_mark}
 use Rattle.rules.specs.Types.{kind_of, ownership_of, is_owned, within}
 use Rattle.machine.specs.Try.{Try, got, stuck, stop, ◌>>=◌, ◌>>◌, stuck_unless, end_unless, or_stuck, at, put, each}
 use Rattle.machine.specs.States.{place, over, new_vector, items_of, live_frames, live_activations, register, named, full, an_integer, a_vector, a_promise, no_promise, is_set, value, integer, vector, promise, plain, name, kind_in, is_force, refers, held, pending, vector_counts, promise_counts, free, free_vector, free_promise, with_stack, with_vector, with_promise, with_frame, with_register}

@@ -7,7 +7,6 @@ use Rattle.machine.specs.Events.{Run, program_in, in_state, Event, single, budge
 use Rattle.machine.specs.Allowed.{tried_by_with}
 use Rattle.machine.specs.Pools.{allowed, refuses21, said_in_pool, pool_step, pool_budget, pool_change, pool_begin}
 use Rattle.machine.specs.declared.Answer.{Answer}
-use Rattle.machine.specs.declared.Begun.{Begun}
 use Rattle.machine.specs.declared.Changed.{Changed}
 use Rattle.machine.specs.declared.Entry.{Entry}
 use Rattle.machine.specs.declared.Pool.{Pool}

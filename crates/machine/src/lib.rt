@@ -3,10 +3,10 @@
 
 ghost use Rattle.std.specs.Prelude.{◌≡◌};
 ghost use Rattle.machine.specs.States.{new_frame, register, named, with_register, with_name, refers, is_vector, is_promise};
-ghost use Rattle.machine.specs.Frames.{read_of, written_of, is_at, holds};
+ghost use Rattle.machine.specs.Frames.{read_of, read_at, written_of, is_it, holds};
 
 /// What a register or a name holds: nothing, an integer, or the place of a vector or a promise.
-#[derive(Clone, Copy)]
+#[derive(Clone, Copy, PartialEq, Eq)]
 pub enum Value {
     Empty,
     Integer(i64),
@@ -15,7 +15,7 @@ pub enum Value {
 }
 
 /// A register or a name of a frame.
-#[derive(Clone, Copy)]
+#[derive(Clone, Copy, PartialEq, Eq)]
 pub struct Place {
     pub value: Value,
 }
@@ -233,20 +233,6 @@ pub enum Watch {
     Refused(u8, u16),
 }
 
-/// What writing a register or a name leaves: the frame, as it was where it has no such place, and whether it has one.
-#[derive(Clone, Copy)]
-pub struct Written {
-    pub frame: Frame,
-    pub inside: bool,
-}
-
-/// What a value may refer to: the vector or the promise at a place.
-#[derive(Clone, Copy)]
-enum Referent {
-    Vector(u8),
-    Promise(u8),
-}
-
 impl Vector {
     /// The most items of a vector, and the fewest places of a result buffer.
     pub const ITEMS: usize = 16;
@@ -279,65 +265,39 @@ impl Frame {
     pub fn register(self, r: u8) -> Option<Value>
         ensures { result ≡ read_of (register self r) }
     {
-        let i = r as usize;
-        if i < Frame::REGISTERS {
-            let place = self.registers[i];
-            let value = place.value;
-            Some(value)
-        } else {
-            None
-        }
+        read(&self.registers, r)
     }
 
     /// Reads the name `x`.
     pub fn name(self, x: u8) -> Option<Value>
         ensures { result ≡ read_of (named self x) }
     {
-        let i = x as usize;
-        if i < Frame::NAMES {
-            let place = self.names[i];
-            let value = place.value;
-            Some(value)
+        read(&self.names, x)
+    }
+
+    /// The frame with the register `d` put to the value, where it has one.
+    pub fn with_register(mut self, d: u8, value: Value) -> Option<Frame>
+        ensures { result ≡ written_of (with_register self d value) }
+    {
+        let i = usize::from(d);
+        if i < Frame::REGISTERS {
+            self.registers[i] = Place { value };
+            Some(self)
         } else {
             None
         }
     }
 
-    /// Puts the register `d` to the value.
-    pub fn with_register(mut self, d: u8, value: Value) -> Written
-        ensures { result ≡ written_of self (with_register self d value) }
+    /// The frame with the name `x` put to the value, where it has one.
+    pub fn with_name(mut self, x: u8, value: Value) -> Option<Frame>
+        ensures { result ≡ written_of (with_name self x value) }
     {
-        let i = d as usize;
-        if i < Frame::REGISTERS {
-            self.registers[i] = Place { value: value };
-            Written {
-                frame: self,
-                inside: true,
-            }
-        } else {
-            Written {
-                frame: self,
-                inside: false,
-            }
-        }
-    }
-
-    /// Puts the name `x` to the value.
-    pub fn with_name(mut self, x: u8, value: Value) -> Written
-        ensures { result ≡ written_of self (with_name self x value) }
-    {
-        let i = x as usize;
+        let i = usize::from(x);
         if i < Frame::NAMES {
-            self.names[i] = Place { value: value };
-            Written {
-                frame: self,
-                inside: true,
-            }
+            self.names[i] = Place { value };
+            Some(self)
         } else {
-            Written {
-                frame: self,
-                inside: false,
-            }
+            None
         }
     }
 
@@ -345,91 +305,35 @@ impl Frame {
     pub fn refers_to_vector(self, v: u8) -> bool
         ensures { result ≡ refers (is_vector v) self }
     {
-        self.refers_to(Referent::Vector(v))
+        self.refers_to(Value::Vector(v))
     }
 
     /// Does a register or a name hold the promise at the place `p`?
     pub fn refers_to_promise(self, p: u8) -> bool
         ensures { result ≡ refers (is_promise p) self }
     {
-        self.refers_to(Referent::Promise(p))
+        self.refers_to(Value::Promise(p))
     }
 
-    /// Does a register or a name refer to it?
-    fn refers_to(self, what: Referent) -> bool
-        ensures { result ≡ refers (is_at what) self }
+    /// Does a register or a name hold the value?
+    fn refers_to(self, value: Value) -> bool
+        ensures { result ≡ refers (is_it value) self }
     {
-        let registers = self.registers;
-        if a_register_holds(registers, what) {
-            return true;
-        }
-        let names = self.names;
-        a_name_holds(names, what)
+        holds(&self.registers, value) || holds(&self.names, value)
     }
 }
 
-/// Does the value refer to it?
-fn is_at(value: Value, what: Referent) -> bool
-    ensures { result ≡ is_at what value }
+/// What the place `i` of the array holds, where it has one.
+fn read(places: &[Place], i: u8) -> Option<Value>
+    ensures { result ≡ read_of (read_at places.now i) }
 {
-    match what {
-        Referent::Vector(v) => is_vector(value, v),
-        Referent::Promise(p) => is_promise(value, p),
-    }
+    let place = places.get(usize::from(i))?;
+    Some(place.value)
 }
 
-/// Is the value the vector at the place `v`?
-fn is_vector(value: Value, v: u8) -> bool
-    ensures { result ≡ is_vector v value }
+/// Does one of the places hold the value?
+fn holds(places: &[Place], value: Value) -> bool
+    ensures { result ≡ holds (is_it value) places.now }
 {
-    match value {
-        Value::Empty => false,
-        Value::Integer(_) => false,
-        Value::Vector(w) => v == w,
-        Value::Promise(_) => false,
-    }
-}
-
-/// Is the value the promise at the place `p`?
-fn is_promise(value: Value, p: u8) -> bool
-    ensures { result ≡ is_promise p value }
-{
-    match value {
-        Value::Empty => false,
-        Value::Integer(_) => false,
-        Value::Vector(_) => false,
-        Value::Promise(q) => p == q,
-    }
-}
-
-/// Does one of the registers refer to it?
-fn a_register_holds(registers: [Place; 16], what: Referent) -> bool
-    ensures { result ≡ holds (is_at what) registers }
-{
-    let mut i: usize = 0;
-    while i < Frame::REGISTERS {
-        let place = registers[i];
-        let value = place.value;
-        if is_at(value, what) {
-            return true;
-        }
-        i += 1;
-    }
-    false
-}
-
-/// Does one of the names refer to it?
-fn a_name_holds(names: [Place; 8], what: Referent) -> bool
-    ensures { result ≡ holds (is_at what) names }
-{
-    let mut i: usize = 0;
-    while i < Frame::NAMES {
-        let place = names[i];
-        let value = place.value;
-        if is_at(value, what) {
-            return true;
-        }
-        i += 1;
-    }
-    false
+    places.contains(&Place { value })
 }

@@ -2,15 +2,15 @@
 use mathlib.Core.Path.{◌≡◌, refl, sym, ap, ◌∙◌}
 use mathlib.Core.List.{List, [], ◌∷◌}
 use mathlib.Core.Option.{Option, none, some}
-use mathlib.Core.Bool.{Bool, true, false, cond, not, ◌||◌}
-use Prim.Native.Nat.{ℕ, zero, suc, ◌+◌, ◌-◌, ◌*◌, ◌≤◌, ◌<◌}
+use mathlib.Core.Bool.{Bool, true, false, not, ◌||◌}
+use Prim.Native.Nat.{ℕ, zero, suc, ◌+◌, ◌-◌, ◌≤◌, ◌<◌}
 use native.Mathlib.Omega.{arith}
 use lib.ListN.{get_elem?, length, set, take}
-use lib.Dec.{eqb, ltb}
+use lib.Dec.{eqb}
 use borrow.Author.Tests.{eq-eqb, ne_eqb, eqb-true, eqb-false, lt-ltb, le-ltb}
 use Rattle.layout.specs.Records.{◌!◌}
 use Rattle.layout.specs.Tests.{any}
-use Rattle.machine.specs.Try.{Try, got, stuck, stop, ◌>>=◌, ◌>>◌, at, put, or_stuck, stuck_unless}
+use Rattle.machine.specs.Try.{Try, got, stuck, stop, ◌>>=◌, at, put, or_stuck, stuck_unless}
 use Rattle.machine.specs.States.{place, live_activations, live_frames, pending, promise_counts, refers, held, register, with_stack, with_frame, with_register, assign, vector_counts, free_promise}
 use Rattle.machine.specs.States.{free_vector, free, is_force, is_promise, is_vector}
 use Rattle.machine.specs.Steps.{alone}

@@ -19,7 +19,7 @@ use Rattle.machine.specs.declared.End.{End}
 use Rattle.machine.specs.declared.Value.{Value}
 use Rattle.store.specs.Lists.{up_to}
 use Rattle.store.proofs.Lists.{length-up_to, get_elem?-up_to, missing-up_to, up_to-same, set-up_to-by}
-use Rattle.store.specs.Store.{◌#◌, CALLS, cell_in, frame_in, state_in, Live, Puts}
+use Rattle.store.specs.Store.{CALLS, cell_in, frame_in, state_in, Live, Puts}
 use Rattle.store.proofs.Kept.{cell_same, new-frame}
 
 module _ (b : List ℕ) (n : List ℤ) (k : ℕ) where

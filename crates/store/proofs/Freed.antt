@@ -1,12 +1,9 @@
 -- The lowest free place.
 use Rattle.std.specs.Prelude.{None, Some}
-use mathlib.Core.Path.{◌≡◌, refl, sym, ap, ◌∙◌}
+use mathlib.Core.Path.{◌≡◌, sym, ◌∙◌}
 use mathlib.Core.List.{List}
-use mathlib.Core.Bool.{Bool, true, false, not, ◌||◌}
+use mathlib.Core.Bool.{Bool, true, false}
 use Prim.Native.Nat.{ℕ, ◌+◌, ◌-◌, ◌≤◌, ◌<◌}
-use native.Mathlib.Omega.{arith}
-use Rattle.layout.specs.Records.{◌!◌}
-use Rattle.machine.specs.Try.{got, stop}
 use Rattle.machine.specs.States.{free}
 use Rattle.machine.specs.declared.End.{End}
 use Rattle.store.proofs.Free.{free_on, free-here, free-none}

@@ -10,7 +10,7 @@ use Rattle.machine.specs.States.{place, with_frame, with_stack, with_vector, wit
 use Rattle.machine.specs.declared.State.{State}
 use Rattle.store.specs.Lists.{up_to}
 use Rattle.store.proofs.Lists.{up_to-same, set-up_to-by}
-use Rattle.store.specs.Store.{◌#◌, PLACES, STACK, DELAYS, LENGTHS, CALLS, DEPTH, STATUS, ITEM, CACHES, RESULT, ENDING, value_of, cell_in, frame_in, opener_of, activation_in, vector_in}
+use Rattle.store.specs.Store.{◌#◌, PLACES, STACK, DELAYS, LENGTHS, CALLS, DEPTH, STATUS, ITEM, CACHES, RESULT, ENDING, cell_in, frame_in, opener_of, activation_in, vector_in}
 use Rattle.store.specs.Store.{cache_of, promise_in, status_of, state_in}
 
 module _ (b b' : List ℕ) (n n' : List ℤ) where

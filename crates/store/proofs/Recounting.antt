@@ -16,13 +16,11 @@ use Rattle.layout.specs.Records.{◌!◌}
 use Rattle.layout.proofs.Lists.{get_other, get_take, none-taken, take_none}
 use Rattle.machine.specs.States.{place, live_activations, live_frames, is_promise, is_vector, with_frame, with_stack}
 use Rattle.machine.specs.declared.Frame.{Frame}
-use Rattle.machine.specs.declared.Place.{Place}
-use Rattle.machine.specs.declared.State.{State}
 use Rattle.machine.specs.declared.Value.{Value}
 use Rattle.store.specs.Lists.{up_to}
 use Rattle.store.proofs.Lists.{get_elem?-up_to, length-up_to, missing-up_to}
 use Rattle.store.specs.Store.{◌#◌, PLACES, CALLS, value_of, cell_in, frame_in, state_in, Live, Puts}
-use Rattle.store.specs.Counts.{one, holders, in_frame, in_frames, holding, forcing, references, referring, is_reference, refers_to, counts_at, Counted, Covers, Few, Byte, Ready, Recounts}
+use Rattle.store.specs.Counts.{one, holders, in_frame, in_frames, holding, forcing, references, referring, is_reference, refers_to, counts_at, Covers, Few, Byte, Ready, Recounts}
 use Rattle.store.specs.Counts.{changed, recount, fewer, more}
 use Rattle.store.proofs.Counting.{holders-set, frames-set, frames-some, places-some, places-most, take-set}
 use Rattle.store.proofs.Puts.{put-integer, put-number, put-place}

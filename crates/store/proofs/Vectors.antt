@@ -1,14 +1,14 @@
 -- Vectors: their items, and an item written.
 use mathlib.Core.Path.{◌≡◌, refl, sym, ap, ◌∙◌}
 use mathlib.Core.List.{List}
-use mathlib.Core.Bool.{Bool, true, false, cond}
-use Prim.Native.Nat.{ℕ, ◌+◌, ◌*◌, ◌≤◌, ◌<◌}
+use mathlib.Core.Bool.{Bool, true, false}
+use Prim.Native.Nat.{ℕ, min, ◌+◌, ◌*◌, ◌≤◌, ◌<◌}
 use native.Mathlib.Omega.{arith}
 use lib.IntN.{ℤ, pos}
-use lib.ListN.{length, length-set, get_or, set, take}
+use lib.ListN.{length, length-set, get_or, set}
 use lib.Seq.{get_or-set_same, get_or-set_other, get_or-take}
 use lib.Dec.{eqb, ltb}
-use borrow.Author.Tests.{eqb-true, eqb-false, lt-ltb, le-ltb, ltb-true, ltb-false}
+use borrow.Author.Tests.{eqb-true, eqb-false, ltb-true, ltb-false}
 use Rattle.layout.specs.Records.{◌!◌}
 use Rattle.machine.specs.Try.{got, stuck, at, or_stuck}
 use Rattle.machine.specs.States.{items_of, live_activations, live_frames, with_vector}
@@ -16,7 +16,7 @@ use Rattle.machine.specs.declared.State.{State}
 use Rattle.machine.specs.declared.Vector.{Vector}
 use Rattle.store.specs.Lists.{up_to}
 use Rattle.store.proofs.Lists.{length-up_to, get_elem?-up_to, missing-up_to, get_or-up_to, take-up_to, take-all-up_to, up_to-same, set-up_to-by}
-use Rattle.store.specs.Store.{◌#◌, LENGTHS, ITEM, vector_in, state_in, Sized}
+use Rattle.store.specs.Store.{◌#◌, LENGTHS, ITEM, vector_in, state_in}
 use Rattle.store.specs.Counts.{Counted, Ready, forcing, holding}
 use Rattle.store.specs.Acts.{with_item}
 use Rattle.store.proofs.Kept.{new-vector}
@@ -85,13 +85,20 @@ module _ (b : List ℕ) (n : List ℤ) (v : ℕ) where
   unfolding at or_stuck state_in
   vector-outside h = rw (missing-up_to (vector_in b n) 64 v h) refl
 
-  pub count-few : b ! (LENGTHS + v) < 16 → length (items_of (vector_in b n v)) ≡ b ! (LENGTHS + v)
+  count-few : b ! (LENGTHS + v) < 16 → length (items_of (vector_in b n v)) ≡ b ! (LENGTHS + v)
   unfolding items_of vector_in
   count-few h = rw (take-up_to (λ j. n # (ITEM + 16 * v + j)) 16 (b ! (LENGTHS + v)) (omega arith)) (length-up_to _ _)
 
-  pub count-many : 16 ≤ b ! (LENGTHS + v) → length (items_of (vector_in b n v)) ≡ 16
+  count-many : 16 ≤ b ! (LENGTHS + v) → length (items_of (vector_in b n v)) ≡ 16
   unfolding items_of vector_in
   count-many h = rw (take-all-up_to (λ j. n # (ITEM + 16 * v + j)) 16 (b ! (LENGTHS + v)) h) (length-up_to _ 16)
+
+  pub count-most : min (b ! (LENGTHS + v)) 16 ≡ length (items_of (vector_in b n v))
+  count-most = go (ltb (b ! (LENGTHS + v)) 16) refl
+    where
+      go : (t : Bool) → ltb (b ! (LENGTHS + v)) 16 ≡ t → min (b ! (LENGTHS + v)) 16 ≡ length (items_of (vector_in b n v))
+      go true e = let l = ltb-true _ _ e in let q = count-few l in omega arith
+      go false e = let l = ltb-false _ _ e in let q = count-many l in omega arith
 
   pub inside : (j : ℕ) → j < length (items_of (vector_in b n v)) → (j < b ! (LENGTHS + v)) × (j < 16)
   inside j h = go (ltb (b ! (LENGTHS + v)) 16) refl

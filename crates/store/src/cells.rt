@@ -53,10 +53,7 @@ pub fn integer(bytes: &[u8; 2632], numbers: &[i64; 2129], k: usize, r: u8) -> Op
     requires { k < 32 }
     ensures { whole_of result ≡ integer (frame_in bytes.now numbers.now k) r }
 {
-    match register(bytes, numbers, k, r) {
-        Some(v) => whole(v),
-        None => None,
-    }
+    whole(register(bytes, numbers, k, r)?)
 }
 
 /// The integer that a value is.
@@ -76,10 +73,7 @@ pub fn vector(bytes: &[u8; 2632], numbers: &[i64; 2129], k: usize, r: u8) -> Opt
     requires { k < 32 }
     ensures { (found_of result ≡ vector (frame_in bytes.now numbers.now k) r) × Narrow result }
 {
-    match register(bytes, numbers, k, r) {
-        Some(v) => vector_of(v),
-        None => None,
-    }
+    vector_of(register(bytes, numbers, k, r)?)
 }
 
 /// The place of the vector that a value is.
@@ -99,10 +93,7 @@ pub fn promise(bytes: &[u8; 2632], numbers: &[i64; 2129], k: usize, r: u8) -> Op
     requires { k < 32 }
     ensures { (found_of result ≡ promise (frame_in bytes.now numbers.now k) r) × Narrow result }
 {
-    match register(bytes, numbers, k, r) {
-        Some(v) => promise_of(v),
-        None => None,
-    }
+    promise_of(register(bytes, numbers, k, r)?)
 }
 
 /// The place of the promise that a value is.

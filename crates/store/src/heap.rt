@@ -3,7 +3,7 @@
 ghost use Rattle.std.specs.Prelude.{◌≡◌, ◌<◌, ◌≤◌, pos, length, get_or};
 ghost use Rattle.machine.specs.States.{items_of};
 ghost use Rattle.store.specs.Store.{cache_of, promise_in, state_in, vector_in};
-ghost use Rattle.store.specs.Counts.{Frees, FreesVector, Ready, in_use, is_held, one, taken};
+ghost use Rattle.store.specs.Counts.{Frees, FreesVector, Ready, in_use, taken};
 ghost use Rattle.store.specs.Acts.{Leaves, cache_put, item_put, vector_copied, with_delay};
 
 use machine::{Cache, Promise};
@@ -13,8 +13,7 @@ pub fn items(bytes: &[u8; 2632], numbers: &[i64; 2129], v: usize) -> u8
     requires { v < 64 }
     ensures { (result ≡ length (items_of (vector_in bytes.now numbers.now v))) × (result ≤ 16) }
 {
-    let n = bytes[2560 + v];
-    if n < 16 { n } else { 16 }
+    bytes[2560 + v].min(16)
 }
 
 /// The item `j` of the vector `v`.
@@ -45,10 +44,7 @@ fn is_taken(counts: &[u16; 800], i: usize, j: usize) -> bool
     requires { (i < 800) × (j < 800) }
     ensures { result ≡ taken counts.now i j }
 {
-    if counts[i] != 0 {
-        return true;
-    }
-    counts[j] != 0
+    counts[i] != 0 || counts[j] != 0
 }
 
 /// The lowest of 64 places whose counts, from `a` and from `b` on, are 0.
@@ -56,11 +52,8 @@ fn free(counts: &[u16; 800], a: usize, b: usize) -> Option<usize>
     requires { (a ≤ 512) × (b ≤ 512) }
     ensures { Frees result counts.now a b }
 {
-    let mut i: usize = 0;
-    while i < 64 {
-        if is_taken(counts, a + i, b + i) {
-            i += 1;
-        } else {
+    for i in 0..64 {
+        if !is_taken(counts, a + i, b + i) {
             return Some(i);
         }
     }
@@ -70,24 +63,11 @@ fn free(counts: &[u16; 800], a: usize, b: usize) -> Option<usize>
 /// The greatest number of vectors.
 const VECTORS: u8 = 64;
 
-/// 1 for a count that is not 0.
-fn held(count: u16) -> u16
-    ensures { (result ≡ one (is_held count)) × (result ≤ 1) }
-{
-    if count != 0 { 1 } else { 0 }
-}
-
 /// How many of the 64 counts of vectors are not 0.
 pub fn in_use(counts: &[u16; 800]) -> u8
     ensures { result ≡ in_use counts.now }
 {
-    let mut n: u16 = 0;
-    let mut v: usize = 0;
-    while v < 64 {
-        n += held(counts[v]);
-        v += 1;
-    }
-    n as u8
+    counts[..64].iter().filter(|count| **count != 0).count() as u8
 }
 
 /// A free place for a vector, where fewer than `most` are in use.
@@ -128,10 +108,8 @@ pub fn copy_vector(
     requires { (v < 64) × (w < 64) × Ready bytes.old numbers.old counts.now }
     ensures { Leaves bytes.new numbers.new counts.now (vector_copied bytes.old numbers.old v w) }
 {
-    let mut j: usize = 0;
-    while j < 16 {
+    for j in 0..16 {
         numbers[1024 + 16 * w + j] = numbers[1024 + 16 * v + j];
-        j += 1;
     }
     bytes[2560 + w] = bytes[2560 + v];
 }

@@ -1,11 +1,11 @@
 -- A text that fits a buffer, one that does not, and none.
-use mathlib.Core.Path.{◌≡◌, refl, sym, ap, ◌∙◌}
-use mathlib.Core.List.{List, [], ◌∷◌, ◌++◌}
-use mathlib.Core.Bool.{Bool, true, false, cond}
+use mathlib.Core.Path.{◌≡◌, refl}
+use mathlib.Core.List.{List, [], ◌∷◌}
+use mathlib.Core.Bool.{false}
 use Prim.Native.Nat.{ℕ, ◌+◌, ◌<◌, ◌≤◌}
 use native.Mathlib.Omega.{arith}
 use lib.Dec.{leb}
-use lib.ListN.{length, take, drop}
+use lib.ListN.{length}
 use borrow.Author.Tests.{le-leb, lt-leb, ne_eqb}
 use Rattle.layout.specs.Records.{choose}
 use Rattle.writer.specs.Text.{placed}
@@ -31,16 +31,3 @@ next_row n x row rows h = rw (ne_eqb n row.0 h) refl
 pub no_row : {A : Type 0} (n : ℕ) (x : A) → choose n x [] ≡ x
 unfolding choose
 no_row n x = refl
-
--- a number that has no row says nothing
-pub nothing : (t out : List ℕ) → t ≡ [] → (0 ≡ written_of t (length out)) × (out ≡ placed out 0 t)
-unfolding written_of placed
-nothing t out e = rw e (written (leb 0 (length out)), put (leb 0 (length out)))
-  where
-    written : (b : Bool) → ◌≡◌ {A = ℕ} 0 (cond b 0 0)
-    written true = refl
-    written false = refl
-
-    put : (b : Bool) → out ≡ cond b (take 0 out ++ [] ++ drop 0 out) out
-    put true = refl
-    put false = refl

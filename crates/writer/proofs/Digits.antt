@@ -2,8 +2,9 @@
 use mathlib.Core.Path.{◌≡◌, refl, sym, ap, ◌∙◌}
 use mathlib.Core.List.{List, [], ◌∷◌, ◌++◌}
 use mathlib.Core.Bool.{Bool, true, false}
-use Prim.Native.Nat.{ℕ, zero, suc, ◌+◌, ◌/◌, ◌%◌, ◌^◌, ◌≤◌, ◌<◌}
+use Prim.Native.Nat.{ℕ, zero, suc, ◌+◌, ◌*◌, ◌/◌, ◌%◌, ◌^◌, ◌≤◌, ◌<◌}
 use native.Mathlib.Nat.{pow-suc}
+use Rattle.std.proofs.Math.Nat.{one-le-pow}
 use native.Mathlib.Omega.{arith}
 use lib.Dec.{ltb}
 use lib.ListN.{length, length-append}
@@ -69,3 +70,40 @@ length-one n h = ap length (decimal-one n h)
 -- any other has one more than its tenth
 pub length_more : (n : ℕ) → 10 ≤ n → n < 10 ^ 20 → length (decimal n) ≡ length (decimal (n / 10)) + 1
 length_more n h most = ap length (decimal-more n h most) ∙ simp length-append
+
+-- k + 1 digits from 10 ^ k on
+pub length-tens : (n k : ℕ) → 10 ^ k ≤ n → n < 10 * 10 ^ k → n < 10 ^ 20 → length (decimal n) ≡ k + 1
+length-tens n zero low high most = length-one n (omega (arith, high))
+length-tens n (suc k) low high most =
+    let many : 10 ≤ n = omega (arith, rw (pow-suc 10 k) at low, one-le-pow k 10 (omega arith)) in
+    let tenth : length (decimal (n / 10)) ≡ k + 1 =
+    length-tens (n / 10) k (omega (arith, rw (pow-suc 10 k) at low)) (omega (arith, rw (pow-suc 10 k) at high)) (omega arith) in
+    omega (arith, length_more n many most, tenth)
+
+-- as many digits as there are are all of them
+digits-whole : (k n : ℕ) → digits (length (digits k n)) n ≡ digits k n
+unfolding digits
+digits-whole zero n = refl
+digits-whole (suc k) n =
+    by_ten n
+    (λ below. rw (digits-one k n below) (digits-one 0 n below))
+    (λ above.
+    let more = digits_more k n above in
+    let size : length (digits (suc k) n) ≡ suc (length (digits k (n / 10))) = omega (arith, ap length more, length-append (digits k (n / 10)) ((48 + n % 10) ∷ [])) in
+    rw size
+    (digits_more (length (digits k (n / 10))) n above
+    ∙ ap (λ (front : List ℕ). front ++ ((48 + n % 10) ∷ [])) (digits-whole k (n / 10))
+    ∙ sym more))
+
+pub decimal-whole : (n : ℕ) → digits (length (decimal n)) n ≡ decimal n
+decimal-whole n = digits-whole 20 n
+
+-- where there are more digits to come, the last stands behind those of the tenth
+pub digits-last : (k n : ℕ) → length (digits (suc k) n) ≡ suc k → digits (suc k) n ≡ digits k (n / 10) ++ ((48 + n % 10) ∷ [])
+unfolding digits
+digits-last k n size =
+    by_ten n
+    (λ below.
+    let none : k ≡ 0 = omega (arith, size, ap length (digits-one k n below)) in
+    rw none (digits-one 0 n below))
+    (λ above. digits_more k n above)

@@ -7,7 +7,9 @@ use native.Mathlib.Nat.{add-zero, add-suc, suc-add}
 use native.Mathlib.Omega.{arith}
 use lib.Dec.{leb}
 use lib.ListN.{length, take, drop, set, length-append, length-set}
-use lib.Seq.{sets, length-sets, sets-eq, set_comm}
+use lib.Seq.{sets, length-sets, sets-eq, set_comm, take-length}
+use borrow.Rule.Slice.PartMut.{put_mid}
+use Rattle.std.proofs.lemmas.Slice.{put_mid-paste}
 use borrow.Author.Tests.{le-leb, lt-leb, leb-true, leb-false}
 use Rattle.writer.specs.Text.{placed}
 
@@ -32,6 +34,14 @@ pub placed-fits : (out : List ℕ) (at : ℕ) (t : List ℕ) → at + length t �
     → placed out at t ≡ take at out ++ t ++ drop (at + length t) out
 unfolding placed
 placed-fits out at t h = rw (le-leb (at + length t) (length out) h)
+
+-- bytes written over the middle of a buffer
+pub placed-mid : (out : List ℕ) (at size : ℕ) (t u : List ℕ) → u ≡ t → size ≡ length t → at + length t ≤ length out
+    → put_mid at size out u ≡ placed out at t
+placed-mid out at size t u e n h =
+    put_mid-paste at size out u t (length t) e (sym n) refl
+    ∙ ap (λ (l : List ℕ). take at out ++ l ++ drop (at + length t) out) (take-length t)
+    ∙ sym (placed-fits out at t h)
 
 -- bytes that do not fit change nothing
 pub placed_past : (out : List ℕ) (at : ℕ) (t : List ℕ) → length out < at + length t → placed out at t ≡ out

@@ -25,13 +25,7 @@ fn last_digit(n: usize) -> u8
 pub fn digits_of(n: usize) -> usize
     ensures { (result ≡ length (decimal n)) × (result ≤ 20) }
 {
-    let mut rest = n;
-    let mut count = 1;
-    while 10 <= rest {
-        rest = rest / 10;
-        count += 1;
-    }
-    count
+    n.checked_ilog10().map_or(1, |tens| tens as usize + 1)
 }
 
 /// Puts the byte `b` at the place `at`, where the buffer has that place.
@@ -49,14 +43,11 @@ fn put_digits(out: &mut [u8], at: usize, size: usize, n: usize)
     requires size_in_bounds { at + size ≤ length out.old }
     ensures { out.new ≡ placed out.old at (decimal n) }
 {
-    let mut end = at + size;
     let mut front = n;
-    while 10 <= front {
-        end -= 1;
-        out[end] = last_digit(front);
-        front = front / 10;
+    for place in (at..at + size).rev() {
+        out[place] = last_digit(front);
+        front /= 10;
     }
-    out[at] = last_digit(front);
 }
 
 /// Puts the decimal digits of `n` from the place `at` on, where they fit.
@@ -69,23 +60,11 @@ pub fn put_number(out: &mut [u8], at: usize, n: usize)
     }
 }
 
-/// Puts all of `t` from the place `at` on.
-fn copy(out: &mut [u8], at: usize, t: &[u8])
-    requires { at + length t.now ≤ length out.old }
-    ensures { out.new ≡ placed out.old at t.now }
-{
-    let mut i = 0;
-    while i < t.len() {
-        out[at + i] = t[i];
-        i += 1;
-    }
-}
-
 /// Puts the bytes `t` from the place `at` on, where they fit.
 pub fn put_bytes(out: &mut [u8], at: usize, t: &[u8])
     ensures { out.new ≡ placed out.old at t.now }
 {
     if fits(out.len(), at, t.len()) {
-        copy(out, at, t);
+        out[at..at + t.len()].copy_from_slice(t);
     }
 }

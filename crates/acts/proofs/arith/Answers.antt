@@ -31,12 +31,12 @@ pub assign_integer-requires : goal.assign_integer-requires
 assign_integer-requires c =
     c.requires
 
-pub returns-in-Integer : goal.returns-in-Integer
+pub returns-in-Ok : goal.returns-in-Ok
 unfolding execute_to ◌>>=◌
-returns-in-Integer c =
+returns-in-Ok c =
     let sx : SFits w64 c.in-Some.x = search rules in
     let sy : SFits w64 c.in-Some-integer.y = search rules in
-    let sz : SFits w64 c.in-Integer.z = search rules in
+    let sz : SFits w64 c.in-Ok.z = search rules in
     let e = rw (to_z-of_z sx, to_z-of_z sy) at c.arith.ensures in
     let g = rw (to_z-of_z sz) at c.assign_integer.ensures in (
       λ P W. by _ _ _ _ _
@@ -47,14 +47,14 @@ returns-in-Integer c =
                 c.integer-2.ensures
                 c.in-Some-integer.is,
             computed-got _ _
-                (sym e ∙ c.in-Integer.is),
+                (sym e ∙ c.in-Ok.is),
           ) refl) g.0,
       g.1,
     )
 
-pub returns-in-Undef : goal.returns-in-Undef
+pub returns-in-Err-Undef : goal.returns-in-Err-Undef
 unfolding execute_to ◌>>=◌ end_of
-returns-in-Undef c =
+returns-in-Err-Undef c =
     let sx : SFits w64 c.in-Some.x = search rules in
     let sy : SFits w64 c.in-Some-integer.y = search rules in
     let e = rw (to_z-of_z sx, to_z-of_z sy) at c.arith.ensures in (
@@ -63,14 +63,14 @@ returns-in-Undef c =
             c.in-Some.is,
         whole_is c.integer-2.ensures
             c.in-Some-integer.is,
-        arith-undef _ _ _ (sym e ∙ c.in-Undef.is),
+        arith-undef _ _ _ (rw c.in-Err-Undef.field-0-is at (sym e ∙ c.in-Err-Undef.is)),
       ) refl),
       c.requires.0,
     )
 
-pub returns-in-Stuck : goal.returns-in-Stuck
+pub returns-in-Err-Stuck : goal.returns-in-Err-Stuck
 unfolding execute_to ◌>>=◌
-returns-in-Stuck c =
+returns-in-Err-Stuck c =
     let sx : SFits w64 c.in-Some.x = search rules in
     let sy : SFits w64 c.in-Some-integer.y = search rules in
     let e = rw (to_z-of_z sx, to_z-of_z sy) at c.arith.ensures in (
@@ -79,7 +79,7 @@ returns-in-Stuck c =
             c.in-Some.is,
         whole_is c.integer-2.ensures
             c.in-Some-integer.is,
-        computed-stuck _ (sym e ∙ c.in-Stuck.is),
+        computed-stuck _ (rw c.in-Err-Stuck.field-0-is at (sym e ∙ c.in-Err-Stuck.is)),
       ) refl),
       c.requires.0,
     )

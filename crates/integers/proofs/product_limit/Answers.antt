@@ -1,21 +1,11 @@
 -- `integers::product_limit`: by the signs.
-use Rattle.integers.proofs.Ranges.{limits}
-use mathlib.Core.Bool.{true, false}
+use mathlib.Core.Path.{sym}
 use mir.Facts.{to_z-of_z}
+use Rattle.integers.proofs.Ranges.{alike, unlike}
 use Rattle.integers.proofs.product_limit.Goals as goal
 
-pub returns-then-y-lt0 : goal.returns-then-y-lt0
-returns-then-y-lt0 c =
-    limits _ _ true true (rw (to_z-of_z c.ranges.x) at c.if-x-lt0.true) (rw (to_z-of_z c.ranges.y) at c.if-y-lt0.true)
+pub returns-then-x-y : goal.returns-then-x-y
+returns-then-x-y c = sym (alike _ _ (rw (to_z-of_z c.ranges.x, to_z-of_z c.ranges.y) at c.if-x-y.true))
 
-pub returns-then-x-lt0 : goal.returns-then-x-lt0
-returns-then-x-lt0 c =
-    limits _ _ true false (rw (to_z-of_z c.ranges.x) at c.if-x-lt0.true) (rw (to_z-of_z c.ranges.y) at c.if-y-lt0.false)
-
-pub returns-then-y-lt0-2 : goal.returns-then-y-lt0-2
-returns-then-y-lt0-2 c =
-    limits _ _ false true (rw (to_z-of_z c.ranges.x) at c.if-x-lt0.false) (rw (to_z-of_z c.ranges.y) at c.if-y-lt0-2.true)
-
-pub returns : goal.returns
-returns c =
-    limits _ _ false false (rw (to_z-of_z c.ranges.x) at c.if-x-lt0.false) (rw (to_z-of_z c.ranges.y) at c.if-y-lt0-2.false)
+pub returns-else-x-y : goal.returns-else-x-y
+returns-else-x-y c = sym (unlike _ _ (rw (to_z-of_z c.ranges.x, to_z-of_z c.ranges.y) at c.if-x-y.false))

@@ -1,25 +1,9 @@
--- `integers::subtract`: the difference in the width, where it is in range.
-use Rattle.integers.proofs.Answers.{in-range, out_of_range}
-use Rattle.integers.proofs.Ranges.{passing}
-use mathlib.Core.Path.{sym, ◌∙◌}
+-- `integers::subtract`: the difference, where the library finds it in range.
+use mathlib.Core.Path.{◌∙◌}
 use mir.Facts.{to_z-of_z}
+use Rattle.integers.proofs.Answers.{checked}
 use Rattle.integers.proofs.subtract.Goals as goal
-
-pub overflow_sub-result : goal.overflow_sub-result
-overflow_sub-result c =
-    let p = c.ranges.x in
-    let q = c.ranges.y in
-    rw (to_z-of_z p, to_z-of_z q) (passing _ (rw (to_z-of_z p, to_z-of_z q) at (sym c.difference_in_range.ensures ∙ c.if-difference_in_range.true)))
-
-pub returns-then-difference_in_range : goal.returns-then-difference_in_range
-returns-then-difference_in_range c =
-    let p = c.ranges.x in
-    let q = c.ranges.y in
-    let is = rw (to_z-of_z p, to_z-of_z q) at (sym c.difference_in_range.ensures ∙ c.if-difference_in_range.true) in
-    rw (to_z-of_z p, to_z-of_z q, to_z-of_z (passing _ is)) (in-range _ is)
 
 pub returns : goal.returns
 returns c =
-    let p = c.ranges.x in
-    let q = c.ranges.y in
-    out_of_range _ (rw (to_z-of_z p, to_z-of_z q) at (sym c.difference_in_range.ensures ∙ c.if-difference_in_range.false))
+    c.ok_or.ensures.value ∙ checked _ _ (rw (to_z-of_z c.ranges.x, to_z-of_z c.ranges.y) at c.checked_sub.ensures)

@@ -1,66 +1,48 @@
+-- `writer::put_digits`: the last of the digits that are left may be stored before those in front of it.
 use mathlib.Core.Path.{◌≡◌, refl, sym, ap, ◌∙◌}
-use mathlib.Core.List.{List}
-use Prim.Native.Nat.{ℕ, ◌+◌, ◌-◌, ◌/◌, ◌%◌, ◌^◌, ◌≤◌, ◌<◌}
+use mathlib.Core.List.{List, [], ◌∷◌}
+use Prim.Native.Nat.{ℕ, suc, ◌+◌, ◌-◌, ◌/◌, ◌%◌, ◌<◌}
 use native.Mathlib.Omega.{arith}
-use lib.ListN.{length, set, length-set}
-use Rattle.writer.specs.Text.{decimal, placed}
-use Rattle.writer.proofs.Digits.{decimal-one, decimal-more, length-one, length_more}
-use Rattle.writer.proofs.Placed.{placed-byte, placed-last}
+use lib.ListN.{length, set, length-set, length-append}
+use Rattle.writer.specs.Text.{decimal, digits, placed}
+use Rattle.writer.proofs.Digits.{decimal-whole, digits-last}
+use Rattle.writer.proofs.Placed.{placed-last, placed-none}
 use Rattle.writer.proofs.put_digits.Goals as goal
 
--- the last of several digits may be stored before those in front of it
-last_stored : (out : List ℕ) (at end n d : ℕ) → 10 ≤ n → n < 10 ^ 20 → end ≡ at + length (decimal n) → end ≤ length out → d ≡ 48 + n % 10
-    → placed (set out (end - 1) d) at (decimal (n / 10)) ≡ placed out at (decimal n)
-last_stored out at end n d more most ends room digit =
-    let size = length_more n more most in
-    let place : end - 1 ≡ at + length (decimal (n / 10)) = omega (arith, size) in
-    rw (place, digit)
-    (placed-last out at (decimal (n / 10)) (48 + n % 10) (omega (arith, size)) ∙ ap (placed out at) (sym (decimal-more n more most)))
-
--- a single digit is one store
-one-stored : (out : List ℕ) (at n d : ℕ) → n < 10 → at < length out → d ≡ 48 + n % 10 → set out at d ≡ placed out at (decimal n)
-one-stored out at n d below room digit = rw (digit, decimal-one n below) (placed-byte out at (48 + n % 10) room)
-
-pub overflow_add-end : goal.overflow_add-end
-overflow_add-end c = omega arith
-
-pub loop-front-init : goal.loop-front-init
-loop-front-init c = (omega arith, omega arith, c.requires.size_in_bounds, refl, refl)
-
-pub overflow_sub-end : goal.overflow_sub-end
-overflow_sub-end c = omega (arith, length_more c.loop-front.front (omega arith) (omega arith))
-
-pub bounds-out-end : goal.bounds-out-end
-bounds-out-end c = omega (arith, length_more c.loop-front.front (omega arith) (omega arith))
-
-pub loop-front-smaller : goal.loop-front-smaller
-loop-front-smaller c = omega arith
-
-pub loop-front-preserved : goal.loop-front-preserved
-loop-front-preserved c =
-    let now = c.loop-front in
-    let more : 10 ≤ now.front = omega arith in
-    let most : now.front < 10 ^ 20 = omega arith in (
-      omega arith,
-      omega (arith, length_more now.front more most),
-      rw length-set (omega arith),
-      rw length-set now.invariant.3,
-      last_stored now.out _ now.end now.front _ more most now.invariant.1 now.invariant.2 c.last_digit.ensures ∙ now.invariant.4,
+-- the k digits in front of the last one, and the last one stored
+last_stored : (out : List ℕ) (at k place n d : ℕ) → place ≡ at + k → place < length out → length (digits (suc k) n) ≡ suc k → d ≡ 48 + n % 10
+    → (length (digits k (n / 10)) ≡ k) × (placed (set out place d) at (digits k (n / 10)) ≡ placed out at (digits (suc k) n))
+last_stored out at k place n d ends room whole digit =
+    let front = digits k (n / 10) in
+    let last = digits-last k n whole in
+    let size : length front ≡ k = omega (arith, whole, ap length last, length-append front ((48 + n % 10) ∷ [])) in
+    let there : place ≡ at + length front = omega arith in (
+      size,
+      rw (last, there, digit) (placed-last out at front (48 + n % 10) (omega arith)),
     )
 
-pub bounds-out-at : goal.bounds-out-at
-bounds-out-at c =
-    omega (arith, length-one c.loop-front.front (omega (arith, c.loop-front-test.false)))
+pub loop-place-init : goal.loop-place-init
+loop-place-init c =
+    let all : c.args.at + c.args.size - c.args.at ≡ length (decimal c.args.n) = omega arith in
+    rw (all, decimal-whole c.args.n) (omega arith, omega arith, c.requires.size_in_bounds, refl, refl)
 
-pub shape_of-out : goal.shape_of-out
-shape_of-out c =
-    let now = c.loop-front in
-    length-set now.out c.args.at c.last_digit-2.result ∙ now.invariant.3
+pub loop-place-preserved : goal.loop-place-preserved
+loop-place-preserved c =
+    let now = c.loop-place in
+    let at = c.args.at in
+    let k = now.place - 1 - at in
+    let more : now.place - at ≡ suc k = omega arith in
+    let step = last_stored now.out at k (now.place - 1) now.front _ (omega arith) (omega arith) (rw more at now.invariant.3) c.last_digit.ensures in (
+      omega arith,
+      omega arith,
+      rw length-set (omega arith),
+      step.0,
+      step.1 ∙ rw more at now.invariant.4,
+    )
 
 pub returns : goal.returns
+unfolding digits
 returns c =
-    let now = c.loop-front in
-    let at = c.args.at in
-    let below : now.front < 10 = omega (arith, c.loop-front-test.false) in
-    let room : at < length now.out = omega (arith, length-one now.front below) in
-    one-stored now.out at now.front c.last_digit-2.result below room c.last_digit-2.ensures ∙ now.invariant.4
+    let now = c.loop-place in
+    let none : now.place - c.args.at ≡ 0 = omega arith in
+    sym (placed-none now.out c.args.at) ∙ rw none at now.invariant.4

@@ -1,14 +1,11 @@
--- `writer::put_digits`: the digits that are left, put before `end`, make the number whole.
+-- `writer::put_digits`: the digits that are left, put before the next place, make the number whole.
 use mathlib.Core.Path.{◌≡◌}
-use Prim.Native.Nat.{◌+◌, ◌≤◌}
+use Prim.Native.Nat.{◌-◌, ◌≤◌}
 use lib.ListN.{length}
-use Rattle.writer.specs.Text.{decimal, placed}
+use Rattle.writer.specs.Text.{decimal, digits, placed}
 use Rattle.writer.proofs.put_digits.Given as goal
 
-abbrev pub invariant-loop-front : goal.invariant-loop-front
-invariant-loop-front l =
-    (l.front ≤ l.n) × (l.end ≡ l.at + length (decimal l.front)) × (l.end ≤ length l.out) × (length l.out ≡ length l.initial.out)
-    × (placed l.out l.at (decimal l.front) ≡ placed l.initial.out l.at (decimal l.n))
-
-abbrev pub decreases-loop-front : goal.decreases-loop-front
-decreases-loop-front l = l.front
+abbrev pub invariant-loop-place : goal.invariant-loop-place
+invariant-loop-place l =
+    (l.front ≤ l.n) × (l.at ≤ l.place) × (l.place ≤ length l.out) × (length (digits (l.place - l.at) l.front) ≡ l.place - l.at)
+    × (placed l.out l.at (digits (l.place - l.at) l.front) ≡ placed l.initial.out l.at (decimal l.n))

@@ -1,12 +1,12 @@
 -- `machine::Frame::refers_to`: the registers, then the names.
-use Rattle.machine.specs.States.{refers}
 use mathlib.Core.Path.{sym, ◌∙◌}
+use Rattle.machine.specs.States.{refers}
 use Rattle.machine.proofs.Frame.refers_to.Goals as goal
 
-pub returns-then-a_register_holds : goal.returns-then-a_register_holds
+pub returns-then-holds : goal.returns-then-holds
 unfolding refers
-returns-then-a_register_holds c = rw (sym c.a_register_holds.ensures ∙ c.if-a_register_holds.true)
+returns-then-holds c = rw (sym c.holds.ensures ∙ c.if-holds.true) c.if-holds.true
 
-pub returns : goal.returns
+pub returns-else-holds : goal.returns-else-holds
 unfolding refers
-returns c = rw (sym c.a_register_holds.ensures ∙ c.if-a_register_holds.false) c.a_name_holds.ensures
+returns-else-holds c = rw (sym c.holds.ensures ∙ c.if-holds.false) c.holds-else-holds.ensures

@@ -5,12 +5,12 @@ use Rattle.machine.specs.States.{integer}
 use Rattle.store.proofs.Frames.{read-holds, read-outside, register-goes}
 use Rattle.store.proofs.cells.integer.Goals as goal
 
-pub returns-in-Some : goal.returns-in-Some
+pub returns : goal.returns
 unfolding integer ◌>>=◌
-returns-in-Some c =
-    rw (read-holds c.register.ensures c.in-Some.is) c.whole.ensures
+returns c =
+    rw (read-holds c.register.ensures c.in_ok-register.was) c.whole.ensures
 
-pub returns-in-None : goal.returns-in-None
+pub returns-in_err-register : goal.returns-in_err-register
 unfolding integer ◌>>=◌ whole_of
-returns-in-None c =
-    rw (read-outside c.register.ensures c.in-None.is (register-goes _ _ _ _)) refl
+returns-in_err-register c =
+    rw (c.from_residual.ensures, read-outside c.register.ensures c.in_err-register.was (register-goes _ _ _ _)) refl

@@ -7,12 +7,12 @@ use Rattle.machine.specs.States.{promise}
 use mathlib.Core.Path.{refl}
 use Rattle.store.proofs.cells.promise.Goals as goal
 
-pub returns-in-Some : goal.returns-in-Some
+pub returns : goal.returns
 unfolding promise ◌>>=◌
-returns-in-Some c =
-    (rw (read-holds c.register.ensures c.in-Some.is) c.promise_of.ensures.0, c.promise_of.ensures.1)
+returns c =
+    (rw (read-holds c.register.ensures c.in_ok-register.was) c.promise_of.ensures.0, c.promise_of.ensures.1)
 
-pub returns-in-None : goal.returns-in-None
+pub returns-in_err-register : goal.returns-in_err-register
 unfolding promise ◌>>=◌ found_of Narrow
-returns-in-None c =
-    (rw (read-outside c.register.ensures c.in-None.is (register-goes _ _ _ _)) refl, omega arith)
+returns-in_err-register c =
+    rw (c.from_residual.ensures, read-outside c.register.ensures c.in_err-register.was (register-goes _ _ _ _)) (refl, omega arith)

@@ -1,11 +1,14 @@
-use Rattle.store.proofs.InUse.{upto_all, upto-none, upto-on}
+use mathlib.Core.Path.{◌≡◌, ◌∙◌}
+use mathlib.Core.Bool.{not}
+use Prim.Native.Nat.{ℕ}
+use lib.Dec.{eqb}
+use lib.ListN.{take}
+use borrow.Author.Rules.{rules}
+use Rattle.std.specs.Prelude.{count_by}
+use Rattle.store.proofs.InUse.{counted-in_use}
 use Rattle.store.proofs.heap.in_use.Goals as goal
 
-pub loop-v-init : goal.loop-v-init
-loop-v-init c = upto-none _
-
-pub loop-v-preserved : goal.loop-v-preserved
-loop-v-preserved c = upto-on _ _ _ _ c.loop-v-test.true c.loop-v.invariant c.held-n.ensures.0 c.held-n.ensures.1
-
 pub returns : goal.returns
-returns c = upto_all _ _ _ c.loop-v-test.false c.loop-v.invariant
+returns c =
+    let e : c.count.result ≡ count_by (λ (x : ℕ). not (eqb x 0)) (take 64 c.args.counts.now) = search rules in
+    e ∙ counted-in_use _ c.told-counts

@@ -5,10 +5,8 @@ use Rattle.store.proofs.heap.is_taken.Goals as goal
 
 pub returns-then-counts-i-ne0 : goal.returns-then-counts-i-ne0
 unfolding taken
-returns-then-counts-i-ne0 c =
-    rw (ne_eqb _ _ c.if-counts-i-ne0.true) refl
+returns-then-counts-i-ne0 c = rw (ne_eqb _ _ c.if-counts-i-ne0.true) refl
 
-pub returns : goal.returns
+pub returns-else-counts-i-ne0 : goal.returns-else-counts-i-ne0
 unfolding taken
-returns c =
-    rw (eq-eqb _ _ c.if-counts-i-ne0.false) refl
+returns-else-counts-i-ne0 c = rw (eq-eqb _ _ c.if-counts-i-ne0.false) refl

@@ -1,12 +1,8 @@
-use mathlib.Core.Path.{sym}
+-- `store::heap::items`: no more than there is room for.
 use native.Mathlib.Omega.{arith}
-use Rattle.store.proofs.Vectors.{count-few, count-many}
+use mathlib.Core.Path.{◌∙◌}
+use Rattle.store.proofs.Vectors.{count-most}
 use Rattle.store.proofs.heap.items.Goals as goal
 
-pub returns-then-n-lt16 : goal.returns-then-n-lt16
-returns-then-n-lt16 c =
-    (sym (count-few _ _ _ c.if-n-lt16.true), omega (arith, c.if-n-lt16.true))
-
-pub returns-else-n-lt16 : goal.returns-else-n-lt16
-returns-else-n-lt16 c =
-    (sym (count-many _ _ _ c.if-n-lt16.false), omega arith)
+pub returns : goal.returns
+returns c = (c.min.ensures ∙ count-most _ _ _, omega (arith, c.min.ensures))
