@@ -50,17 +50,7 @@ fn version_end(image: &[u8], v: usize) -> usize
 fn same(a: &[u8], b: &[u8]) -> bool
     ensures { result ≡ same_bytes a.now b.now }
 {
-    if a.len() != b.len() {
-        return false;
-    }
-    let mut i: usize = 0;
-    while i < a.len() {
-        if a[i] != b[i] {
-            return false;
-        }
-        i += 1;
-    }
-    true
+    a == b
 }
 
 /// Has the version at `p` of the old image the same bytes as the one at `q` of the new image?
@@ -117,14 +107,12 @@ fn is_live(bytes: &[u8; 2632], f: usize, w: usize) -> bool
     ensures { result ≡ is_live (owned_by bytes.now) f w }
 {
     let live = live_calls(bytes);
-    let mut k: usize = 0;
-    while k < live {
+    for k in 0..live {
         let function = layout::byte(bytes, 32 * k + FUNCTION);
         let version = layout::byte(bytes, 32 * k + VERSION);
         if are(function, version, f, w) {
             return true;
         }
-        k += 1;
     }
     false
 }
@@ -191,14 +179,12 @@ fn all_there(new: &[u8], after: &[usize; 128], bytes: &[u8; 2632]) -> bool
     ensures { result ≡ all_there (program_of new.now) (owned_by bytes.now) }
 {
     let live = live_calls(bytes);
-    let mut k: usize = 0;
-    while k < live {
+    for k in 0..live {
         let function = layout::byte(bytes, 32 * k + FUNCTION);
         let version = layout::byte(bytes, 32 * k + VERSION);
         let Some(_) = lookup::listed(new, after, function, version) else {
             return false;
         };
-        k += 1;
     }
     true
 }

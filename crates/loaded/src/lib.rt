@@ -182,10 +182,8 @@ fn fill(image: &[u8], table: &mut [u8])
 fn clear(table: &mut [u8])
     ensures { (length table.new ≡ length table.old) × ((k : ℕ) → k < 256 → table.new ! k ≡ 0) }
 {
-    let mut k: usize = 0;
-    while k < VERSION_BYTES {
+    for k in 0..VERSION_BYTES {
         put(table, k, 0);
-        k += 1;
     }
 }
 

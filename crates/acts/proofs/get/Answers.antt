@@ -40,7 +40,7 @@ returns-in_default-integer c = (
 
 pub item-x-requires : goal.item-x-requires
 item-x-requires c =
-    let s : SFits w64 c.in-Some.z = search rules in
+    let s : SFits w64 c.in-Some-integer.z = search rules in
     let e = rw (to_z-of_z s, c.items.ensures.0) at c.index.ensures in (
       c.if-v-ge64.false,
       index_below _ _ _
@@ -53,7 +53,7 @@ assign_integer-requires c =
 
 pub returns-in-Some-index : goal.returns-in-Some-index
 returns-in-Some-index c =
-    let s : SFits w64 c.in-Some.z = search rules in
+    let s : SFits w64 c.in-Some-integer.z = search rules in
     let e = rw (to_z-of_z s, c.items.ensures.0) at
     c.index.ensures in
     let x : SFits w64 c.item-x.result = search rules in
@@ -66,15 +66,15 @@ returns-in-Some-index c =
           c.in-Some.is)
           c.if-v-ge64.false _
           (whole_is c.integer.ensures
-          c.in-Some.is)
+          c.in-Some-integer.is)
           (index_at _ _ _ (sym e ∙ c.in-Some-index.is)) c.item-x.ensures) g.0,
       g.1,
     )
 
-pub returns-in-Undef : goal.returns-in-Undef
+pub returns-in-None : goal.returns-in-None
 unfolding execute_to ◌>>=◌ end_of
-returns-in-Undef c =
-    let s : SFits w64 c.in-Some.z = search rules in
+returns-in-None c =
+    let s : SFits w64 c.in-Some-integer.z = search rules in
     let e = rw (to_z-of_z s, c.items.ensures.0) at c.index.ensures in (
       λ P W. stops _ _ Halt.Undef
           (rw (
@@ -84,8 +84,8 @@ returns-in-Undef c =
                 c.if-v-ge64.false,
             whole_is
                 c.integer.ensures
-                c.in-Some.is,
-            index-undef _ _ (sym e ∙ c.in-Undef.is),
+                c.in-Some-integer.is,
+            index-undef _ _ (sym e ∙ c.in-None.is),
           ) refl),
       c.requires.0,
     )

@@ -49,7 +49,7 @@ returns-in_default-integer-2 c = (
     vector-at _ _ _
         c.if-v-ge64.false,
     whole_is
-        c.integer.ensures c.in-Some.is,
+        c.integer.ensures c.in-Some-integer.is,
     whole-stuck
         c.integer-2.ensures c.in_default-integer-2.is,
   ) refl),
@@ -68,15 +68,15 @@ returns-then-counts-v-ne1 c = (
       c.in-Some.is)
       c.if-v-ge64.false
       (whole_is c.integer.ensures
-      c.in-Some.is)
-      (whole_is c.integer-2.ensures c.in-Some-integer.is) c.if-counts-v-ne1.true),
+      c.in-Some-integer.is)
+      (whole_is c.integer-2.ensures c.in-Some-integer-2.is) c.if-counts-v-ne1.true),
   c.requires.0,
 )
 
 pub set_item-requires : goal.set_item-requires
 set_item-requires c =
     let s : SFits w64
-    c.in-Some.z = search rules in
+    c.in-Some-integer.z = search rules in
     let e = rw (to_z-of_z s) at c.index.ensures in
     let b = index_below _ _ _ (index_at _ _ _ (sym e ∙ c.in-Some-index.is)) in (
       c.if-v-ge64.false,
@@ -88,8 +88,8 @@ pub returns-in-Some-index : goal.returns-in-Some-index
 unfolding Does
 returns-in-Some-index c =
     let s : SFits w64
-    c.in-Some.z = search rules in
-    let t : SFits w64 c.in-Some-integer.x = search rules in
+    c.in-Some-integer.z = search rules in
+    let t : SFits w64 c.in-Some-integer-2.x = search rules in
     let e = rw (to_z-of_z s, c.items.ensures.0) at
     c.index.ensures in
     let g = rw (to_z-of_z t) at c.set_item.ensures in (
@@ -103,18 +103,18 @@ returns-in-Some-index c =
           c.in-Some.is)
           c.if-v-ge64.false
           (whole_is c.integer.ensures
-          c.in-Some.is)
-          (whole_is c.integer-2.ensures
           c.in-Some-integer.is)
+          (whole_is c.integer-2.ensures
+          c.in-Some-integer-2.is)
           c.if-counts-v-ne1.false
           (index_at _ _ _ (sym e ∙ c.in-Some-index.is)) ∙ ap got (sym g.0),
       g.1,
     )
 
-pub returns-in-Undef : goal.returns-in-Undef
+pub returns-in-None : goal.returns-in-None
 unfolding end_of
-returns-in-Undef c =
-    let s : SFits w64 c.in-Some.z = search rules in
+returns-in-None c =
+    let s : SFits w64 c.in-Some-integer.z = search rules in
     let e = rw (to_z-of_z s, c.items.ensures.0) at c.index.ensures in (
       λ P W. stops _ _ Halt.Undef
           (undef P W c.args.bytes.now
@@ -126,9 +126,9 @@ returns-in-Undef c =
           c.in-Some.is)
           c.if-v-ge64.false
           (whole_is c.integer.ensures
-          c.in-Some.is)
+          c.in-Some-integer.is)
           (whole_is c.integer-2.ensures
-          c.in-Some-integer.is) c.if-counts-v-ne1.false
-          (index-undef _ _ (sym e ∙ c.in-Undef.is))),
+          c.in-Some-integer-2.is) c.if-counts-v-ne1.false
+          (index-undef _ _ (sym e ∙ c.in-None.is))),
       c.requires.0,
     )

@@ -6,12 +6,12 @@ returns-in_default c =
     called-missing _ _ _ _ _ c.byte-f.ensures c.byte-w.ensures _ (c.version.ensures _)
     c.in_default.is
 
-pub returns-in-Some : goal.returns-in-Some
-returns-in-Some c =
+pub returns-in-Some-matches : goal.returns-in-Some-matches
+returns-in-Some-matches c =
     called-fits _ _ _ _ _ c.byte-f.ensures
     c.byte-w.ensures _ (c.version.ensures _)
     c.in-Some.is _ c.matches.ensures _
-    (first_of _ _ c.requires.1) c.in-Some.is
+    (first_of _ _ c.requires.1) c.in-Some-matches.is
 
 pub returns-in-None : goal.returns-in-None
 returns-in-None c =

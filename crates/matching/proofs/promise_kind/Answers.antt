@@ -40,8 +40,8 @@ returns-in_default-block c = (
   no_kind,
 )
 
-pub returns-in-Some : goal.returns-in-Some
-returns-in-Some c = (
+pub returns-in-Some-block : goal.returns-in-Some-block
+returns-in-Some-block c = (
   λ n. block-there
       c.args.image.now
       c.args.table.now
@@ -52,7 +52,7 @@ returns-in-Some c = (
       c.if-is_live.true
       (c.version.ensures _)
       c.in-Some.is c.block.ensures
-      c.in-Some.is (c.wide.ensures.0 ∙ c.mark_at.ensures.0 _),
+      c.in-Some-block.is (c.wide.ensures.0 ∙ c.mark_at.ensures.0 _),
   promise-valued c.wide.ensures.0 c.mark_at.ensures.1,
 )
 

@@ -12,14 +12,14 @@ returns-in_default-block c =
 pub returns-in-Line : goal.returns-in-Line
 returns-in-Line c =
     in-line _ _ _ _ _ _ c.version.ensures c.in-Some.is _ c.block.ensures
-    c.in-Some.is _ c.next.ensures c.in-Line.is _ c.looks_at.ensures
+    c.in-Some-block.is _ c.next.ensures c.in-Line.is _ c.looks_at.ensures
 
 pub returns-in-End : goal.returns-in-End
 returns-in-End c =
-    in_end _ _ _ _ _ _ c.version.ensures c.in-Some.is _ c.block.ensures c.in-Some.is _ c.next.ensures
+    in_end _ _ _ _ _ _ c.version.ensures c.in-Some.is _ c.block.ensures c.in-Some-block.is _ c.next.ensures
     c.in-End.is
 
-pub returns-in-None : goal.returns-in-None
-returns-in-None c =
-    in-outside _ _ _ _ _ _ c.version.ensures c.in-Some.is _ c.block.ensures c.in-Some.is _ c.next.ensures
-    c.in-None.is
+pub returns-in-Outside : goal.returns-in-Outside
+returns-in-Outside c =
+    in-outside _ _ _ _ _ _ c.version.ensures c.in-Some.is _ c.block.ensures c.in-Some-block.is _ c.next.ensures
+    c.in-Outside.is

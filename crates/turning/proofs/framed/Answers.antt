@@ -20,8 +20,8 @@ pub returns : goal.returns
 returns c =
     let q = numbered [] _ _ _ _ (c.version.ensures [])
     c.in-Some.is in
-    let f : Fits w16 c.in-Some.i = search rules in
+    let f : Fits w16 c.in-Some-block.i = search rules in
     stands-there _ _ _ _ _ _ c.requires
     (c.version.ensures _) _ c.in-Some.is
-    c.block.ensures _ c.in-Some.is q.0 q.1 c.wide.ensures.0 c.lines-n.ensures.0
+    c.block.ensures _ c.in-Some-block.is q.0 q.1 c.wide.ensures.0 c.lines-n.ensures.0
     f.fits c.wide.ensures.1

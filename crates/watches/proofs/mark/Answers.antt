@@ -26,11 +26,11 @@ returns-in_default-block c =
     λ n. block-gone _ _ _ n _ c.if-i-ge-PROMISES.false c.wide-j.ensures.0 c.is_live.ensures
     c.if-is_live.true _ (c.version.ensures _) c.in-Some.is refl _ c.block.ensures c.in_default-block.is
 
-pub returns-in-Some : goal.returns-in-Some
-returns-in-Some c =
+pub returns-in-Some-block : goal.returns-in-Some-block
+returns-in-Some-block c =
     λ n. block-there _ _ _ n _ c.if-i-ge-PROMISES.false c.wide-j.ensures.0
     c.is_live.ensures c.if-is_live.true _ (c.version.ensures _)
-    c.in-Some.is refl _ c.block.ensures c.in-Some.is (c.mark_at.ensures.0 _)
+    c.in-Some.is refl _ c.block.ensures c.in-Some-block.is (c.mark_at.ensures.0 _)
 
 pub returns-else-is_live : goal.returns-else-is_live
 returns-else-is_live c =

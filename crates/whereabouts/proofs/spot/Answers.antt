@@ -10,17 +10,17 @@ pub returns-in_default-block : goal.returns-in_default-block
 returns-in_default-block c =
     no_block _ _ _ _ _ _ (c.version.ensures _) _ c.in-Some.is _ c.block.ensures c.in_default-block.is
 
-pub returns-in-None : goal.returns-in-None
-returns-in-None c =
-    spot-outside _ _ _ _ _ _ (c.version.ensures _) _ c.in-Some.is _ c.block.ensures _ c.in-Some.is _ (c.next.ensures _)
-    c.in-None.is
+pub returns-in-Outside : goal.returns-in-Outside
+returns-in-Outside c =
+    spot-outside _ _ _ _ _ _ (c.version.ensures _) _ c.in-Some.is _ c.block.ensures _ c.in-Some-block.is _ (c.next.ensures _)
+    c.in-Outside.is
 
 pub returns-in-End : goal.returns-in-End
 returns-in-End c =
-    spot-end _ _ _ _ _ _ (c.version.ensures _) _ c.in-Some.is _ c.block.ensures _ c.in-Some.is _
+    spot-end _ _ _ _ _ _ (c.version.ensures _) _ c.in-Some.is _ c.block.ensures _ c.in-Some-block.is _
     (c.next.ensures _) c.in-End.is c.offset.ensures
 
 pub returns-in-Line : goal.returns-in-Line
 returns-in-Line c =
-    spot-line _ _ _ _ _ _ (c.version.ensures _) _ c.in-Some.is _ c.block.ensures _ c.in-Some.is _
+    spot-line _ _ _ _ _ _ (c.version.ensures _) _ c.in-Some.is _ c.block.ensures _ c.in-Some-block.is _
     (c.next.ensures _) c.in-Line.is c.offset-at.ensures

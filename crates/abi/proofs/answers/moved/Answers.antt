@@ -2,10 +2,10 @@
 use Rattle.abi.specs.Answers.{moved_numbers}
 use Rattle.abi.proofs.answers.moved.Goals as goal
 
-pub returns-in-Some : goal.returns-in-Some
+pub returns-in-Written : goal.returns-in-Written
 unfolding moved_numbers
-returns-in-Some c =
-    rw c.in-Some.is
+returns-in-Written c =
+    rw c.in-Written.is
 
 pub returns-in-Refused : goal.returns-in-Refused
 unfolding moved_numbers
