@@ -29,7 +29,11 @@ pub struct Count {
 /// Puts the questions to an image and lists its versions, and gives how many rows are filled, one for each version: the row `i` has the function and the version at 2 × `i` and 2 × `i` + 1 of
 /// `numbers`, and the most steps that a run of it takes at `i` of `steps`; `LIMIT` for "large", `NONE` where no bound is given. Rows past
 /// the last stay as they were, and so does all where the image is refused.
-pub fn bounds_of(image: &[u8], numbers: &mut [u8; 128], steps: &mut [u64; 64]) -> Result<usize, Refusal>
+pub fn bounds_of(
+    image: &[u8],
+    numbers: &mut [u8; 128],
+    steps: &mut [u64; 64],
+) -> Result<usize, Refusal>
     ensures { (result ≡ bounds_of image.now) × (numbers.new ≡ unless result numbers.old (numbers_after numbers.old 0 (report (program_of image.now))))
         × (steps.new ≡ unless result steps.old (steps_after steps.old 0 (report (program_of image.now)))) }
 {

@@ -11,7 +11,7 @@ ghost use Rattle.store.specs.Store.{state_in};
 ghost use Rattle.changes.specs.Owners.{live_calls, owned_by};
 ghost use Rattle.changes.specs.Parts.{end_at, part_at};
 
-use checker::{Verdict, questions};
+use checker::questions;
 use layout::kinds;
 use machine::Changed;
 use program::{Here, lookup, pass};
@@ -211,8 +211,8 @@ pub fn change(old: &[u8], new: &[u8], bytes: &[u8; 2632]) -> Changed
     ensures { (n : List ℤ) → result ≡ change_of old.now new.now (state_in bytes.now n) }
 {
     match questions::verdict(new) {
-        Verdict::Refused(q, p) => Changed::Refused(q, p as u16),
-        Verdict::Accepted(_) => match answer_15(old, new, bytes) {
+        Err(why) => Changed::Refused(why.question, why.at as u16),
+        Ok(_) => match answer_15(old, new, bytes) {
             None => Changed::Taken,
             Some(p) => Changed::Refused(15, p as u16),
         },

@@ -28,11 +28,10 @@ use Rattle.program.proofs.Held.{holds}
 use Rattle.program.proofs.Laid as laid
 use Rattle.rules.specs.Questions.{question6, question8, question18, question9}
 use Rattle.rules.specs.Flows.{question10}
-use Rattle.checker.specs.Verdicts.{verdict_of, Verdict}
+use Rattle.checker.specs.Verdicts.{verdict_of, Verdict, refused as refused_by}
 use Rattle.checker.proofs.Accepted.{Passed, passed, accept}
 use Rattle.machine.specs.Begin.{begin_of, begin_after, entered_of, question11, refused, run_after, run_after_to, run_of, run_of_to, program_of}
 use Rattle.machine.specs.declared.Entry.{Entry}
-use Rattle.joins.specs.declared.Joined.TheVariants.{Written, Together}
 use Rattle.joins.specs.Shifted.{shift_version, shift_program}
 use Rattle.joins.specs.Joins.{functions_in, versions_in, joined, in_bounds, join_after, join_of, raise_rec}
 use Rattle.joins.specs.Alongside.{Carries, Closed, SimRan, SimBegun}
@@ -43,6 +42,7 @@ use Rattle.joins.proofs.Ordered.{next_of, Counted, counted, question2-joined, qu
 use Rattle.joins.proofs.Questions.{asks6, asks7, asks8, asks18, asks9, asks10}
 use Rattle.joins.proofs.Together.{Below, below-records, names_in, carries-first, carries-second, first-joined, find-high}
 use Rattle.joins.proofs.Runs.{budget-sim, buffer-sim, events-sim, begun-sim}
+use Rattle.joins.specs.declared.JoinError.TheVariants.{Together}
 
 -- ---- what an accepted image gives
 
@@ -215,15 +215,15 @@ pub record Taken (a b : List ℕ) (room n : ℕ) : Type 0 where
   pub inside : in_bounds a b room ≡ true
   pub size : length a + length b ≡ n
 
-pub taken : (a b : List ℕ) (room n : ℕ) → join_of a b room ≡ Written n → Taken a b room n
+pub taken : (a b : List ℕ) (room n : ℕ) → join_of a b room ≡ Ok n → Taken a b room n
 unfolding join_of join_after
 taken a b room n e = go (verdict_of a) (verdict_of b) refl refl e
   where
-    in_bounds_lem : (i j : ℕ) → verdict_of a ≡ Ok i → verdict_of b ≡ Ok j → (t : Bool) → in_bounds a b room ≡ t → cond t (Written (length a + length b)) (Together 23 0) ≡ Written n → Taken a b room n
+    in_bounds_lem : (i j : ℕ) → verdict_of a ≡ Ok i → verdict_of b ≡ Ok j → (t : Bool) → in_bounds a b room ≡ t → cond t (Ok (length a + length b)) (Err (Together (refused_by 23 0))) ≡ Ok n → Taken a b room n
     in_bounds_lem i j p q true t g = record { first_count = i; second-count = j; first = p; second = q; inside = t; size = cc }
     in_bounds_lem i j p q false t g = let z : ◌≡◌ {A = ℕ} 0 1 = cc in absurd (omega arith)
 
-    go : (x y : Verdict) → verdict_of a ≡ x → verdict_of b ≡ y → join_after x y a b room ≡ Written n → Taken a b room n
+    go : (x y : Verdict) → verdict_of a ≡ x → verdict_of b ≡ y → join_after x y a b room ≡ Ok n → Taken a b room n
     go (Err why) y p q g = let z : ◌≡◌ {A = ℕ} 0 1 = cc in absurd (omega arith)
     go (Ok i) (Err why) p q g = let z : ◌≡◌ {A = ℕ} 0 1 = cc in absurd (omega arith)
     go (Ok i) (Ok j) p q g = in_bounds_lem i j p q (in_bounds a b room) refl g

@@ -5,7 +5,6 @@ use Rattle.machine.specs.Runs.{buffer_of}
 use Rattle.machine.specs.Events.{Run, Event, single, budget, change, after, replies}
 use Rattle.machine.specs.Begin.{begin_of, run_of}
 use Rattle.machine.specs.declared.Entry.{Entry}
-use Rattle.joins.specs.declared.Joined.TheVariants.{Written}
 use Rattle.joins.specs.Joins.{functions_in, versions_in, joined, join_of}
 use Rattle.joins.specs.Alongside.{Sim}
 
@@ -46,4 +45,4 @@ pub record Joins (a b : List ℕ) (n : ℕ) : Type 0 where
 
 -- of any two images and any lent buffer
 unfoldable pub JoinsWell : Type 0
-JoinsWell = (a b : List ℕ) (room n : ℕ) → join_of a b room ≡ Written n → Joins a b n
+JoinsWell = (a b : List ℕ) (room n : ℕ) → join_of a b room ≡ Ok n → Joins a b n
