@@ -8,7 +8,7 @@ use native.Mathlib.Omega.{arith}
 use lib.ListN.{length, get_or-eq_default}
 use Rattle.std.specs.Prelude.{◌&&◌}
 use Rattle.std.specs.Iterator.{YieldsFirst}
-use Rattle.std.specs.List.{list_all}
+use Rattle.std.specs.List.{list_all, enumerate_from}
 use Rattle.std.proofs.lemmas.Iterator.{YieldsList}
 use Rattle.std.proofs.lemmas.Iterator.Consumers.{YieldsList-from_first}
 use Rattle.layout.specs.declared.records.Fields.{Fields}
@@ -89,3 +89,9 @@ pub all-same : (p : ℕ → Bool) (l : List ℕ) → list_all p l ≡ all p l
 unfolding all ◌and◌
 all-same p [] = refl
 all-same p (x ∷ l) = ap (λ (t : Bool). p x && t) (all-same p l)
+
+-- and those that look at the place
+pub all_from-same : (p : ℕ → ℕ → Bool) (i : ℕ) (l : List ℕ) → list_all (λ x. p x.0 x.1) (enumerate_from i l) ≡ all_from p i l
+unfolding all_from ◌and◌
+all_from-same p i [] = refl
+all_from-same p i (x ∷ l) = ap (λ (t : Bool). p i x && t) (all_from-same p (i + 1) l)

@@ -37,7 +37,10 @@ impl<'a> Records<'a> {
             return Records { image, at: p };
         }
         let size = size_at(image, p);
-        Records { image, at: p + size }
+        Records {
+            image,
+            at: p + size,
+        }
     }
 }
 
@@ -65,7 +68,11 @@ impl<'a> Iterator for Records<'a> {
 
 /// Goes along the records of an image: each turn makes what follows of what the records before it left. It ends where a turn
 /// gives nothing, or a record is not whole, and gives that place.
-pub fn along<S: Copy, F: Fn(S, Spot) -> Option<S>>(image: &[u8], start: S, turn: F) -> Result<S, usize>
+pub fn along<S: Copy, F: Fn(S, Spot) -> Option<S>>(
+    image: &[u8],
+    start: S,
+    turn: F,
+) -> Result<S, usize>
     requires { F.IsAlwaysCallable turn }
     ensures { (t : S → Rec → Option S) → Turns (F.post turn) t image.now → result ≡ along t start (records image.now) }
 {
