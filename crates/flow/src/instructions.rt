@@ -11,6 +11,7 @@ ghost use Rattle.rules.specs.Actions.{reading, touching, emptied, promised, touc
 ghost use Rattle.flow.specs.Masks.{flowed, alone};
 
 use crate::{Action, actions};
+use layout::records::Fields;
 use layout::{kinds, ownerships};
 use program::lookup;
 use program::lookup::Tabled;
@@ -21,12 +22,8 @@ fn named(image: &[u8], p: usize, from: usize, step: usize, n: usize) -> u16
     ensures { set_of REGISTERS result ≡ those REGISTERS (every (body_at image.now p) from step n) }
 {
     let mut registers: u16 = 0;
-    let mut i: usize = 0;
-    let mut k = from;
-    while i < n {
-        registers = sets::union(registers, sets::only(layout::field(image, p, k)));
-        i += 1;
-        k += step;
+    for r in Fields::of(image, p, from, step, n) {
+        registers = sets::union(registers, sets::only(r));
     }
     registers
 }

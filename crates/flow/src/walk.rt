@@ -34,10 +34,7 @@ fn walk_block(tabled: Tabled, v: usize, b: usize) -> Option<Action>
     while lookup::is_line(image, p) {
         let at = ways::place(count, i);
         let came = taken[at];
-        let now = actions::chain(
-            actions::join(done, came),
-            walk_instruction(tabled, v, b, p),
-        );
+        let now = actions::chain(actions::join(done, came), walk_instruction(tabled, v, b, p));
         let skip = ways::skip_at(image, p);
         done = ways::goes_on(now, skip, count, i);
         let t = ways::target(skip, count, i);

@@ -82,7 +82,6 @@ err-along ok next st rs = go (along (judged ok next) st rs) ∙ scan-along ok ne
 -- THE LAW: where one turn keeps what another does, by α, both come to the same place
 module _ {S T : Type 0} (α : S → T) (tS : S → Rec → Option S) (tT : T → Rec → Option T) (s : List ℕ)
     (same : (st : S) (q : ℕ) → tT (α st) (rec_at s q) ≡ option_map α (tS st (rec_at s q))) where
-
   step : (q n : ℕ) (st : S) (o : Option S) (u : Option T) → u ≡ option_map α o
       → ((next : S) → (n ≡ 0 → ⊥) → result_err (along tS next (rest s (q + n))) ≡ result_err (along tT (α next) (rest s (q + n))))
       → (z : Bool) → eqb n 0 ≡ z

@@ -6,8 +6,14 @@ use Prim.Native.Nat.{ℕ, zero, suc, ◌+◌, ◌-◌, ◌*◌, ◌≤◌, ◌<�
 use native.Mathlib.Nat.{add-zero, zero-mul, suc-mul, mul-one}
 use native.Mathlib.Omega.{arith}
 use lib.ListN.{length, get_or-eq_default}
+use Rattle.std.specs.Prelude.{◌&&◌}
+use Rattle.std.specs.Iterator.{YieldsFirst}
+use Rattle.std.specs.List.{list_all, enumerate_from}
+use Rattle.std.proofs.lemmas.Iterator.{YieldsList}
+use Rattle.std.proofs.lemmas.Iterator.Consumers.{YieldsList-from_first}
+use Rattle.layout.specs.declared.records.Fields.{Fields}
 use Rattle.layout.specs.Tests.{◌and◌, all, all_from}
-use Rattle.layout.specs.Records.{◌!◌, every, fields}
+use Rattle.layout.specs.Records.{◌!◌, body_at, every, fields}
 use Rattle.layout.proofs.Bools.{and-on, and-off}
 
 pub length-every : (b : List ℕ) (k step n : ℕ) → length (every b k step n) ≡ n
@@ -28,7 +34,7 @@ pub fields_at : (b : List ℕ) (k n i : ℕ) → i < n → fields b k n ! i ≡ 
 fields_at b k n i h = every-at b k 1 n i h ∙ rw mul-one
 
 -- the fields from the field at k on, of which n are left: the first and the others
-every-next : (b : List ℕ) (k step n : ℕ) → 0 < n → every b k step n ≡ b ! k ∷ every b (k + step) step (n - 1)
+pub every-next : (b : List ℕ) (k step n : ℕ) → 0 < n → every b k step n ≡ b ! k ∷ every b (k + step) step (n - 1)
 unfolding every
 every-next b k step zero h = absurd (omega arith)
 every-next b k step (suc n) h = let e : suc n - 1 ≡ n = omega arith in rw e
@@ -70,3 +76,22 @@ pub all_map : {A : Type 0} (f : ℕ → Bool) (g : A → ℕ) (l : List A) → a
 unfolding all
 all_map f g [] = refl
 all_map f g (a ∷ l) = ap (λ (x : Bool). f (g a) and x) (all_map f g l)
+
+-- what an iterator along fields yields
+abbrev pub left_of : Fields → List ℕ
+left_of f = every (body_at f.image.now f.place) f.next f.step f.many
+
+pub yields-fields : (f : Fields) (xs : List ℕ) → every (body_at f.image.now f.place) f.next f.step f.many ≡ xs → YieldsList (YieldsFirst left_of) (λ x. x) f xs
+yields-fields f xs e = YieldsList-from_first (λ x. x) left_of xs e
+
+-- the library's `all` and that of the questions are one
+pub all-same : (p : ℕ → Bool) (l : List ℕ) → list_all p l ≡ all p l
+unfolding all ◌and◌
+all-same p [] = refl
+all-same p (x ∷ l) = ap (λ (t : Bool). p x && t) (all-same p l)
+
+-- and those that look at the place
+pub all_from-same : (p : ℕ → ℕ → Bool) (i : ℕ) (l : List ℕ) → list_all (λ x. p x.0 x.1) (enumerate_from i l) ≡ all_from p i l
+unfolding all_from ◌and◌
+all_from-same p i [] = refl
+all_from-same p i (x ∷ l) = ap (λ (t : Bool). p i x && t) (all_from-same p (i + 1) l)

@@ -168,7 +168,12 @@ fn length_at(image: &[u8], p: usize, form: Form) -> usize
 pub fn question_3(image: &[u8], form: Form) -> Option<usize>
     ensures { result ≡ question3 form (records image.now) }
 {
-    along(image, (), |_, record| (record.size == length_at(image, record.at, form)).then_some(())).err()
+    along(
+        image,
+        (),
+        |_, record| (record.size == length_at(image, record.at, form)).then_some(()),
+    )
+    .err()
 }
 
 /// What question 4 keeps: the versions so far, and the levels (one at most), blocks and instructions that are due.

@@ -1,11 +1,11 @@
-//! The records of an image, one after the other.
-ghost use Rattle.std.specs.Prelude.{◌≡◌, ◌+◌, Option};
+//! The records of an image, and the fields of one, one after the other.
+ghost use Rattle.std.specs.Prelude.{◌≡◌, ◌+◌, ◌*◌, ◌<◌, Option};
 ghost use Rattle.std.specs.Iterator.{YieldsFirst, item_count};
 ghost use Rattle.layout.specs.Left.{left, spots};
-ghost use Rattle.layout.specs.Records.{Rec, records, size_at};
+ghost use Rattle.layout.specs.Records.{Rec, body_at, every, records, size_at};
 ghost use Rattle.layout.specs.Scan.{Turns, along};
 
-use crate::size_at;
+use crate::{field, size_at};
 
 /// Where a record stands, and its whole length; 0 for what is no whole record.
 #[derive(Clone, Copy)]
@@ -37,7 +37,10 @@ impl<'a> Records<'a> {
             return Records { image, at: p };
         }
         let size = size_at(image, p);
-        Records { image, at: p + size }
+        Records {
+            image,
+            at: p + size,
+        }
     }
 }
 
@@ -65,7 +68,11 @@ impl<'a> Iterator for Records<'a> {
 
 /// Goes along the records of an image: each turn makes what follows of what the records before it left. It ends where a turn
 /// gives nothing, or a record is not whole, and gives that place.
-pub fn along<S: Copy, F: Fn(S, Spot) -> Option<S>>(image: &[u8], start: S, turn: F) -> Result<S, usize>
+pub fn along<S: Copy, F: Fn(S, Spot) -> Option<S>>(
+    image: &[u8],
+    start: S,
+    turn: F,
+) -> Result<S, usize>
     requires { F.IsAlwaysCallable turn }
     ensures { (t : S → Rec → Option S) → Turns (F.post turn) t image.now → result ≡ along t start (records image.now) }
 {
@@ -80,4 +87,49 @@ pub fn along<S: Copy, F: Fn(S, Spot) -> Option<S>>(image: &[u8], start: S, turn:
         state = next;
     }
     Ok(state)
+}
+
+/// So many fields of the record at a place, from the field `next` on, each `step` behind the one before.
+#[derive(Clone, Copy)]
+pub struct Fields<'a> {
+    pub image: &'a [u8],
+    pub place: usize,
+    pub next: usize,
+    pub step: usize,
+    pub many: usize,
+    ghost near: { next + many * step < 65536 },
+}
+
+impl<'a> Fields<'a> {
+    /// `n` fields of the record at `p`, from the field `from` on, each `step` behind the one before.
+    pub fn of(image: &'a [u8], p: usize, from: usize, step: usize, n: usize) -> Self
+        requires { (from < 256) × (step < 256) × (n < 256) }
+        ensures { every (body_at result.image.now result.place) result.next result.step result.many ≡ every (body_at image.now p) from step n }
+    {
+        Fields {
+            image,
+            place: p,
+            next: from,
+            step,
+            many: n,
+        }
+    }
+}
+
+impl<'a> Iterator for Fields<'a> {
+    type Item = usize;
+
+    ghost next_gives = { YieldsFirst (λ f. every (body_at f.image.now f.place) f.next f.step f.many) };
+
+    ghost remaining = { item_count (λ f. every (body_at f.image.now f.place) f.next f.step f.many) };
+
+    fn next(&mut self) -> Option<usize> {
+        if self.many == 0 {
+            return None;
+        }
+        let here = self.next;
+        self.next += self.step;
+        self.many -= 1;
+        Some(field(self.image, self.place, here))
+    }
 }

@@ -10,7 +10,7 @@ ghost use Rattle.program.specs.Questions.{exists, names_block, namings, block_na
 
 use crate::lookup::Tabled;
 use crate::{Here, lookup, pass};
-use layout::records::Records;
+use layout::records::{Fields, Records};
 use layout::{bounds, kinds};
 
 /// Are `n` fields of the record at `p` below `registers`, from the field `from` on, each `step` behind the one before?
@@ -18,17 +18,7 @@ fn all_exist(image: &[u8], p: usize, from: usize, step: usize, n: usize, registe
     requires { (from < 256) × (step < 256) × (n < 256) }
     ensures { result ≡ all (λ x. ltb x registers) (every (body_at image.now p) from step n) }
 {
-    let mut i: usize = 0;
-    let mut k = from;
-    while i < n {
-        if layout::field(image, p, k) < registers {
-            i += 1;
-            k += step;
-        } else {
-            return false;
-        }
-    }
-    true
+    Fields::of(image, p, from, step, n).all(|field| field < registers)
 }
 
 /// VEC: do its registers exist?

@@ -1,11 +1,13 @@
 -- The arguments of a call, as loops along their fields meet them.
-use mathlib.Core.Path.{◌≡◌, refl, ap}
+use mathlib.Core.Path.{◌≡◌, refl, ap, sym, ◌∙◌}
 use mathlib.Core.List.{List, [], ◌∷◌}
 use mathlib.Core.Bool.{Bool, true, false, cond, ◌||◌}
 use Prim.Native.Nat.{ℕ, zero, suc, ◌+◌, ◌-◌, ◌≤◌, ◌<◌}
 use native.Mathlib.Nat.{zero-add}
 use native.Mathlib.Omega.{arith}
-use lib.ListN.{take}
+use lib.ListN.{take, length}
+use Rattle.std.specs.List.{list_any, filter}
+use Rattle.layout.proofs.Fields.{length-every}
 use lib.Dec.{eqb}
 use Rattle.layout.specs.Tests.{◌and◌, all, any, count}
 use Rattle.layout.specs.Records.{◌!◌, every, body_at}
@@ -124,3 +126,27 @@ paired b k (suc n) = let e : k + 2 + 1 ≡ k + 1 + 2 = omega arith in ap (λ (m 
 pub dispatch-arguments : (s : List ℕ) (p : ℕ) → arguments (body_at s p) 5 (body_at s p ! 4) ≡ arguments_at s p (dispatch_of s p)
 unfolding arguments_at dispatch_of
 dispatch-arguments s p = paired (body_at s p) 5 (body_at s p ! 4)
+
+-- a test of the types alone, and a count of the registers alone
+any-beside : (p : ℕ → Bool) (ts rs : List ℕ) → length ts ≡ length rs → list_any p ts ≡ any (λ (a : Argument). p a.type) (beside ts rs)
+unfolding any beside
+any-beside p [] rs e = refl
+any-beside p (t ∷ ts) [] e = absurd (omega (arith, e))
+any-beside p (t ∷ ts) (r ∷ rs) e = ap (λ (b : Bool). p t || b) (any-beside p ts rs (omega (arith, e)))
+
+pub any-types : (p : ℕ → Bool) (b c : List ℕ) (k l step n : ℕ) → list_any p (every b k step n) ≡ any (λ (a : Argument). p a.type) (pairs b k c l step n)
+any-types p b c k l step n = any-beside p _ _ (length-every b k step n ∙ sym (length-every c l step n))
+
+count-beside : (p : ℕ → Bool) (ts rs : List ℕ) → length ts ≡ length rs → length (filter p rs) ≡ count (λ (a : Argument). p a.register) (beside ts rs)
+unfolding count beside
+count-beside p [] [] e = refl
+count-beside p [] (r ∷ rs) e = absurd (omega (arith, e))
+count-beside p (t ∷ ts) [] e = absurd (omega (arith, e))
+count-beside p (t ∷ ts) (r ∷ rs) e = go (p r) (count-beside p ts rs (omega (arith, e)))
+  where
+    go : {m : ℕ} (b : Bool) → length (filter p rs) ≡ m → length (cond b (r ∷ filter p rs) (filter p rs)) ≡ cond b 1 0 + m
+    go true f = omega (arith, f)
+    go false f = omega (arith, f)
+
+pub count-registers : (p : ℕ → Bool) (b c : List ℕ) (k l step n : ℕ) → length (filter p (every c l step n)) ≡ count (λ (a : Argument). p a.register) (pairs b k c l step n)
+count-registers p b c k l step n = count-beside p _ _ (length-every b k step n ∙ sym (length-every c l step n))

@@ -9,6 +9,7 @@ ghost use Rattle.typing.specs.Calls.{arguments_at, least, Small, call_of, dispat
 
 use crate::{Call, registers, types};
 use layout::ownerships;
+use layout::records::Fields;
 
 /// The smaller of two numbers.
 fn lesser(a: usize, b: usize) -> usize
@@ -50,22 +51,9 @@ fn occurrences(image: &[u8], p: usize, call: Call, r: usize) -> usize
     requires { Small call }
     ensures { result ≡ count (λ (a : Argument). eqb a.register r) (arguments_at image.now p call) }
 {
-    let n = call.n;
-    let step = call.step;
-    let mut l = call.registers;
-    let mut i: usize = 0;
-    let mut found: usize = 0;
-    while i < n {
-        if layout::field(image, p, l) == r {
-            found += 1;
-            i += 1;
-            l += step;
-        } else {
-            i += 1;
-            l += step;
-        }
-    }
-    found
+    Fields::of(image, p, call.registers, call.step, call.n)
+        .filter(|register| *register == r)
+        .count()
 }
 
 /// Does the argument of the call at `p` with its type in the field `k` and its register in the field `l` fit?
@@ -122,19 +110,8 @@ fn does_empty(image: &[u8], p: usize, call: Call) -> bool
     requires { Small call }
     ensures { result ≡ empties (arguments_at image.now p call) }
 {
-    let n = call.n;
-    let step = call.step;
-    let place = call.place;
-    let mut k = call.types;
-    let mut i: usize = 0;
-    while i < n {
-        if layout::field(image, place, k) / 16 == ownerships::OWNED {
-            return true;
-        }
-        i += 1;
-        k += step;
-    }
-    false
+    Fields::of(image, call.place, call.types, call.step, call.n).any(|t| t / 16
+        == ownerships::OWNED)
 }
 
 /// Does what a call at `p` returns go into its d?

@@ -8,6 +8,7 @@ ghost use Rattle.program.specs.Places.{version_at, block_at, instr_at};
 ghost use Rattle.rules.specs.Fits.{integer, fits, fits_result};
 
 use crate::{arguments, registers, types};
+use layout::records::Fields;
 use layout::{kinds, ownerships};
 use program::lookup;
 use program::lookup::Tabled;
@@ -17,17 +18,7 @@ fn all_integers(image: &[u8], v: usize, p: usize, n: usize) -> bool
     requires { n < 256 }
     ensures { result ≡ all (integer (version_at image.now v)) (every (body_at image.now p) 2 1 n) }
 {
-    let mut i: usize = 0;
-    let mut k: usize = 2;
-    while i < n {
-        if registers::is_integer(image, v, p, k) {
-            i += 1;
-            k += 1;
-        } else {
-            return false;
-        }
-    }
-    true
+    Fields::of(image, p, 2, 1, n).all(|r| lookup::type_of(image, v, r) % 16 == types::INTEGER)
 }
 
 /// MOVE: a shared source within d.

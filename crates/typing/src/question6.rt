@@ -10,6 +10,7 @@ ghost use Rattle.rules.specs.Questions.{type_allowed, version_types, types_allow
 
 use crate::types;
 use layout::kinds;
+use layout::records::Fields;
 use program::{Here, pass};
 
 /// May the register `r` of a version with so many parameters have the type byte `t`?
@@ -35,17 +36,9 @@ fn all_allowed(
     requires { (from < 256) × (step < 256) × (n < 256) }
     ensures { result ≡ all_from (type_allowed parameters) 0 (every (body_at image.now p) from step n) }
 {
-    let mut i: usize = 0;
-    let mut k = from;
-    while i < n {
-        if allowed(parameters, i, layout::field(image, p, k)) {
-            i += 1;
-            k += step;
-        } else {
-            return false;
-        }
-    }
-    true
+    Fields::of(image, p, from, step, n)
+        .enumerate()
+        .all(|(i, t)| allowed(parameters, i, t))
 }
 
 /// Are the type bytes of the VERSION at `p` allowed?

@@ -27,18 +27,32 @@ overflow_add-count c =
 pub loop-record-preserved-then-kind_at-eq-VERSION : goal.loop-record-preserved-then-kind_at-eq-VERSION
 loop-record-preserved-then-kind_at-eq-VERSION c =
     let i = c.loop-record.invariant.2 in
-    let x = given _ _ (sym i.1 ∙ c.in-Some.ensures.steps) in
-    (tt, tt, (_, x.whole c.if-record-eq0.false, omega (arith, (rw x.at at i.2), c.if-record-eq0.false),
-  (rw x.at at i.3)
-      ∙ rw (one-ahead (record { inside = x.inside; size = x.size; whole = c.if-record-eq0.false; kind = c.kind_at.ensures }) c.if-kind_at-eq-VERSION.true) (omega arith)))
+    let x = given _ _ (sym i.1 ∙ c.in-Some.ensures.steps) in (
+      tt,
+      tt,
+      (
+        _,
+        x.whole c.if-record-eq0.false,
+        omega (arith, (rw x.at at i.2), c.if-record-eq0.false),
+        (rw x.at at i.3)
+            ∙ rw (one-ahead (record { inside = x.inside; size = x.size; whole = c.if-record-eq0.false; kind = c.kind_at.ensures }) c.if-kind_at-eq-VERSION.true) (omega arith),
+      ),
+    )
 
 pub loop-record-preserved : goal.loop-record-preserved
 loop-record-preserved c =
     let i = c.loop-record.invariant.2 in
-    let x = given _ _ (sym i.1 ∙ c.in-Some.ensures.steps) in
-    (tt, tt, (_, x.whole c.if-record-eq0.false, omega (arith, (rw x.at at i.2)),
-  (rw x.at at i.3)
-      ∙ rw (same_ahead (record { inside = x.inside; size = x.size; whole = c.if-record-eq0.false; kind = c.kind_at.ensures }) c.if-kind_at-eq-VERSION.false)))
+    let x = given _ _ (sym i.1 ∙ c.in-Some.ensures.steps) in (
+      tt,
+      tt,
+      (
+        _,
+        x.whole c.if-record-eq0.false,
+        omega (arith, (rw x.at at i.2)),
+        (rw x.at at i.3)
+            ∙ rw (same_ahead (record { inside = x.inside; size = x.size; whole = c.if-record-eq0.false; kind = c.kind_at.ensures }) c.if-kind_at-eq-VERSION.false),
+      ),
+    )
 
 pub returns : goal.returns
 returns c =

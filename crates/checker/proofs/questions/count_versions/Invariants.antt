@@ -14,4 +14,4 @@ invariant-loop-record l =
     goal.iterator-loop-record.can_next l.record-iterator
     × goal.iterator-loop-record.is_finite l.record-iterator
     × ((p : ℕ) × (left l.record-iterator ≡ spots l.image p)
-        × (l.count ≤ p) × (length (program (records l.image)) ≡ l.count + length (view_at l.image p).versions))
+    × (l.count ≤ p) × (length (program (records l.image)) ≡ l.count + length (view_at l.image p).versions))

@@ -30,25 +30,41 @@ overflow_add-total c =
 pub loop-record-preserved-then-kind_at-eq-VERSION : goal.loop-record-preserved-then-kind_at-eq-VERSION
 loop-record-preserved-then-kind_at-eq-VERSION c =
     let i = c.loop-record.invariant.2 in
-    let x = given _ _ (sym i.1 ∙ c.in-Some.ensures.steps) in
-    (tt, tt, (_, x.whole c.if-record-eq0.false, omega (arith, size_in _ _ x.size c.if-record-eq0.false), omega (arith, (rw x.at at i.3), c.line_length-total.ensures.1, size_in _ _ x.size c.if-record-eq0.false),
-  (rw x.at at i.4)
-      ∙ rw (
-        line-left (program (records c.args.image.now))
-            (record { inside = x.inside; size = x.size; whole = c.if-record-eq0.false; kind = c.kind_at.ensures }) c.if-kind_at-eq-VERSION.true,
-        length-append,
-        ← c.line_at.ensures,
-        ← c.line_length-total.ensures.0,
-      )
-      (omega arith)))
+    let x = given _ _ (sym i.1 ∙ c.in-Some.ensures.steps) in (
+      tt,
+      tt,
+      (
+        _,
+        x.whole c.if-record-eq0.false,
+        omega (arith, size_in _ _ x.size c.if-record-eq0.false),
+        omega (arith, (rw x.at at i.3), c.line_length-total.ensures.1, size_in _ _ x.size c.if-record-eq0.false),
+        (rw x.at at i.4)
+            ∙ rw (
+              line-left (program (records c.args.image.now))
+                  (record { inside = x.inside; size = x.size; whole = c.if-record-eq0.false; kind = c.kind_at.ensures }) c.if-kind_at-eq-VERSION.true,
+              length-append,
+              ← c.line_at.ensures,
+              ← c.line_length-total.ensures.0,
+            )
+            (omega arith),
+      ),
+    )
 
 pub loop-record-preserved : goal.loop-record-preserved
 loop-record-preserved c =
     let i = c.loop-record.invariant.2 in
-    let x = given _ _ (sym i.1 ∙ c.in-Some.ensures.steps) in
-    (tt, tt, (_, x.whole c.if-record-eq0.false, omega (arith, size_in _ _ x.size c.if-record-eq0.false), omega (arith, (rw x.at at i.3)),
-  (rw x.at at i.4)
-      ∙ rw (same_left (program (records c.args.image.now)) (record { inside = x.inside; size = x.size; whole = c.if-record-eq0.false; kind = c.kind_at.ensures }) c.if-kind_at-eq-VERSION.false)))
+    let x = given _ _ (sym i.1 ∙ c.in-Some.ensures.steps) in (
+      tt,
+      tt,
+      (
+        _,
+        x.whole c.if-record-eq0.false,
+        omega (arith, size_in _ _ x.size c.if-record-eq0.false),
+        omega (arith, (rw x.at at i.3)),
+        (rw x.at at i.4)
+            ∙ rw (same_left (program (records c.args.image.now)) (record { inside = x.inside; size = x.size; whole = c.if-record-eq0.false; kind = c.kind_at.ensures }) c.if-kind_at-eq-VERSION.false),
+      ),
+    )
 
 pub returns : goal.returns
 returns c =

@@ -15,4 +15,4 @@ invariant-loop-record l =
     goal.iterator-loop-record.can_next l.record-iterator
     × goal.iterator-loop-record.is_finite l.record-iterator
     × ((p : ℕ) × (left l.record-iterator ≡ spots l.image p)
-        × (p ≤ length l.image) × (l.total ≤ 128 * p) × (length (version_lines (program (records l.image)) (program (records l.image))) ≡ l.total + length (lines_ahead (program (records l.image)) l.image p)))
+    × (p ≤ length l.image) × (l.total ≤ 128 * p) × (length (version_lines (program (records l.image)) (program (records l.image))) ≡ l.total + length (lines_ahead (program (records l.image)) l.image p)))

@@ -46,27 +46,41 @@ put_line-at-requires c =
 pub loop-record-preserved-then-kind_at-eq-VERSION : goal.loop-record-preserved-then-kind_at-eq-VERSION
 loop-record-preserved-then-kind_at-eq-VERSION c =
     let i = c.loop-record.invariant.2 in
-    let x = given _ _ (sym i.1 ∙ c.in-Some.ensures.steps) in
-    (tt, tt, (_, x.whole c.if-record-eq0.false, ap length c.put_line-at.ensures.1 ∙ placed-length _ _ _
-      ∙ i.2,
-  writing-next
-      (version_line (program (records c.args.image.now))
-      (version_at c.args.image.now c.in-Some.record.at))
-      (lines_ahead (program (records c.args.image.now)) c.args.image.now
-      (c.in-Some.record.at + c.in-Some.record.size))
-      (writing-as (line-left (program (records c.args.image.now))
-      (record { inside = x.inside; size = x.size; whole = c.if-record-eq0.false; kind = c.kind_at.ensures })
-      c.if-kind_at-eq-VERSION.true) (rw x.at at i.3)) c.requires
-      (record { writes = rw c.line_at.ensures at c.put_line-at.ensures.1; ends = rw c.line_at.ensures at c.put_line-at.ensures.0 })))
+    let x = given _ _ (sym i.1 ∙ c.in-Some.ensures.steps) in (
+      tt,
+      tt,
+      (
+        _,
+        x.whole c.if-record-eq0.false,
+        ap length c.put_line-at.ensures.1 ∙ placed-length _ _ _
+            ∙ i.2,
+        writing-next
+            (version_line (program (records c.args.image.now))
+            (version_at c.args.image.now c.in-Some.record.at))
+            (lines_ahead (program (records c.args.image.now)) c.args.image.now
+            (c.in-Some.record.at + c.in-Some.record.size))
+            (writing-as (line-left (program (records c.args.image.now))
+            (record { inside = x.inside; size = x.size; whole = c.if-record-eq0.false; kind = c.kind_at.ensures })
+            c.if-kind_at-eq-VERSION.true) (rw x.at at i.3)) c.requires
+            (record { writes = rw c.line_at.ensures at c.put_line-at.ensures.1; ends = rw c.line_at.ensures at c.put_line-at.ensures.0 }),
+      ),
+    )
 
 pub loop-record-preserved : goal.loop-record-preserved
 loop-record-preserved c =
     let i = c.loop-record.invariant.2 in
-    let x = given _ _ (sym i.1 ∙ c.in-Some.ensures.steps) in
-    (tt, tt, (_, x.whole c.if-record-eq0.false, i.2,
-  writing-as
-      (same_left (program (records c.args.image.now)) (record { inside = x.inside; size = x.size; whole = c.if-record-eq0.false; kind = c.kind_at.ensures }) c.if-kind_at-eq-VERSION.false)
-      (rw x.at at i.3)))
+    let x = given _ _ (sym i.1 ∙ c.in-Some.ensures.steps) in (
+      tt,
+      tt,
+      (
+        _,
+        x.whole c.if-record-eq0.false,
+        i.2,
+        writing-as
+            (same_left (program (records c.args.image.now)) (record { inside = x.inside; size = x.size; whole = c.if-record-eq0.false; kind = c.kind_at.ensures }) c.if-kind_at-eq-VERSION.false)
+            (rw x.at at i.3),
+      ),
+    )
 
 pub shape_of-out : goal.shape_of-out
 shape_of-out c =

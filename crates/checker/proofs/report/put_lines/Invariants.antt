@@ -16,4 +16,4 @@ invariant-loop-record l =
     goal.iterator-loop-record.can_next l.record-iterator
     × goal.iterator-loop-record.is_finite l.record-iterator
     × ((p : ℕ) × (left l.record-iterator ≡ spots l.image p)
-        × (length l.out ≡ length l.initial.out) × Writing (version_lines (program (records l.image)) (program (records l.image))) (lines_ahead (program (records l.image)) l.image p) l.initial.out l.out l.at)
+    × (length l.out ≡ length l.initial.out) × Writing (version_lines (program (records l.image)) (program (records l.image))) (lines_ahead (program (records l.image)) l.image p) l.initial.out l.out l.at)

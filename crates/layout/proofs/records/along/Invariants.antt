@@ -10,4 +10,4 @@ invariant-loop-record g l =
     × (goal.iterator-loop-record g).is_finite l.record-iterator
     × goal.F-IsAlwaysCallable g l.turn
     × ((q : ℕ) × (left l.record-iterator ≡ spots l.image q)
-        × ((t : g.row.S.Denot → Rec → Option g.row.S.Denot) → Turns (goal.F-post g l.turn) t l.image → along t l.fn.start (records l.image) ≡ along t l.state (rest l.image q)))
+    × ((t : g.row.S.Denot → Rec → Option g.row.S.Denot) → Turns (goal.F-post g l.turn) t l.image → along t l.fn.start (records l.image) ≡ along t l.state (rest l.image q)))

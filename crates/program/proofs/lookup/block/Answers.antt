@@ -42,16 +42,30 @@ overflow_sub-left c =
 pub loop-record-preserved-then-k-eq-BLOCK : goal.loop-record-preserved-then-k-eq-BLOCK
 loop-record-preserved-then-k-eq-BLOCK c =
     let i = c.loop-record.invariant.2 in
-    let x = given _ _ (sym i.1 ∙ c.in-Some.ensures.steps) in
-    (tt, tt, (_, x.whole c.if-record-eq0.false, (rw x.at at i.2)
-      ∙ block-later (record { inside = x.inside; size = x.size; whole = c.if-record-eq0.false; kind = c.kind_at-k.ensures }) _ c.if-k-eq-BLOCK.true c.if-left-eq0.false))
+    let x = given _ _ (sym i.1 ∙ c.in-Some.ensures.steps) in (
+      tt,
+      tt,
+      (
+        _,
+        x.whole c.if-record-eq0.false,
+        (rw x.at at i.2)
+            ∙ block-later (record { inside = x.inside; size = x.size; whole = c.if-record-eq0.false; kind = c.kind_at-k.ensures }) _ c.if-k-eq-BLOCK.true c.if-left-eq0.false,
+      ),
+    )
 
 pub loop-record-preserved : goal.loop-record-preserved
 loop-record-preserved c =
     let i = c.loop-record.invariant.2 in
-    let x = given _ _ (sym i.1 ∙ c.in-Some.ensures.steps) in
-    (tt, tt, (_, x.whole c.if-record-eq0.false, (rw x.at at i.2)
-      ∙ block-behind (record { inside = x.inside; size = x.size; whole = c.if-record-eq0.false; kind = c.kind_at-k.ensures }) _ c.if-k-eq-VERSION.false c.if-k-eq-BLOCK.false))
+    let x = given _ _ (sym i.1 ∙ c.in-Some.ensures.steps) in (
+      tt,
+      tt,
+      (
+        _,
+        x.whole c.if-record-eq0.false,
+        (rw x.at at i.2)
+            ∙ block-behind (record { inside = x.inside; size = x.size; whole = c.if-record-eq0.false; kind = c.kind_at-k.ensures }) _ c.if-k-eq-VERSION.false c.if-k-eq-BLOCK.false,
+      ),
+    )
 
 pub returns : goal.returns
 returns c =

@@ -27,16 +27,30 @@ returns-then-field-f c =
 pub loop-record-preserved-else-field-f : goal.loop-record-preserved-else-field-f
 loop-record-preserved-else-field-f c =
     let i = c.loop-record.invariant.2 in
-    let x = given _ _ (sym i.1 ∙ c.in-Some.ensures.steps) in
-    (tt, tt, (_, x.whole c.if-record-eq0.false, (rw x.at at i.2)
-      ∙ function-later (record { inside = x.inside; size = x.size; whole = c.if-record-eq0.false; kind = c.kind_at.ensures }) _ c.if-kind_at-eq-VERSION.true (λ e. c.if-field-f.false (c.field.ensures.0 ∙ e))))
+    let x = given _ _ (sym i.1 ∙ c.in-Some.ensures.steps) in (
+      tt,
+      tt,
+      (
+        _,
+        x.whole c.if-record-eq0.false,
+        (rw x.at at i.2)
+            ∙ function-later (record { inside = x.inside; size = x.size; whole = c.if-record-eq0.false; kind = c.kind_at.ensures }) _ c.if-kind_at-eq-VERSION.true (λ e. c.if-field-f.false (c.field.ensures.0 ∙ e)),
+      ),
+    )
 
 pub loop-record-preserved : goal.loop-record-preserved
 loop-record-preserved c =
     let i = c.loop-record.invariant.2 in
-    let x = given _ _ (sym i.1 ∙ c.in-Some.ensures.steps) in
-    (tt, tt, (_, x.whole c.if-record-eq0.false, (rw x.at at i.2)
-      ∙ function-behind (record { inside = x.inside; size = x.size; whole = c.if-record-eq0.false; kind = c.kind_at.ensures }) _ c.if-kind_at-eq-VERSION.false))
+    let x = given _ _ (sym i.1 ∙ c.in-Some.ensures.steps) in (
+      tt,
+      tt,
+      (
+        _,
+        x.whole c.if-record-eq0.false,
+        (rw x.at at i.2)
+            ∙ function-behind (record { inside = x.inside; size = x.size; whole = c.if-record-eq0.false; kind = c.kind_at.ensures }) _ c.if-kind_at-eq-VERSION.false,
+      ),
+    )
 
 pub returns : goal.returns
 returns c =

@@ -28,9 +28,16 @@ returns-then-is_version c =
 pub loop-record-preserved : goal.loop-record-preserved
 loop-record-preserved c =
     let i = c.loop-record.invariant.2 in
-    let x = given _ _ (sym i.1 ∙ c.in-Some.ensures.steps) in
-    (tt, tt, (_, x.whole c.if-record-eq0.false, (rw x.at at i.2)
-      ∙ version-later (record { inside = x.inside; size = x.size; whole = c.if-record-eq0.false; kind = refl }) _ _ (sym c.is_version.ensures ∙ c.if-is_version.false)))
+    let x = given _ _ (sym i.1 ∙ c.in-Some.ensures.steps) in (
+      tt,
+      tt,
+      (
+        _,
+        x.whole c.if-record-eq0.false,
+        (rw x.at at i.2)
+            ∙ version-later (record { inside = x.inside; size = x.size; whole = c.if-record-eq0.false; kind = refl }) _ _ (sym c.is_version.ensures ∙ c.if-is_version.false),
+      ),
+    )
 
 pub returns : goal.returns
 returns c =

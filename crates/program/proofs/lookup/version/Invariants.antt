@@ -13,4 +13,4 @@ invariant-loop-record l =
     goal.iterator-loop-record.can_next l.record-iterator
     × goal.iterator-loop-record.is_finite l.record-iterator
     × ((p : ℕ) × (left l.record-iterator ≡ spots l.image p)
-        × (version_place l.image l.f l.w ≡ version_from l.image p l.f l.w))
+    × (version_place l.image l.f l.w ≡ version_from l.image p l.f l.w))

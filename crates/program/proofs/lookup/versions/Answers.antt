@@ -36,25 +36,49 @@ bounds-table-k-then-table-k c =
 pub loop-record-preserved-then-table-k : goal.loop-record-preserved-then-table-k
 loop-record-preserved-then-table-k c =
     let i = c.loop-record.invariant.2 in
-    let x = given _ _ (sym i.1 ∙ c.in-Some.ensures.steps) in
-    (tt, tt, (_, x.whole c.if-record-eq0.false, i.2, rw c.slot-k.ensures
-      (filled-here (record { inside = x.inside; size = x.size; whole = c.if-record-eq0.false; kind = refl }) (rw x.at at i.3) (rw c.slot-k.ensures at c.if-k-lt-TABLE.true)
-      (rw c.slot-k.ensures at (c.if-table-k.true ∙ i.2)))))
+    let x = given _ _ (sym i.1 ∙ c.in-Some.ensures.steps) in (
+      tt,
+      tt,
+      (
+        _,
+        x.whole c.if-record-eq0.false,
+        i.2,
+        rw c.slot-k.ensures
+            (filled-here (record { inside = x.inside; size = x.size; whole = c.if-record-eq0.false; kind = refl }) (rw x.at at i.3) (rw c.slot-k.ensures at c.if-k-lt-TABLE.true)
+            (rw c.slot-k.ensures at (c.if-table-k.true ∙ i.2))),
+      ),
+    )
 
 pub loop-record-preserved-else-table-k : goal.loop-record-preserved-else-table-k
 loop-record-preserved-else-table-k c =
     let i = c.loop-record.invariant.2 in
-    let x = given _ _ (sym i.1 ∙ c.in-Some.ensures.steps) in
-    (tt, tt, (_, x.whole c.if-record-eq0.false, i.2, filled-again
-      (record { inside = x.inside; size = x.size; whole = c.if-record-eq0.false; kind = refl }) (rw x.at at i.3) (rw c.slot-k.ensures at c.if-k-lt-TABLE.true)
-      (λ e. c.if-table-k.false (rw c.slot-k.ensures (e ∙ sym i.2)))))
+    let x = given _ _ (sym i.1 ∙ c.in-Some.ensures.steps) in (
+      tt,
+      tt,
+      (
+        _,
+        x.whole c.if-record-eq0.false,
+        i.2,
+        filled-again
+            (record { inside = x.inside; size = x.size; whole = c.if-record-eq0.false; kind = refl }) (rw x.at at i.3) (rw c.slot-k.ensures at c.if-k-lt-TABLE.true)
+            (λ e. c.if-table-k.false (rw c.slot-k.ensures (e ∙ sym i.2))),
+      ),
+    )
 
 pub loop-record-preserved : goal.loop-record-preserved
 loop-record-preserved c =
     let i = c.loop-record.invariant.2 in
-    let x = given _ _ (sym i.1 ∙ c.in-Some.ensures.steps) in
-    (tt, tt, (_, x.whole c.if-record-eq0.false, i.2, filled-past (record { inside = x.inside; size = x.size; whole = c.if-record-eq0.false; kind = refl })
-      (rw x.at at i.3) (rw c.slot-k.ensures at c.if-k-lt-TABLE.false)))
+    let x = given _ _ (sym i.1 ∙ c.in-Some.ensures.steps) in (
+      tt,
+      tt,
+      (
+        _,
+        x.whole c.if-record-eq0.false,
+        i.2,
+        filled-past (record { inside = x.inside; size = x.size; whole = c.if-record-eq0.false; kind = refl })
+            (rw x.at at i.3) (rw c.slot-k.ensures at c.if-k-lt-TABLE.false),
+      ),
+    )
 
 pub returns : goal.returns
 returns c =

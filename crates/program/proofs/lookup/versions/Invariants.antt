@@ -12,4 +12,4 @@ invariant-loop-record l =
     goal.iterator-loop-record.can_next l.record-iterator
     × goal.iterator-loop-record.is_finite l.record-iterator
     × ((p : ℕ) × (left l.record-iterator ≡ spots l.image p)
-        × (l.end ≡ length l.image) × Filled l.image p l.table)
+    × (l.end ≡ length l.image) × Filled l.image p l.table)

@@ -31,9 +31,17 @@ returns-then-k-eq-VERSION c =
 pub loop-record-preserved-then-k-eq-BLOCK : goal.loop-record-preserved-then-k-eq-BLOCK
 loop-record-preserved-then-k-eq-BLOCK c =
     let i = c.loop-record.invariant.2 in
-    let x = given _ _ (sym i.1 ∙ c.in-Some.ensures.steps) in
-    (tt, tt, (_, x.whole c.if-record-eq0.false, omega (arith, (rw x.at at i.2)), (rw x.at at i.3)
-      ∙ rw (seen-block (record { inside = x.inside; size = x.size; whole = c.if-record-eq0.false; kind = c.kind_at-k.ensures }) _ _ c.if-k-eq-BLOCK.true)))
+    let x = given _ _ (sym i.1 ∙ c.in-Some.ensures.steps) in (
+      tt,
+      tt,
+      (
+        _,
+        x.whole c.if-record-eq0.false,
+        omega (arith, (rw x.at at i.2)),
+        (rw x.at at i.3)
+            ∙ rw (seen-block (record { inside = x.inside; size = x.size; whole = c.if-record-eq0.false; kind = c.kind_at-k.ensures }) _ _ c.if-k-eq-BLOCK.true),
+      ),
+    )
 
 pub overflow_add-count : goal.overflow_add-count
 overflow_add-count c =
@@ -44,32 +52,56 @@ overflow_add-count c =
 pub loop-record-preserved-then-names_block : goal.loop-record-preserved-then-names_block
 loop-record-preserved-then-names_block c =
     let i = c.loop-record.invariant.2 in
-    let x = given _ _ (sym i.1 ∙ c.in-Some.ensures.steps) in
-    (tt, tt, (_, x.whole c.if-record-eq0.false, omega (arith, (rw x.at at i.2), c.if-record-eq0.false), (rw x.at at i.3)
-      ∙ rw c.if-begun.true
-      (omega (
-        arith,
-        seen-named (record { inside = x.inside; size = x.size; whole = c.if-record-eq0.false; kind = c.kind_at-k.ensures }) _
-            c.if-k-eq-VERSION.false c.if-k-eq-BLOCK.false (sym c.names_block.ensures ∙ c.if-names_block.true),
-      ))))
+    let x = given _ _ (sym i.1 ∙ c.in-Some.ensures.steps) in (
+      tt,
+      tt,
+      (
+        _,
+        x.whole c.if-record-eq0.false,
+        omega (arith, (rw x.at at i.2), c.if-record-eq0.false),
+        (rw x.at at i.3)
+            ∙ rw c.if-begun.true
+            (omega (
+              arith,
+              seen-named (record { inside = x.inside; size = x.size; whole = c.if-record-eq0.false; kind = c.kind_at-k.ensures }) _
+                  c.if-k-eq-VERSION.false c.if-k-eq-BLOCK.false (sym c.names_block.ensures ∙ c.if-names_block.true),
+            )),
+      ),
+    )
 
 pub loop-record-preserved-else-names_block : goal.loop-record-preserved-else-names_block
 loop-record-preserved-else-names_block c =
     let i = c.loop-record.invariant.2 in
-    let x = given _ _ (sym i.1 ∙ c.in-Some.ensures.steps) in
-    (tt, tt, (_, x.whole c.if-record-eq0.false, omega (arith, (rw x.at at i.2)), (rw x.at at i.3)
-      ∙ rw (
-        c.if-begun.true,
-        seen_other (record { inside = x.inside; size = x.size; whole = c.if-record-eq0.false; kind = c.kind_at-k.ensures }) _
-            c.if-k-eq-VERSION.false c.if-k-eq-BLOCK.false (sym c.names_block.ensures ∙ c.if-names_block.false),
-      )))
+    let x = given _ _ (sym i.1 ∙ c.in-Some.ensures.steps) in (
+      tt,
+      tt,
+      (
+        _,
+        x.whole c.if-record-eq0.false,
+        omega (arith, (rw x.at at i.2)),
+        (rw x.at at i.3)
+            ∙ rw (
+              c.if-begun.true,
+              seen_other (record { inside = x.inside; size = x.size; whole = c.if-record-eq0.false; kind = c.kind_at-k.ensures }) _
+                  c.if-k-eq-VERSION.false c.if-k-eq-BLOCK.false (sym c.names_block.ensures ∙ c.if-names_block.false),
+            ),
+      ),
+    )
 
 pub loop-record-preserved : goal.loop-record-preserved
 loop-record-preserved c =
     let i = c.loop-record.invariant.2 in
-    let x = given _ _ (sym i.1 ∙ c.in-Some.ensures.steps) in
-    (tt, tt, (_, x.whole c.if-record-eq0.false, omega (arith, (rw x.at at i.2)), (rw x.at at i.3)
-      ∙ rw (c.if-begun.false, seen-stray (record { inside = x.inside; size = x.size; whole = c.if-record-eq0.false; kind = c.kind_at-k.ensures }) _ c.if-k-eq-VERSION.false c.if-k-eq-BLOCK.false)))
+    let x = given _ _ (sym i.1 ∙ c.in-Some.ensures.steps) in (
+      tt,
+      tt,
+      (
+        _,
+        x.whole c.if-record-eq0.false,
+        omega (arith, (rw x.at at i.2)),
+        (rw x.at at i.3)
+            ∙ rw (c.if-begun.false, seen-stray (record { inside = x.inside; size = x.size; whole = c.if-record-eq0.false; kind = c.kind_at-k.ensures }) _ c.if-k-eq-VERSION.false c.if-k-eq-BLOCK.false),
+      ),
+    )
 
 pub returns : goal.returns
 returns c =

@@ -14,4 +14,4 @@ invariant-loop-record l =
     goal.iterator-loop-record.can_next l.record-iterator
     × goal.iterator-loop-record.is_finite l.record-iterator
     × ((p : ℕ) × (left l.record-iterator ≡ spots l.image p)
-        × (l.count ≤ p) × (namings l.b (version_at l.image l.v).blocks ≡ l.count + namings_seen l.b l.begun (view_at l.image p)))
+    × (l.count ≤ p) × (namings l.b (version_at l.image l.v).blocks ≡ l.count + namings_seen l.b l.begun (view_at l.image p)))

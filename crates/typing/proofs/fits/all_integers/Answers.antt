@@ -1,33 +1,13 @@
-use Rattle.layout.proofs.Fields.{all-passed, all-failed, all_done}
-use mathlib.Core.Path.{sym, ◌∙◌}
-use native.Mathlib.Nat.{sub-zero}
-use native.Mathlib.Omega.{arith}
+-- `typing::fits::all_integers`: the fields that an iterator gives are those of the question.
+use Rattle.std.proofs.Common.{rules, tests, ◌∙◌}
+use Rattle.std.proofs.lemmas.Iterator.Search.{all_from_yields_List}
+use Rattle.program.specs.Places.{version_at}
+use Rattle.rules.specs.Types.{is_integer, kind_of}
+use Rattle.rules.specs.Fits.{integer}
+use Rattle.layout.proofs.Fields.{yields-fields, all-same}
 use Rattle.typing.proofs.fits.all_integers.Goals as goal
 
-pub loop-i-init : goal.loop-i-init
-loop-i-init c =
-    (omega arith, omega arith, simp sub-zero)
-
-pub overflow_add-i : goal.overflow_add-i
-overflow_add-i c =
-    omega (arith, c.requires, c.loop-i-test.true)
-
-pub overflow_add-k : goal.overflow_add-k
-overflow_add-k c =
-    omega (arith, c.requires, c.loop-i-test.true, c.loop-i.invariant.1)
-
-pub loop-i-smaller : goal.loop-i-smaller
-loop-i-smaller c =
-    omega (arith, c.loop-i-test.true)
-
-pub loop-i-preserved : goal.loop-i-preserved
-loop-i-preserved c =
-    (omega (arith, c.loop-i-test.true), omega (arith, c.loop-i.invariant.1), c.loop-i.invariant.2 ∙ all-passed _ _ _ 1 _ _ c.loop-i-test.true (sym c.is_integer.ensures ∙ c.if-is_integer.true))
-
-pub returns-else-is_integer : goal.returns-else-is_integer
-returns-else-is_integer c =
-    sym (c.loop-i.invariant.2 ∙ all-failed _ _ _ 1 _ _ c.loop-i-test.true (sym c.is_integer.ensures ∙ c.if-is_integer.false))
-
 pub returns : goal.returns
+unfolding is_integer kind_of
 returns c =
-    sym (c.loop-i.invariant.2 ∙ all_done _ _ _ 1 _ _ c.loop-i-test.false)
+    all_from_yields_List (integer (version_at c.args.image.now c.args.v)) c.all.new.self _ c.all.result c.all.ensures.ran (yields-fields c.of.result _ c.of.ensures) (λ x b q k. search (rules, tests)) ∙ all-same _ _

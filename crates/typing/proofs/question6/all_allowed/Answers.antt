@@ -1,37 +1,18 @@
-use Rattle.layout.proofs.Fields.{from-passed, from-failed, from-done}
-use mathlib.Core.Path.{sym, ◌∙◌}
-use native.Mathlib.Nat.{sub-zero}
-use native.Mathlib.Omega.{arith}
+-- `typing::question6::all_allowed`: the fields that an iterator gives are those of the question.
+use Rattle.std.proofs.Common.{rules, tests, ◌∙◌, ap, arith, length, inl}
+use Rattle.std.proofs.lemmas.Iterator.Search.{all_from_yields_List}
+use Rattle.std.proofs.lemmas.Iterator.Consumers.{YieldsList-at, YieldsList-from_enumerate}
+use Rattle.rules.specs.Questions.{type_allowed}
+use Rattle.layout.proofs.Fields.{yields-fields, all_from-same, left_of, length-every}
 use Rattle.typing.proofs.question6.all_allowed.Goals as goal
 
-pub loop-i-init : goal.loop-i-init
-loop-i-init c =
-    (omega arith, omega (arith, c.requires), simp sub-zero)
-
-pub overflow_add-i : goal.overflow_add-i
-overflow_add-i c =
-    omega (arith, c.requires, c.loop-i-test.true)
-
-pub overflow_add-k : goal.overflow_add-k
-overflow_add-k c =
-    omega (arith, c.requires, c.loop-i-test.true, c.loop-i.invariant)
-
-pub loop-i-smaller : goal.loop-i-smaller
-loop-i-smaller c =
-    omega (arith, c.loop-i-test.true)
-
-pub loop-i-preserved : goal.loop-i-preserved
-loop-i-preserved c = (
-  omega (arith, c.loop-i-test.true),
-  omega (arith, c.requires, c.loop-i.invariant),
-  c.loop-i.invariant.2
-      ∙ from-passed _ _ _ _ _ _ c.loop-i-test.true (rw c.field.ensures.0 at (sym c.allowed.ensures ∙ c.if-allowed.true)),
-)
-
-pub returns-else-allowed : goal.returns-else-allowed
-returns-else-allowed c =
-    sym (c.loop-i.invariant.2 ∙ from-failed _ _ _ _ _ _ c.loop-i-test.true (rw c.field.ensures.0 at (sym c.allowed.ensures ∙ c.if-allowed.false)))
+pub all-requires-clause-can : goal.all-requires-clause-can
+all-requires-clause-can c =
+    let e = ap length (ap left_of c.enumerate.ensures.source ∙ c.of.ensures) ∙ length-every _ _ _ _ in
+    (tt, tt, inl (omega (arith, c.enumerate.ensures.count, e, c.requires)))
 
 pub returns : goal.returns
 returns c =
-    sym (c.loop-i.invariant.2 ∙ from-done _ _ _ _ _ _ c.loop-i-test.false)
+    all_from_yields_List (λ p. type_allowed c.args.parameters p.0 p.1) c.all.new.self _ c.all.result c.all.ensures.ran
+    (YieldsList-from_enumerate (YieldsList-at c.enumerate.ensures.source (yields-fields c.of.result _ c.of.ensures)) c.enumerate.ensures.count) (λ x b q k. search (rules, tests))
+    ∙ all_from-same _ 0 _

@@ -44,10 +44,17 @@ returns-then-reflects c =
 pub loop-record-preserved : goal.loop-record-preserved
 loop-record-preserved c =
     let i = c.loop-record.invariant.2 in
-    let x = given _ _ (sym i.1 ∙ c.in-Some.ensures.steps) in
-    (tt, tt, (_, x.whole c.if-record-eq0.false, (rw x.at at i.2)
-      ∙ passed-ahead _ (record { inside = x.inside; size = x.size; whole = c.if-record-eq0.false; kind = c.kind_at-k.ensures }) c.if-k-eq-VERSION.false
-      c.if-k-eq-BLOCK.false (sym c.reflects.ensures ∙ c.if-reflects.false)))
+    let x = given _ _ (sym i.1 ∙ c.in-Some.ensures.steps) in (
+      tt,
+      tt,
+      (
+        _,
+        x.whole c.if-record-eq0.false,
+        (rw x.at at i.2)
+            ∙ passed-ahead _ (record { inside = x.inside; size = x.size; whole = c.if-record-eq0.false; kind = c.kind_at-k.ensures }) c.if-k-eq-VERSION.false
+            c.if-k-eq-BLOCK.false (sym c.reflects.ensures ∙ c.if-reflects.false),
+      ),
+    )
 
 pub returns : goal.returns
 returns c =

@@ -16,4 +16,4 @@ invariant-loop-record l =
     goal.iterator-loop-record.can_next l.record-iterator
     × goal.iterator-loop-record.is_finite l.record-iterator
     × ((p : ℕ) × (left l.record-iterator ≡ spots l.tabled.image.now p)
-        × (any_ahead (reflective (program (records l.tabled.image.now)) (version_at l.tabled.image.now l.v)) l.tabled.image.now (past l.tabled.image.now l.b) ≡ any_ahead (reflective (program (records l.tabled.image.now)) (version_at l.tabled.image.now l.v)) l.tabled.image.now p))
+    × (any_ahead (reflective (program (records l.tabled.image.now)) (version_at l.tabled.image.now l.v)) l.tabled.image.now (past l.tabled.image.now l.b) ≡ any_ahead (reflective (program (records l.tabled.image.now)) (version_at l.tabled.image.now l.v)) l.tabled.image.now p))
