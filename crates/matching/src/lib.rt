@@ -15,7 +15,6 @@ ghost use Rattle.matching.specs.Arguments.{Matches, Passes, bit_of, picked_at, s
 ghost use Rattle.matching.specs.declared.Choice.{Choice};
 ghost use Rattle.matching.specs.Choosing.{Cached, Chooses, Decides, DecidesBy, Holds, Keeps, Sited, called_at};
 
-use acts::Typed;
 use layout::kinds;
 use loaded::{dispatch, lookup};
 use typing::types;
@@ -116,45 +115,44 @@ pub fn typed(
     own: u8,
     d: u8,
     a: u8,
-) -> Typed
+) -> Option<bool>
     requires { k < 32 }
     ensures { TypedBy result image.now table.now bytes.now k own d a }
 {
     let m = register_kind(image, table, bytes, k, a);
     if m == 0 {
-        return Typed::Stuck;
+        return None;
     }
     if lookup::registers(image, table, own) <= d {
-        return Typed::Stuck;
+        return None;
     }
-    if types::is_within(
+    Some(types::is_within(
         m as usize,
         (lookup::type_of(image, table, own, d) % 16) as usize,
-    ) {
-        Typed::Fits
-    } else {
-        Typed::Clashes
-    }
+    ))
 }
 
 /// Is what the register `r` of the frame `k` holds of the kind that the version `own` returns? For the ends of calls.
 /// Requires a frame below 32: the loop has asked it of the frame that is worked on, and a test would cost each end of a call.
-pub fn returned(image: &[u8], table: &[u8], bytes: &[u8; 2632], k: usize, own: u8, r: u8) -> Typed
+pub fn returned(
+    image: &[u8],
+    table: &[u8],
+    bytes: &[u8; 2632],
+    k: usize,
+    own: u8,
+    r: u8,
+) -> Option<bool>
     requires { k < 32 }
     ensures { Returned result image.now table.now bytes.now k own r }
 {
     let m = register_kind(image, table, bytes, k, r);
     if m == 0 {
-        return Typed::Stuck;
+        return None;
     }
-    if types::is_within(
+    Some(types::is_within(
         m as usize,
         (lookup::returns(image, table, own) % 16) as usize,
-    ) {
-        Typed::Fits
-    } else {
-        Typed::Clashes
-    }
+    ))
 }
 
 // ---- arguments

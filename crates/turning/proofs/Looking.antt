@@ -1,4 +1,5 @@
 -- Instructions that look at the image, as turns.
+use Rattle.std.specs.Prelude.{Option as Optional}
 use mathlib.Core.Path.{◌≡◌, refl, sym, ap, ◌∙◌, subst}
 use mathlib.Core.List.{List}
 use mathlib.Core.Bool.{Bool, true, false, cond, false≢true}
@@ -41,7 +42,6 @@ use Rattle.store.specs.Acts.{Executes, ExecutesWith}
 use Rattle.store.specs.Counts.{Ready}
 use Rattle.store.specs.declared.Did.{Did}
 use Rattle.acts.specs.Typed.{ExecutesIf, ExecutesTyped, typed_in, typed_of}
-use Rattle.acts.specs.declared.Typed.{Typed}
 use Rattle.loaded.specs.Loaded.{few, program_in, version_in}
 use Rattle.turning.specs.Turning.{Looks, own_in}
 use Rattle.layout.specs.Records.{◌!◌}
@@ -84,7 +84,7 @@ pub lit-as : (b : List ℕ) (n : List ℤ) (b' : List ℕ) (n' : List ℤ) (c' :
 lit-as b n b' n' c' k r p q E = rw (sym p, sym q) E
 
 -- MOVE and CAST, told whether the types fit
-pub typed_look : (s t b : List ℕ) (n : List ℤ) (b' : List ℕ) (n' : List ℤ) (c' : List ℕ) (k : ℕ) (r : Did) (x : Typed) (d a : ℕ) (i : Instr) {v : ℕ} → v ≡ own_in b k → TypedBy x s t b k v d a
+pub typed_look : (s t b : List ℕ) (n : List ℤ) (b' : List ℕ) (n' : List ℤ) (c' : List ℕ) (k : ℕ) (r : Did) (x : Optional Bool) (d a : ℕ) (i : Instr) {v : ℕ} → v ≡ own_in b k → TypedBy x s t b k v d a
     → ExecutesTyped x r b n b' n' c' k d a i → Looks r s t b n b' n' c' k i
 typed_look s t b n b' n' c' k r x d a i h T E = (
   E.0 (program_in s t) (version_in s t (own_in b k))
@@ -307,7 +307,7 @@ module _ (s t b : List ℕ) (n : List ℤ) (p : Spot) (H : Here s t b n p) (c : 
     rw (function-with s t b n p H c R (next_of p), version-with s t b n p H c R (next_of p)) (sym H.number),
   )
 
-  module _ (x : Typed) {v r : ℕ} (own_is : v ≡ own_in b₁ p.frame) (r-is : r ≡ (block_in s t p.block).result) (T : Returned x s t b₁ p.frame v r) (y : Ended) (b' : List ℕ)
+  module _ (x : Optional Bool) {v r : ℕ} (own_is : v ≡ own_in b₁ p.frame) (r-is : r ≡ (block_in s t p.block).result) (T : Returned x s t b₁ p.frame v r) (y : Ended) (b' : List ℕ)
       (n' : List ℤ) (c' : List ℕ) (B : BlockEnds x y b₁ n b' n' c' p.frame r) where
     came : ends.Comes y (advance_with p.most (program_in s t) (state_at b n p)) b₁ n b' n'
     came = subst (λ z. ends.Comes y z b₁ n b' n') (sym (here_end s t b n p H c R e ∙ rw (sym stored_here, sym r-is) refl))
