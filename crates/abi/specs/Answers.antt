@@ -1,10 +1,6 @@
 -- Answers as numbers, field by field as include/fir.h has them.
-use Rattle.std.specs.Prelude.{cond, List, ℕ, ◌+◌, ◌*◌, eqb, ℤ, pos}
+use Rattle.std.specs.Prelude.{cond, List, ℕ, ◌+◌, ◌*◌, eqb, ℤ, pos, Err, Ok, Result}
 use Rattle.layout.specs.declared.Form.{Form}
-use Rattle.bounds.specs.declared.Bounding.{Bounding}
-use Rattle.checker.specs.declared.Verdict.{Verdict}
-use Rattle.joins.specs.declared.Joined.{Joined}
-use Rattle.loaded.specs.declared.Loaded.{Loaded}
 use Rattle.machine.specs.Runs.{saying}
 use Rattle.machine.specs.declared.Answer.{Answer}
 use Rattle.machine.specs.declared.Back.{Back}
@@ -17,7 +13,6 @@ use Rattle.machine.specs.declared.PoolSaid.{PoolSaid}
 use Rattle.machine.specs.declared.Search.{Search}
 use Rattle.machine.specs.declared.Watch.{Watch}
 use Rattle.mends.specs.declared.Mended.{Mended}
-use Rattle.moves.specs.declared.Moving.{Moving}
 use Rattle.store.specs.Store.{state_in}
 use Rattle.whereabouts.specs.declared.Where.{Where}
 use Rattle.abi.specs.declared.answers.FirAnswer.{FirAnswer}
@@ -32,41 +27,36 @@ use Rattle.abi.specs.declared.answers.FirVerdict.{FirVerdict}
 use Rattle.abi.specs.declared.answers.FirVersion.{FirVersion}
 use Rattle.abi.specs.declared.answers.FirWatched.{FirWatched}
 use Rattle.abi.specs.declared.answers.FirWhere.{FirWhere}
+use Rattle.checker.specs.Verdicts.{Verdict}
+use Rattle.joins.specs.declared.JoinError.{JoinError}
+use Rattle.joins.specs.declared.JoinError.TheVariants.{First, Together, Second}
+use Rattle.loaded.specs.declared.LoadError.{LoadError}
+use Rattle.loaded.specs.declared.LoadError.TheVariants.{Short, Refused}
 
--- the number of versions, or the offset and the number of a refusal
+-- a number, of versions, of bytes of the image in the other form or of rows of bounds, or the offset and the number of a refusal
 unfoldable pub verdict_numbers : Verdict → FirVerdict
-verdict_numbers (Verdict.Accepted n) = record { detail = n; question = 0 }
-verdict_numbers (Verdict.Refused q p) = record { detail = p; question = q }
-
--- a move: the length of the image in the other form, or the offset and the number of a refusal
-unfoldable pub moved_numbers : Moving → FirVerdict
-moved_numbers (Moving.Written n) = record { detail = n; question = 0 }
-moved_numbers (Moving.Refused q p) = record { detail = p; question = q }
-
--- bounds: the number of rows, or the offset and the number of a refusal
-unfoldable pub bounding_numbers : Bounding → FirVerdict
-bounding_numbers (Bounding.Listed n) = record { detail = n; question = 0 }
-bounding_numbers (Bounding.Refused q p) = record { detail = p; question = q }
+verdict_numbers (Ok n) = record { detail = n; question = 0 }
+verdict_numbers (Err why) = record { detail = why.at; question = why.question }
 
 -- a join: the length of the joined image, or the offset and the number of a refusal, and the image that it refuses: 1 the first, 2 the second, 0 neither
-unfoldable pub joined_numbers : Joined → FirJoined
-joined_numbers (Joined.Written n) = record { detail = n; question = 0; image = 0 }
-joined_numbers (Joined.First q p) = record { detail = p; question = q; image = 1 }
-joined_numbers (Joined.Second q p) = record { detail = p; question = q; image = 2 }
-joined_numbers (Joined.Together q p) = record { detail = p; question = q; image = 0 }
+unfoldable pub joined_numbers : Result ℕ JoinError → FirJoined
+joined_numbers (Ok n) = record { detail = n; question = 0; image = 0 }
+joined_numbers (Err (First why)) = record { detail = why.at; question = why.question; image = 1 }
+joined_numbers (Err (Second why)) = record { detail = why.at; question = why.question; image = 2 }
+joined_numbers (Err (Together why)) = record { detail = why.at; question = why.question; image = 0 }
 
 -- a load: 0 and the number of versions, 8 with a refusal's offset and number, or 9 and the bytes that the table needs
-unfoldable pub loaded_numbers : Loaded → FirLoaded
-loaded_numbers (Loaded.Ready n) = record { detail = n; code = 0; question = 0 }
-loaded_numbers (Loaded.Refused q p) = record { detail = p; code = 8; question = q }
-loaded_numbers (Loaded.Short n) = record { detail = n; code = 9; question = 0 }
+unfoldable pub loaded_numbers : Result ℕ LoadError → FirLoaded
+loaded_numbers (Ok n) = record { detail = n; code = 0; question = 0 }
+loaded_numbers (Err (Refused why)) = record { detail = why.at; code = 8; question = why.question }
+loaded_numbers (Err (Short n)) = record { detail = n; code = 9; question = 0 }
 
 -- a mend: the versions of an accepted image, or the offset and the number of a refusal; beside it 1 with the place of a byte and its new value, 2 where no byte mends, 0 where none is looked for
 unfoldable pub mended_numbers : Mended → FirMended
 mended_numbers (Mended.Accepted n) = record { detail = n; place = 0; question = 0; mend = 0; value = 0 }
-mended_numbers (Mended.Refused q p) = record { detail = p; place = 0; question = q; mend = 0; value = 0 }
-mended_numbers (Mended.Byte q p at x) = record { detail = p; place = at; question = q; mend = 1; value = x }
-mended_numbers (Mended.Unmended q p) = record { detail = p; place = 0; question = q; mend = 2; value = 0 }
+mended_numbers (Mended.Refused why) = record { detail = why.at; place = 0; question = why.question; mend = 0; value = 0 }
+mended_numbers (Mended.Byte why hit) = record { detail = why.at; place = hit.at; question = why.question; mend = 1; value = hit.value }
+mended_numbers (Mended.Unmended why) = record { detail = why.at; place = 0; question = why.question; mend = 2; value = 0 }
 
 -- the form that a number names: 1 that of 32 bits, any other that of 64
 unfoldable pub form_of : ℕ → Form

@@ -2,19 +2,17 @@
 ghost use Rattle.std.specs.Prelude.{◌≡◌};
 ghost use Rattle.machine.specs.declared.Answer.{Answer};
 ghost use Rattle.machine.specs.declared.PoolSaid.{PoolSaid};
-ghost use Rattle.abi.specs.Answers.{answer_numbers, answer_with, back_numbers, bounding_numbers, changed_numbers, end_in, entry_numbers, form_of};
-ghost use Rattle.abi.specs.Answers.{joined_numbers, loaded_numbers, made_numbers, mended_numbers, moved_numbers, plain_numbers};
+ghost use Rattle.abi.specs.Answers.{answer_numbers, answer_with, back_numbers, changed_numbers, end_in, entry_numbers, form_of};
+ghost use Rattle.abi.specs.Answers.{joined_numbers, loaded_numbers, made_numbers, mended_numbers, plain_numbers};
 ghost use Rattle.abi.specs.Answers.{search_numbers, turn_numbers, turn_with, verdict_numbers, version_numbers, watched_numbers, where_numbers};
 ghost use Rattle.abi.specs.Looks.{no_place, value_numbers};
 
-use bounds::Bounding;
-use checker::Verdict;
-use joins::Joined;
+use checker::Refusal;
+use joins::JoinError;
 use layout::Form;
-use loaded::Loaded;
+use loaded::LoadError;
 use machine::{Back, Changed, Entry, Made, Search, Value, Watch};
 use mends::Mended;
-use moves::Moving;
 use whereabouts::Where;
 
 /// Where the status of a state stands among its bytes, and the length of its result; where its value stands among its numbers.
@@ -155,77 +153,45 @@ pub struct FirVersion {
     pub state: u32,
 }
 
-/// The numbers of a verdict.
-pub fn verdict(verdict: Verdict) -> FirVerdict
+/// The numbers of a verdict, of a move or of bounds.
+pub fn verdict(verdict: Result<usize, Refusal>) -> FirVerdict
     ensures { result ≡ verdict_numbers verdict }
 {
     match verdict {
-        Verdict::Accepted(n) => FirVerdict {
+        Ok(n) => FirVerdict {
             detail: n,
             question: 0,
         },
-        Verdict::Refused(q, p) => FirVerdict {
-            detail: p,
-            question: q,
-        },
-    }
-}
-
-/// What becomes of an image that is put to its bounds, in numbers.
-pub fn bounding(bounding: Bounding) -> FirVerdict
-    ensures { result ≡ bounding_numbers bounding }
-{
-    match bounding {
-        Bounding::Listed(n) => FirVerdict {
-            detail: n,
-            question: 0,
-        },
-        Bounding::Refused(q, p) => FirVerdict {
-            detail: p,
-            question: q,
-        },
-    }
-}
-
-/// What becomes of a move, in numbers.
-pub fn moved(moving: Moving) -> FirVerdict
-    ensures { result ≡ moved_numbers moving }
-{
-    match moving {
-        Moving::Written(n) => FirVerdict {
-            detail: n,
-            question: 0,
-        },
-        Moving::Refused(q, p) => FirVerdict {
-            detail: p,
-            question: q,
+        Err(why) => FirVerdict {
+            detail: why.at,
+            question: why.question,
         },
     }
 }
 
 /// What becomes of a join, in numbers.
-pub fn joined(joined: Joined) -> FirJoined
+pub fn joined(joined: Result<usize, JoinError>) -> FirJoined
     ensures { result ≡ joined_numbers joined }
 {
     match joined {
-        Joined::Written(n) => FirJoined {
+        Ok(n) => FirJoined {
             detail: n,
             question: 0,
             image: 0,
         },
-        Joined::First(q, p) => FirJoined {
-            detail: p,
-            question: q,
+        Err(JoinError::First(why)) => FirJoined {
+            detail: why.at,
+            question: why.question,
             image: 1,
         },
-        Joined::Second(q, p) => FirJoined {
-            detail: p,
-            question: q,
+        Err(JoinError::Second(why)) => FirJoined {
+            detail: why.at,
+            question: why.question,
             image: 2,
         },
-        Joined::Together(q, p) => FirJoined {
-            detail: p,
-            question: q,
+        Err(JoinError::Together(why)) => FirJoined {
+            detail: why.at,
+            question: why.question,
             image: 0,
         },
     }
@@ -243,24 +209,24 @@ pub fn mended(mended: Mended) -> FirMended
             mend: 0,
             value: 0,
         },
-        Mended::Refused(q, p) => FirMended {
-            detail: p,
+        Mended::Refused(why) => FirMended {
+            detail: why.at,
             place: 0,
-            question: q,
+            question: why.question,
             mend: 0,
             value: 0,
         },
-        Mended::Byte(q, p, at, x) => FirMended {
-            detail: p,
-            place: at,
-            question: q,
+        Mended::Byte(why, hit) => FirMended {
+            detail: why.at,
+            place: hit.at,
+            question: why.question,
             mend: 1,
-            value: x,
+            value: hit.value,
         },
-        Mended::Unmended(q, p) => FirMended {
-            detail: p,
+        Mended::Unmended(why) => FirMended {
+            detail: why.at,
             place: 0,
-            question: q,
+            question: why.question,
             mend: 2,
             value: 0,
         },
@@ -268,21 +234,21 @@ pub fn mended(mended: Mended) -> FirMended
 }
 
 /// What becomes of a load, in numbers.
-pub fn loaded(loaded: Loaded) -> FirLoaded
+pub fn loaded(loaded: Result<usize, LoadError>) -> FirLoaded
     ensures { result ≡ loaded_numbers loaded }
 {
     match loaded {
-        Loaded::Ready(n) => FirLoaded {
+        Ok(n) => FirLoaded {
             detail: n,
             code: 0,
             question: 0,
         },
-        Loaded::Refused(q, p) => FirLoaded {
-            detail: p,
+        Err(LoadError::Refused(why)) => FirLoaded {
+            detail: why.at,
             code: 8,
-            question: q,
+            question: why.question,
         },
-        Loaded::Short(n) => FirLoaded {
+        Err(LoadError::Short(n)) => FirLoaded {
             detail: n,
             code: 9,
             question: 0,

@@ -28,8 +28,8 @@ ghost use Rattle.bounds.specs.Rows.{bounds_of, numbers_after, steps_after, unles
 ghost use Rattle.whereabouts.specs.Looks.{look_of};
 ghost use Rattle.whereabouts.specs.Where.{where_of};
 ghost use Rattle.words.specs.Words.{answer_text, question_text, written_of};
-ghost use Rattle.abi.specs.Answers.{back_numbers, bounding_numbers, changed_numbers, entry_numbers, form_of, joined_numbers, loaded_numbers, mended_numbers};
-ghost use Rattle.abi.specs.Answers.{moved_numbers, search_numbers, state_alignment, state_size, verdict_numbers, version_numbers, watched_numbers, where_numbers};
+ghost use Rattle.abi.specs.Answers.{back_numbers, changed_numbers, entry_numbers, form_of, joined_numbers, loaded_numbers, mended_numbers};
+ghost use Rattle.abi.specs.Answers.{search_numbers, state_alignment, state_size, verdict_numbers, version_numbers, watched_numbers, where_numbers};
 ghost use Rattle.abi.specs.Exits.{Answers, Began, Rests, Steps, entrance};
 ghost use Rattle.abi.specs.Held.{held};
 ghost use Rattle.abi.specs.Looks.{read_numbers};
@@ -132,29 +132,29 @@ pub fn fir_report_in(image: &[u8], form: u8, text: &mut [u8]) -> usize
 /// Moves an image of the 32-bit form to the 64-bit form: 0 and its length there, from the place 0 of the buffer on, or the
 /// question that refuses and the offset. A refusal writes nothing.
 pub fn fir_widen(image: &[u8], out: &mut [u8]) -> FirVerdict
-    ensures { (result ≡ moved_numbers (move_of Form.Narrow image.now (length out.old)))
+    ensures { (result ≡ verdict_numbers (move_of Form.Narrow image.now (length out.old)))
         × (out.new ≡ buffer_after Form.Narrow image.now out.old) }
 {
-    answers::moved(moves::widen(image, out))
+    answers::verdict(moves::widen(image, out))
 }
 
 /// Moves an image of the 64-bit form to the 32-bit form, as `fir_widen`.
 pub fn fir_narrow(image: &[u8], out: &mut [u8]) -> FirVerdict
-    ensures { (result ≡ moved_numbers (move_of Form.Wide image.now (length out.old)))
+    ensures { (result ≡ verdict_numbers (move_of Form.Wide image.now (length out.old)))
         × (out.new ≡ buffer_after Form.Wide image.now out.old) }
 {
-    answers::moved(moves::narrow(image, out))
+    answers::verdict(moves::narrow(image, out))
 }
 
 /// Lists the versions of an image with the most steps that a run of each takes: 0 and the number of rows, or the question that
 /// refuses the image and the offset. The row `i` has the function and the version at 2 × `i` and 2 × `i` + 1 of `numbers`, and its bound at
 /// `i` of `steps`. Rows past the last stay, and a refusal writes nothing.
 pub fn fir_bounds(image: &[u8], numbers: &mut [u8; 128], steps: &mut [u64; 64]) -> FirVerdict
-    ensures { (result ≡ bounding_numbers (bounds_of image.now))
+    ensures { (result ≡ verdict_numbers (bounds_of image.now))
         × (numbers.new ≡ unless (bounds_of image.now) numbers.old (numbers_after numbers.old 0 (report (program_of image.now))))
         × (steps.new ≡ unless (bounds_of image.now) steps.old (steps_after steps.old 0 (report (program_of image.now)))) }
 {
-    answers::bounding(bounds::bounds_of(image, numbers, steps))
+    answers::verdict(bounds::bounds_of(image, numbers, steps))
 }
 
 /// Joins two images, the first before the second, whose functions follow the first's: 0 and the length of the joined image, which the

@@ -28,8 +28,8 @@ ghost use Rattle.bounds.specs.Rows.{bounds_of, numbers_after, steps_after, unles
 ghost use Rattle.whereabouts.specs.Looks.{look_of};
 ghost use Rattle.whereabouts.specs.Where.{where_of};
 ghost use Rattle.words.specs.Words.{answer_text, question_text, written_of};
-ghost use Rattle.abi.specs.Answers.{back_numbers, bounding_numbers, changed_numbers, entry_numbers, form_of, joined_numbers, loaded_numbers, mended_numbers};
-ghost use Rattle.abi.specs.Answers.{moved_numbers, search_numbers, state_alignment, state_size, verdict_numbers, version_numbers, watched_numbers, where_numbers};
+ghost use Rattle.abi.specs.Answers.{back_numbers, changed_numbers, entry_numbers, form_of, joined_numbers, loaded_numbers, mended_numbers};
+ghost use Rattle.abi.specs.Answers.{search_numbers, state_alignment, state_size, verdict_numbers, version_numbers, watched_numbers, where_numbers};
 ghost use Rattle.abi.specs.Calls.{BeginCall, BudgetCall, ChangeCall, Loads, PoolBeginCall, PoolBudgetCall, PoolChangeCall, PoolRunCall, PoolStepCall};
 ghost use Rattle.abi.specs.Calls.{RunCall, StepCall, TrailBackCall, TrailBudgetCall, TrailStepCall, WatchCall};
 ghost use Rattle.abi.specs.Exits.{Answers, Began, Rests, Steps, entrance};
@@ -127,7 +127,7 @@ pub extern "C" fn fir_report_in(image: &[u8], form: u8, text: &mut [u8]) -> usiz
 /// question that refuses and the offset. A refusal writes nothing.
 #[unsafe(no_mangle)]
 pub extern "C" fn fir_widen(image: &[u8], out: &mut [u8]) -> FirVerdict
-    ensures { (result ≡ moved_numbers (move_of Form.Narrow image.now (length out.old)))
+    ensures { (result ≡ verdict_numbers (move_of Form.Narrow image.now (length out.old)))
         × (out.new ≡ buffer_after Form.Narrow image.now out.old) }
 {
     abi::fir_widen(image, out)
@@ -136,7 +136,7 @@ pub extern "C" fn fir_widen(image: &[u8], out: &mut [u8]) -> FirVerdict
 /// Moves an image of the 64-bit form to the 32-bit form, as `fir_widen`.
 #[unsafe(no_mangle)]
 pub extern "C" fn fir_narrow(image: &[u8], out: &mut [u8]) -> FirVerdict
-    ensures { (result ≡ moved_numbers (move_of Form.Wide image.now (length out.old)))
+    ensures { (result ≡ verdict_numbers (move_of Form.Wide image.now (length out.old)))
         × (out.new ≡ buffer_after Form.Wide image.now out.old) }
 {
     abi::fir_narrow(image, out)
@@ -151,7 +151,7 @@ pub extern "C" fn fir_bounds(
     numbers: &mut [u8; 128],
     steps: &mut [u64; 64],
 ) -> FirVerdict
-    ensures { (result ≡ bounding_numbers (bounds_of image.now))
+    ensures { (result ≡ verdict_numbers (bounds_of image.now))
         × (numbers.new ≡ unless (bounds_of image.now) numbers.old (numbers_after numbers.old 0 (report (program_of image.now))))
         × (steps.new ≡ unless (bounds_of image.now) steps.old (steps_after steps.old 0 (report (program_of image.now)))) }
 {

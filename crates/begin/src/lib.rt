@@ -138,19 +138,12 @@ fn fits(image: &[u8], table: &[u8], k: u8, words: &[i64]) -> bool
 {
     let n = parameters(image, table, k);
     let mut p: usize = 0;
-    let mut i: usize = 0;
-    while i < n {
+    for i in 0..n {
         let t = lookup::type_of(image, table, k, i as u8);
         match matching(words, p, t as usize) {
             Argument::Nothing => return false,
-            Argument::Integer(_) => {
-                p += 2;
-                i += 1;
-            }
-            Argument::Vector(m) => {
-                p += m + 1;
-                i += 1;
-            }
+            Argument::Integer(_) => p += 2,
+            Argument::Vector(m) => p += m + 1,
         }
     }
     words.len() <= p
@@ -250,10 +243,8 @@ fn put_items(
         return;
     }
     bytes[LENGTHS + c] = m as u8;
-    let mut j: usize = 0;
-    while j < m {
+    for j in 0..m {
         numbers[ITEM + 16 * c + j] = words[p + j];
-        j += 1;
     }
 }
 

@@ -1,4 +1,5 @@
 -- A run begins with the bound of its entry paid for.
+use Rattle.std.specs.Prelude.{Err, Ok}
 use mathlib.Core.Path.{◌≡◌, refl, subst}
 use mathlib.Core.Logic.{◌⊎◌, inl, inr}
 use mathlib.Core.List.{List, [], ◌∷◌}
@@ -11,8 +12,7 @@ use lib.Dec.{leb}
 use Rattle.layout.specs.Tests.{any}
 use Rattle.rules.proofs.Follows.{or-either}
 use Rattle.program.specs.Program.{Version, Program, find_version, parameter_types}
-use Rattle.checker.specs.Verdicts.{verdict_of}
-use Rattle.checker.specs.declared.Verdict.{Verdict}
+use Rattle.checker.specs.Verdicts.{verdict_of, Verdict}
 use Rattle.machine.specs.States.{PROMISES, is_promise, refers, held, live_frames, over}
 use Rattle.machine.specs.Calls.{frame_for}
 use Rattle.machine.specs.Runs.{long_enough}
@@ -67,8 +67,8 @@ unfolding begin_of begin_after refused entered_of
 first-state image level f v words buffer W e = go (verdict_of image)
   where
     go : (a : Verdict) → (begin_after a (program_of image) level f v words buffer).entry ≡ Entry.Begun → First W (begin_after a (program_of image) level f v words buffer).state
-    go (Verdict.Refused q p) h = absurd (refused-begun q p h)
-    go (Verdict.Accepted n) h = first-11 level W (find_version (program_of image) f v) words buffer e h
+    go (Err why) h = absurd (refused-begun why.question why.at h)
+    go (Ok n) h = first-11 level W (find_version (program_of image) f v) words buffer e h
 
 -- arguments are no promises
 no-promises : (p : ℕ) (xs : List Given) (n : ℕ) → any (is_promise p) (values_of xs n) ≡ true → ⊥

@@ -1,4 +1,5 @@
 -- The rest of the list, and the report as a whole as it is written.
+use Rattle.std.specs.Prelude.{Err, Ok}
 use mathlib.Core.Path.{◌≡◌, refl, sym, ap, ◌∙◌}
 use mathlib.Core.List.{List, [], ◌∷◌, ◌++◌, map}
 use mathlib.Core.Bool.{Bool, true, false, cond, not}
@@ -12,13 +13,12 @@ use Rattle.layout.proofs.Bools.{and-on, and-off}
 use Rattle.program.specs.Places.{version_at, table_of}
 use Rattle.program.specs.Program.{Version}
 use Rattle.program.proofs.Held.{find-numbers}
-use Rattle.checker.specs.Verdicts.{verdict_of}
-use Rattle.checker.specs.declared.Verdict.{Verdict}
+use Rattle.checker.specs.Verdicts.{verdict_of, Verdict}
+use Rattle.checker.specs.declared.Refusal.{Refusal}
 use Rattle.machine.specs.Begin.{program_of}
 use Rattle.bounds.specs.Bounds.{Row, is_listed, by_number, bounded, unlisted, unbounded, Entry, entry_of, none_of, report}
 use Rattle.bounds.specs.Counts.{open_at, Stands}
 use Rattle.bounds.specs.Rows.{code_of, numbers_after, steps_after, rest_from, listing, bounds_of}
-use Rattle.bounds.specs.declared.Bounding.{Bounding}
 use Rattle.bounds.proofs.Known.{open_is}
 use Rattle.bounds.proofs.Slots.{slots, by_slots, slot-there, slot-missing, slots-there, slots-missing}
 use Rattle.bounds.proofs.Totals.{total, few-versions}
@@ -107,13 +107,13 @@ module _ (s known : List ℕ) (stands : Stands known (bounded (program_of s))) w
 -- ---- behind the verdict
 
 module _ (s : List ℕ) {a : Verdict} (judged : a ≡ verdict_of s) where
-  pub few-rows : (k : ℕ) → a ≡ Verdict.Accepted k → length (by_number (program_of s)) ≤ 64
+  pub few-rows : (k : ℕ) → a ≡ Ok k → length (by_number (program_of s)) ≤ 64
   few-rows k e = few-versions s k (sym judged ∙ e)
 
-  pub bounds-listed : (k n : ℕ) → a ≡ Verdict.Accepted k → n ≡ length (report (program_of s)) → Bounding.Listed n ≡ bounds_of s
+  pub bounds-listed : (k n : ℕ) → a ≡ Ok k → n ≡ length (report (program_of s)) → Ok n ≡ bounds_of s
   unfolding bounds_of listing
   bounds-listed k n e h = rw (← judged, e, h) refl
 
-  pub bounds-refused : (q p : ℕ) → a ≡ Verdict.Refused q p → Bounding.Refused q p ≡ bounds_of s
+  pub bounds-refused : (why : Refusal) → a ≡ Err why → Err why ≡ bounds_of s
   unfolding bounds_of listing
-  bounds-refused q p e = rw (← judged, e) refl
+  bounds-refused why e = rw (← judged, e) refl

@@ -1,4 +1,5 @@
 -- Each version stands once in the list; an accepted image has no more of them than there are rows.
+use Rattle.std.specs.Prelude.{Ok}
 use mathlib.Core.Path.{◌≡◌, refl, sym, ap, ◌∙◌, subst}
 use mathlib.Core.List.{List, [], ◌∷◌, ◌++◌, Memᴰ}
 use mathlib.Core.Option.{Option, none, some}
@@ -15,7 +16,6 @@ use Rattle.layout.proofs.Bools.{and_both}
 use Rattle.program.specs.Program.{Version, Program}
 use Rattle.program.proofs.Held.{find-numbers}
 use Rattle.checker.specs.Verdicts.{verdict_of}
-use Rattle.checker.specs.declared.Verdict.{Verdict}
 use Rattle.checker.proofs.Accepted.{passed as passed-all}
 use Rattle.checker.proofs.Few.{few-versions as few-in-all}
 use Rattle.machine.specs.Begin.{program_of}
@@ -154,5 +154,5 @@ unfolding bounded
 total P = total-from P (length (by_number P)) [] (rw (unlisted-none (by_number P)) (omega arith))
 
 -- THE LAW: an accepted image has at most 64 versions
-pub few-versions : (image : List ℕ) (k : ℕ) → verdict_of image ≡ Verdict.Accepted k → length (by_number (program_of image)) ≤ ALL-VERSIONS
+pub few-versions : (image : List ℕ) (k : ℕ) → verdict_of image ≡ Ok k → length (by_number (program_of image)) ≤ ALL-VERSIONS
 few-versions image k e = omega (arith, few-in-all (length image) (records image) (passed-all image k e).q4, slots-few (program_of image))

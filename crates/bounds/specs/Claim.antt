@@ -1,10 +1,9 @@
 -- 02, 12, how long at most: a run never takes more steps than a bound given for its entry; none exactly where a chain of dependence comes back. The statements alone.
-use Rattle.std.specs.Prelude.{◌≡◌, Bool, true, false, cond, not, ℕ, suc, ◌+◌, ◌≤◌, ◌<◌, ℤ}
+use Rattle.std.specs.Prelude.{◌≡◌, Bool, true, false, cond, not, ℕ, suc, ◌+◌, ◌≤◌, ◌<◌, ℤ, Ok}
 use mathlib.Core.List.{List, [], ◌∷◌, Memᴰ}
 use Rattle.std.proofs.Math.Option.{some}
 use Rattle.program.specs.Program.{Version, Program, find_version}
 use Rattle.checker.specs.Verdicts.{verdict_of}
-use Rattle.checker.specs.declared.Verdict.{Verdict}
 use Rattle.machine.specs.Runs.{last_step, step_of, budget_of}
 use Rattle.machine.specs.Begin.{begin_of, program_of}
 use Rattle.machine.specs.Events.{Run, Event, single, budget, change, Reply, said, gave, became, program_in, handle, replies}
@@ -90,4 +89,4 @@ pub record NoneExactly (P : Program) (v : Version) : Type 0 where
 
 -- for each version of an accepted image
 unfoldable pub Exactly : Type 0
-Exactly = (image : List ℕ) (k : ℕ) → verdict_of image ≡ Verdict.Accepted k → (f v : ℕ) (W : Version) → find_version (program_of image) f v ≡ some W → NoneExactly (program_of image) W
+Exactly = (image : List ℕ) (k : ℕ) → verdict_of image ≡ Ok k → (f v : ℕ) (W : Version) → find_version (program_of image) f v ≡ some W → NoneExactly (program_of image) W

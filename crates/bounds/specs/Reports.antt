@@ -1,5 +1,5 @@
 -- 02, 12, how long at most: what is promised of the report. The statements alone.
-use Rattle.std.specs.Prelude.{◌≡◌, ◌≢◌, ◌⊎◌, true, ℕ, ◌≤◌, ◌<◌, length, take, eqb}
+use Rattle.std.specs.Prelude.{◌≡◌, ◌≢◌, ◌⊎◌, true, ℕ, ◌≤◌, ◌<◌, length, take, eqb, Ok}
 use mathlib.Core.List.{List, [], ◌∷◌, ◌++◌, Memᴰ}
 use Rattle.std.proofs.Math.Option.{some}
 use Rattle.std.proofs.Math.ListN.{get_elem?}
@@ -7,14 +7,13 @@ use Rattle.layout.specs.Bounds.{ALL-VERSIONS}
 use Rattle.layout.specs.Tests.{◌and◌, count}
 use Rattle.program.specs.Program.{Version, Program, find_version}
 use Rattle.checker.specs.Verdicts.{verdict_of}
-use Rattle.checker.specs.declared.Verdict.{Verdict}
 use Rattle.machine.specs.Begin.{program_of}
 use Rattle.machine.specs.Calls.{present}
 use Rattle.bounds.specs.Bounds.{Row, is_free, by_number, bounded, unbounded, bound_of, Entry, report}
 
 -- For each version of an accepted image report a bound, or none: each stands exactly once in the report, and nothing else does
 unfoldable pub Once : Type 0
-Once = (image : List ℕ) (k : ℕ) → verdict_of image ≡ Verdict.Accepted k → (f w : ℕ) → count (λ (e : Entry). eqb e.function f and eqb e.version w) (report (program_of image))
+Once = (image : List ℕ) (k : ℕ) → verdict_of image ≡ Ok k → (f w : ℕ) → count (λ (e : Entry). eqb e.function f and eqb e.version w) (report (program_of image))
     ≡ present (find_version (program_of image) f w)
 
 -- each entry is that of a version, and has its bound
@@ -23,7 +22,7 @@ Tells = (P : Program) (e : Entry) → Memᴰ e (report P) → (W : Version) × (
 
 -- at most 64
 unfoldable pub FewRows : Type 0
-FewRows = (image : List ℕ) (k : ℕ) → verdict_of image ≡ Verdict.Accepted k → length (report (program_of image)) ≤ ALL-VERSIONS
+FewRows = (image : List ℕ) (k : ℕ) → verdict_of image ≡ Ok k → length (report (program_of image)) ≤ ALL-VERSIONS
 
 -- the numbers f.w come before g.x: lowest function, then lowest version
 abbrev pub Before : ℕ → ℕ → ℕ → ℕ → Type 0

@@ -1,14 +1,13 @@
 -- What is written of a report: of the row i its numbers at 2 × i and 2 × i + 1 of one array, and its bound at i of another.
-use Rattle.std.specs.Prelude.{List, [], ◌∷◌, cond, ℕ, zero, suc, ◌+◌, ◌*◌, ◌/◌, ◌%◌, length, set}
+use Rattle.std.specs.Prelude.{List, [], ◌∷◌, cond, ℕ, zero, suc, ◌+◌, ◌*◌, ◌/◌, ◌%◌, length, set, Err, Ok, Result}
 use Rattle.layout.specs.Bounds.{VERSIONS}
 use Rattle.program.specs.Program.{Program}
-use Rattle.checker.specs.Verdicts.{verdict_of}
-use Rattle.checker.specs.declared.Verdict.{Verdict}
+use Rattle.checker.specs.Verdicts.{verdict_of, Verdict}
 use Rattle.machine.specs.Begin.{program_of}
 use Rattle.bounds.specs.Bounds.{Bound, steps, large, unbounded, Entry, report}
 use Rattle.bounds.specs.Counts.{open_at}
 use Rattle.bounds.specs.Sums.{LIMIT}
-use Rattle.bounds.specs.declared.Bounding.{Bounding}
+use Rattle.checker.specs.declared.Refusal.{Refusal}
 
 -- a bound as a number: "large" is the least that is too large, none is one more
 unfoldable pub code_of : Bound → ℕ
@@ -36,15 +35,15 @@ rest_from s known (suc n) k =
 -- ---- behind the questions to an image
 
 -- how many rows, or the image's refusal as it is
-unfoldable pub listing : Verdict → Program → Bounding
-listing (Verdict.Accepted n) P = Bounding.Listed (length (report P))
-listing (Verdict.Refused q p) P = Bounding.Refused q p
+unfoldable pub listing : Verdict → Program → Result ℕ Refusal
+listing (Ok n) P = Ok (length (report P))
+listing (Err why) P = Err why
 
 -- 02, 12: what becomes of an image
-unfoldable pub bounds_of : List ℕ → Bounding
+unfoldable pub bounds_of : List ℕ → Result ℕ Refusal
 bounds_of image = listing (verdict_of image) (program_of image)
 
 -- an array that a refusal leaves as it was
-unfoldable pub unless : Bounding → List ℕ → List ℕ → List ℕ
-unless (Bounding.Listed n) old new = new
-unless (Bounding.Refused q p) old new = old
+unfoldable pub unless : Result ℕ Refusal → List ℕ → List ℕ → List ℕ
+unless (Ok n) old new = new
+unless (Err why) old new = old

@@ -6,7 +6,7 @@ ghost use Rattle.machine.specs.Begin.{program_of};
 ghost use Rattle.bounds.specs.Bounds.{report};
 ghost use Rattle.bounds.specs.Rows.{bounds_of, numbers_after, steps_after, unless};
 
-use checker::{Verdict, questions};
+use checker::{Refusal, questions};
 
 mod counts;
 mod order;
@@ -26,22 +26,17 @@ pub struct Count {
     pub whole: bool,
 }
 
-/// What becomes of an image: how many rows are filled, one for each version; or its refusal, with the question's number and the offset.
-#[derive(Clone, Copy)]
-pub enum Bounding {
-    Listed(usize),
-    Refused(u8, usize),
-}
-
-/// Puts the questions to an image and lists its versions: the row `i` has the function and the version at 2 × `i` and 2 × `i` + 1 of
+/// Puts the questions to an image and lists its versions, and gives how many rows are filled, one for each version: the row `i` has the function and the version at 2 × `i` and 2 × `i` + 1 of
 /// `numbers`, and the most steps that a run of it takes at `i` of `steps`; `LIMIT` for "large", `NONE` where no bound is given. Rows past
 /// the last stay as they were, and so does all where the image is refused.
-pub fn bounds_of(image: &[u8], numbers: &mut [u8; 128], steps: &mut [u64; 64]) -> Bounding
+pub fn bounds_of(
+    image: &[u8],
+    numbers: &mut [u8; 128],
+    steps: &mut [u64; 64],
+) -> Result<usize, Refusal>
     ensures { (result ≡ bounds_of image.now) × (numbers.new ≡ unless result numbers.old (numbers_after numbers.old 0 (report (program_of image.now))))
         × (steps.new ≡ unless result steps.old (steps_after steps.old 0 (report (program_of image.now)))) }
 {
-    match questions::verdict(image) {
-        Verdict::Accepted(_) => Bounding::Listed(order::list(image, numbers, steps)),
-        Verdict::Refused(n, p) => Bounding::Refused(n, p),
-    }
+    questions::verdict(image)?;
+    Ok(order::list(image, numbers, steps))
 }

@@ -1,11 +1,14 @@
 -- Tests of lists by a rule: none passes, or one does; all pass, or one does not.
 use mathlib.Core.Path.{◌≡◌, refl}
-use mathlib.Core.Bool.{Bool, true, false, ◌||◌}
+use mathlib.Core.Bool.{Bool, true, false, ◌||◌, ◌&&◌}
+use mathlib.Core.List.{List, [], ◌∷◌}
 use Prim.Native.Nat.{ℕ, zero, suc, ◌+◌, ◌≤◌, ◌<◌}
 use native.Mathlib.Omega.{arith}
 use lib.Dec.{eqb}
+use lib.Pointwise.{pointwise}
 use borrow.Author.Tests.{eqb-true, eqb-false}
 use Rattle.layout.specs.Tests.{◌and◌, all, any}
+use Rattle.machine.specs.Changes.{same_bytes}
 use Rattle.store.specs.Lists.{up_to}
 
 pub any-up_to-none : {A : Type 0} (p : A → Bool) (f : ℕ → A) (i n : ℕ) → ((j : ℕ) → i ≤ j → j < i + n → p (f j) ≡ false) → any p (up_to f i n) ≡ false
@@ -47,3 +50,15 @@ pub all-up_to-same : {A B : Type 0} (p : A → Bool) (q : B → Bool) (f : ℕ �
 unfolding all up_to
 all-up_to-same p q f g i zero h = refl
 all-up_to-same p q f g i (suc n) h = rw (h i (omega arith) (omega arith), all-up_to-same p q f g (suc i) n (λ j a b. h j (omega arith) (omega arith))) refl
+
+-- the test of two lists by std is that of their bytes
+pub same-by : (xs ys : List ℕ) → pointwise eqb xs ys ≡ same_bytes xs ys
+unfolding same_bytes ◌and◌
+same-by [] [] = refl
+same-by [] (y ∷ ys) = refl
+same-by (x ∷ xs) [] = refl
+same-by (x ∷ xs) (y ∷ ys) = go (eqb x y) (same-by xs ys)
+  where
+    go : (b : Bool) {u v : Bool} → u ≡ v → (b && u) ≡ (b and v)
+    go true e = e
+    go false e = refl

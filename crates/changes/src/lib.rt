@@ -11,7 +11,7 @@ ghost use Rattle.store.specs.Store.{state_in};
 ghost use Rattle.changes.specs.Owners.{live_calls, owned_by};
 ghost use Rattle.changes.specs.Parts.{end_at, part_at};
 
-use checker::{Verdict, questions};
+use checker::questions;
 use layout::kinds;
 use machine::Changed;
 use program::{Here, lookup, pass};
@@ -50,17 +50,7 @@ fn version_end(image: &[u8], v: usize) -> usize
 fn same(a: &[u8], b: &[u8]) -> bool
     ensures { result ≡ same_bytes a.now b.now }
 {
-    if a.len() != b.len() {
-        return false;
-    }
-    let mut i: usize = 0;
-    while i < a.len() {
-        if a[i] != b[i] {
-            return false;
-        }
-        i += 1;
-    }
-    true
+    a == b
 }
 
 /// Has the version at `p` of the old image the same bytes as the one at `q` of the new image?
@@ -117,14 +107,12 @@ fn is_live(bytes: &[u8; 2632], f: usize, w: usize) -> bool
     ensures { result ≡ is_live (owned_by bytes.now) f w }
 {
     let live = live_calls(bytes);
-    let mut k: usize = 0;
-    while k < live {
+    for k in 0..live {
         let function = layout::byte(bytes, 32 * k + FUNCTION);
         let version = layout::byte(bytes, 32 * k + VERSION);
         if are(function, version, f, w) {
             return true;
         }
-        k += 1;
     }
     false
 }
@@ -191,14 +179,12 @@ fn all_there(new: &[u8], after: &[usize; 128], bytes: &[u8; 2632]) -> bool
     ensures { result ≡ all_there (program_of new.now) (owned_by bytes.now) }
 {
     let live = live_calls(bytes);
-    let mut k: usize = 0;
-    while k < live {
+    for k in 0..live {
         let function = layout::byte(bytes, 32 * k + FUNCTION);
         let version = layout::byte(bytes, 32 * k + VERSION);
         let Some(_) = lookup::listed(new, after, function, version) else {
             return false;
         };
-        k += 1;
     }
     true
 }
@@ -225,8 +211,8 @@ pub fn change(old: &[u8], new: &[u8], bytes: &[u8; 2632]) -> Changed
     ensures { (n : List ℤ) → result ≡ change_of old.now new.now (state_in bytes.now n) }
 {
     match questions::verdict(new) {
-        Verdict::Refused(q, p) => Changed::Refused(q, p as u16),
-        Verdict::Accepted(_) => match answer_15(old, new, bytes) {
+        Err(why) => Changed::Refused(why.question, why.at as u16),
+        Ok(_) => match answer_15(old, new, bytes) {
             None => Changed::Taken,
             Some(p) => Changed::Refused(15, p as u16),
         },

@@ -1,5 +1,5 @@
 -- What an accepted image gives: each question's fact, for its records and for every version, block and instruction that is looked up.
-use Rattle.std.specs.Prelude.{None}
+use Rattle.std.specs.Prelude.{None, Err, Ok}
 use mathlib.Core.Path.{◌≡◌, ap, ◌∙◌}
 use mathlib.Core.List.{List}
 use mathlib.Core.Option.{some}
@@ -17,11 +17,9 @@ use Rattle.program.specs.Held.{bounds}
 use Rattle.program.proofs.Laid.{in_bounds_lem}
 use Rattle.rules.specs.Questions.{question6, question8, question9, question18}
 use Rattle.rules.specs.Flows.{question10}
-use Rattle.checker.specs.Verdicts.{verdict_of, verdict_in}
+use Rattle.checker.specs.Verdicts.{verdict_of, verdict_in, Verdict}
 pub use Rattle.checker.specs.Checked.{Checked}
 use Rattle.checker.specs.Checked.{EachChecked}
-use Rattle.checker.specs.declared.Verdict.{Verdict}
-use Rattle.checker.specs.declared.Verdict.TheVariants.{Accepted, Refused}
 use Rattle.checker.proofs.Asks.{asked, ask-yes}
 
 -- what the questions found of the image s of a form, whose program has k versions
@@ -42,11 +40,11 @@ pub record Passed (form : Form) (s : List ℕ) (k : ℕ) : Type 0 where
 
 -- the number that an answer carries behind its case
 carried : Verdict → ℕ
-carried (Accepted k) = k
-carried (Refused n p) = p
+carried (Ok k) = k
+carried (Err why) = why.at
 
 -- an accepted image passed all questions
-pub passed : {form : Form} (s : List ℕ) (k : ℕ) → verdict_in form s ≡ Accepted k → Passed form s k
+pub passed : {form : Form} (s : List ℕ) (k : ℕ) → verdict_in form s ≡ Ok k → Passed form s k
 unfolding verdict_in carried
 passed s k e =
     let e1 = asked 1 _ _ k e in
@@ -78,14 +76,14 @@ passed s k e =
     }
 
 -- an image that passed all questions is accepted
-pub accept : {form : Form} {s : List ℕ} {k : ℕ} → Passed form s k → verdict_in form s ≡ Accepted k
+pub accept : {form : Form} {s : List ℕ} {k : ℕ} → Passed form s k → verdict_in form s ≡ Ok k
 unfolding verdict_in
 accept a =
     ask-yes 1 _ a.q1 ∙ ask-yes 2 _ a.q2 ∙ ask-yes 3 _ a.q3 ∙ ask-yes 4 _ a.q4 ∙ ask-yes 5 _ a.q5 ∙ ask-yes 6 _ a.q6 ∙ ask-yes 7 _ a.q7
-    ∙ ask-yes 14 _ a.q14 ∙ ask-yes 8 _ a.q8 ∙ ask-yes 18 _ a.q18 ∙ ask-yes 9 _ a.q9 ∙ ask-yes 10 _ a.q10 ∙ ap Accepted a.count
+    ∙ ask-yes 14 _ a.q14 ∙ ask-yes 8 _ a.q8 ∙ ask-yes 18 _ a.q18 ∙ ask-yes 9 _ a.q9 ∙ ask-yes 10 _ a.q10 ∙ ap Ok a.count
 
 -- every version of an accepted image is checked
-pub checked : (s : List ℕ) (k : ℕ) → verdict_of s ≡ Accepted k → (f w : ℕ) (v : Version) → find_version (program (records s)) f w ≡ some v → Checked (program (records s)) v
+pub checked : (s : List ℕ) (k : ℕ) → verdict_of s ≡ Ok k → (f w : ℕ) (v : Version) → find_version (program (records s)) f w ≡ some v → Checked (program (records s)) v
 checked s k e f w v h =
     let P = program (records s) in
     let all = passed s k e in

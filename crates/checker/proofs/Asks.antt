@@ -1,6 +1,6 @@
 -- The verdict, question by question, and the versions that it counts.
-use Rattle.std.specs.Prelude.{None, Some}
-use mathlib.Core.Path.{◌≡◌, refl}
+use Rattle.std.specs.Prelude.{None, Some, Err, Ok}
+use mathlib.Core.Path.{◌≡◌, refl, ap}
 use Rattle.layout.specs.Found.{Found}
 use mathlib.Core.List.{List}
 use mathlib.Core.Bool.{Bool, true, false, cond}
@@ -18,18 +18,27 @@ use Rattle.layout.specs.declared.Form.{Form}
 use Rattle.program.specs.Program.{nowhere}
 use Rattle.program.specs.Places.{view_at}
 use Rattle.program.proofs.Views.{Whole, at-version, at_block, at-line}
-use Rattle.checker.specs.Verdicts.{ask, verdict_in}
-use Rattle.checker.specs.declared.Verdict.{Verdict}
-use Rattle.checker.specs.declared.Verdict.TheVariants.{Accepted, Refused}
+use Rattle.checker.specs.declared.Refusal.{Refusal}
+use Rattle.checker.specs.Verdicts.{ask, verdict_in, Verdict, refused}
 
 -- a question that says yes, and one that says no
 pub ask-yes : (n : ℕ) {x : Found} (more : Verdict) → x ≡ None → ask n x more ≡ more
 unfolding ask
 ask-yes n more e = rw e
 
-pub ask-no : (n : ℕ) {p : ℕ} {x : Found} (more : Verdict) → x ≡ Some p → ask n x more ≡ Refused n p
+pub ask-no : (n : ℕ) {p : ℕ} {x : Found} (more : Verdict) → x ≡ Some p → ask n x more ≡ Err (refused n p)
 unfolding ask
 ask-no n more e = rw e
+
+-- a question that says no refuses, whatever follows
+pub still-refused : (n : ℕ) (x : Found) (k : ℕ) (more : Verdict) {why : Refusal} → ask n x (Ok k) ≡ Err why → ask n x more ≡ Err why
+unfolding ask
+still-refused n None k more e = let z : ◌≡◌ {A = ℕ} 0 1 = cc in absurd (omega arith)
+still-refused n (Some p) k more e = e
+
+-- one refusal has one number and one offset
+pub refused-same : {q p n m : ℕ} → ◌≡◌ {A = Verdict} (Err (refused q p)) (Err (refused n m)) → (q ≡ n) × (p ≡ m)
+refused-same {q} {p} {n} {m} e = let z : refused q p ≡ refused n m = cc in (ap (λ (why : Refusal). why.question) z, ap (λ (why : Refusal). why.at) z)
 
 -- the versions ahead of a record
 pub none_ahead : (s : List ℕ) (p : ℕ) → view_at s p ≡ nowhere → length (view_at s p).versions ≡ 0
@@ -47,12 +56,12 @@ module _ {s : List ℕ} {p n k : ℕ} (m : Whole s p n k) where
       go false e = rw (at-line m x (eqb-false k kind.BLOCK e))
 
 -- an accepted image is no longer than the bound
-pub asked : (n : ℕ) (x : Found) (more : Verdict) (k : ℕ) → ask n x more ≡ Accepted k → (x ≡ None) × (more ≡ Accepted k)
+pub asked : (n : ℕ) (x : Found) (more : Verdict) (k : ℕ) → ask n x more ≡ Ok k → (x ≡ None) × (more ≡ Ok k)
 unfolding ask
 asked n None more k e = (refl, e)
 asked n (Some p) more k e = let z : ◌≡◌ {A = ℕ} 0 1 = cc in absurd (omega arith)
 
-pub accepted-short : (form : Form) (s : List ℕ) (k : ℕ) → verdict_in form s ≡ Accepted k → length s ≤ IMAGE
+pub accepted-short : (form : Form) (s : List ℕ) (k : ℕ) → verdict_in form s ≡ Ok k → length s ≤ IMAGE
 unfolding verdict_in question1
 accepted-short form s k e = go (ltb 0 (length s) and leb (length s) IMAGE) refl (asked 1 _ _ k e).0
   where

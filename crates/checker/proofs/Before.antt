@@ -1,33 +1,27 @@
 -- Filling a register again (02, 9): an image that was accepted before is accepted, and `check` prints the same of it.
-use Rattle.std.specs.Prelude.{None}
+use Rattle.std.specs.Prelude.{None, Ok}
 use mathlib.Core.Path.{◌≡◌, refl, sym, ap, ap₂, ◌∙◌}
 use Rattle.layout.specs.Found.{Found}
 use mathlib.Core.List.{List, [], ◌∷◌, ◌++◌, flat_map}
-use mathlib.Core.Option.{Option, none, some, Option-elim}
-use mathlib.Core.Bool.{Bool, true, false, true≢false}
+use mathlib.Core.Option.{Option, none, some}
+use mathlib.Core.Bool.{Bool, true, true≢false}
 use Prim.Native.Nat.{ℕ, ◌+◌}
 use lib.ListN.{length}
 use Rattle.layout.specs.Records.{records}
 use Rattle.layout.specs.Tests.{found}
-use Rattle.layout.specs.Questions.{question1, question2, question3, question4, question5}
 use Rattle.layout.specs.declared.Form.{Form}
-use Rattle.sets.specs.Sets.{size, below}
+use Rattle.sets.specs.Sets.{below}
 use Rattle.program.specs.Program.{Line, Block, Version, Program, program}
 use Rattle.program.specs.Search.{Question, first, first_block, first_line, free}
-use Rattle.program.specs.Questions.{question7}
-use Rattle.program.specs.Skips.{question14}
 use Rattle.program.proofs.Laid.{passed}
-use Rattle.rules.specs.Questions.{question6, question8, question18, question9}
 use Rattle.rules.specs.Actions.{Action}
 use Rattle.rules.specs.Flows.{flows, question10}
 use Rattle.rules.specs.Before.{body_action₀, flows₀}
 use Rattle.rules.proofs.Before.{still-does, still-flows}
 use Rattle.writer.specs.Text.{text, decimal}
-use Rattle.checker.specs.Verdicts.{ask, verdict_in}
+use Rattle.checker.specs.Verdicts.{ask, verdict_in, Verdict}
 use Rattle.checker.specs.Before.{question10₀, verdict₀, counts₀, answer₀, report_text₀, StillAccepted, SameReport₀}
-use Rattle.checker.specs.Reports.{counts, line_text, version_line, version_lines, refusal, answer, report_in, report_text}
-use Rattle.checker.specs.declared.Verdict.{Verdict}
-use Rattle.checker.specs.declared.Verdict.TheVariants.{Accepted, Refused}
+use Rattle.checker.specs.Reports.{counts, line_text, version_line, version_lines, answer, report_in}
 use Rattle.checker.proofs.Asks.{asked, ask-yes}
 
 -- a question to versions alone
@@ -76,7 +70,7 @@ module _ (P : Program) where
       ap₂ ◌++◌ (ap (line_text v.function v.version) (same-counts v p.0)) (same_lines vs p.1)
 
 -- what is accepted after one question is accepted after it with another continuation that accepts as much
-ask-still : (n k : ℕ) (x : Found) {m m' : Verdict} → (m ≡ Accepted k → m' ≡ Accepted k) → ask n x m ≡ Accepted k → ask n x m' ≡ Accepted k
+ask-still : (n k : ℕ) (x : Found) {m m' : Verdict} → (m ≡ Ok k → m' ≡ Ok k) → ask n x m ≡ Ok k → ask n x m' ≡ Ok k
 ask-still n k x {m} {m'} h e = let a = asked n x m k e in ask-yes n m' a.0 ∙ h a.1
 
 -- THE LAW: an image that was accepted before is accepted, with as many versions
@@ -84,10 +78,10 @@ pub still-accepted : StillAccepted
 unfolding StillAccepted verdict_in verdict₀
 still-accepted form s k =
     ask-still 1 k _ (ask-still 2 k _ (ask-still 3 k _ (ask-still 4 k _ (ask-still 5 k _ (ask-still 6 k _ (ask-still 7 k _ (ask-still 14 k _ (ask-still 8 k _ (ask-still 18 k _ (ask-still 9 k _
-    (λ e. let P = program (records s) in let a = asked 10 _ _ k e in ask-yes 10 (Accepted (length P)) (still-nothing P P a.0) ∙ a.1)))))))))))
+    (λ e. let P = program (records s) in let a = asked 10 _ _ k e in ask-yes 10 (Ok (length P)) (still-nothing P P a.0) ∙ a.1)))))))))))
 
 -- question 10 found nothing in such an image
-ended : (form : Form) (s : List ℕ) (k : ℕ) → verdict₀ form s ≡ Accepted k → first (question10₀ (program (records s))) (program (records s)) ≡ None
+ended : (form : Form) (s : List ℕ) (k : ℕ) → verdict₀ form s ≡ Ok k → first (question10₀ (program (records s))) (program (records s)) ≡ None
 unfolding verdict₀
 ended form s k e =
     let e1 = asked 1 _ _ k e in

@@ -1,5 +1,5 @@
 -- The offset of a refusal lies within the image that question 1 allows.
-use Rattle.std.specs.Prelude.{None, Some}
+use Rattle.std.specs.Prelude.{None, Some, Err, Ok}
 use mathlib.Core.Path.{◌≡◌, refl, sym, ◌∙◌}
 use Rattle.layout.specs.Found.{Found}
 use mathlib.Core.Option.{none}
@@ -27,10 +27,8 @@ use Rattle.program.specs.Skips.{no_ends, ends_after, ends_within, question14}
 use Rattle.layout.proofs.Lists.{Each}
 use Rattle.rules.specs.Questions.{question6, question8, question9, question18}
 use Rattle.rules.specs.Flows.{question10}
-use Rattle.checker.specs.Verdicts.{ask, verdict_in}
-use Rattle.checker.proofs.Asks.{ask-no}
-use Rattle.checker.specs.declared.Verdict.{Verdict}
-use Rattle.checker.specs.declared.Verdict.TheVariants.{Accepted, Refused}
+use Rattle.checker.specs.Verdicts.{ask, verdict_in, Verdict, refused}
+use Rattle.checker.proofs.Asks.{ask-no, refused-same}
 
 -- the offset that is found is at most n
 unfoldable Within : ℕ → Found → Type 0
@@ -163,8 +161,8 @@ first-low q s p e = let h : Within (length s) (first q (program (records s))) = 
 
 -- the offset of a refusal is at most n
 unfoldable Low : ℕ → Verdict → Type 0
-Low n (Accepted k) = Unit {0}
-Low n (Refused q p) = p ≤ n
+Low n (Ok k) = Unit {0}
+Low n (Err why) = why.at ≤ n
 
 ask-low : (n k : ℕ) (x : Found) (more : Verdict) → Within n x → Low n more → Low n (ask k x more)
 unfolding ask Within Low
@@ -192,7 +190,7 @@ verdict-in form s =
     (ask-low _ 10 _ _ (first-in (question10 P) (length s) P vs) tt)))))))))))
 
 -- THE LAW: an image that is too long is refused at 0
-pub refused-low : (form : Form) (s : List ℕ) (q p : ℕ) → verdict_in form s ≡ Refused q p → p ≤ IMAGE
+pub refused-low : (form : Form) (s : List ℕ) (q p : ℕ) → verdict_in form s ≡ Err (refused q p) → p ≤ IMAGE
 unfolding verdict_in question1 Low
 refused-low form s q p e = go (ltb 0 (length s) and leb (length s) IMAGE) refl
   where
@@ -203,7 +201,5 @@ refused-low form s q p e = go (ltb 0 (length s) and leb (length s) IMAGE) refl
     go true t = omega (arith, inside, leb-true (length s) IMAGE (and_both _ _ t).1)
     go false t =
         let x : question1 s ≡ Some 0 = rw t refl in
-        let y : verdict_in form s ≡ Refused 1 0 = ask-no 1 _ x in
-        let z : Refused 1 0 ≡ Refused q p = sym y ∙ e in
-        let w : 0 ≡ p = cc in
-        omega arith
+        let y : verdict_in form s ≡ Err (refused 1 0) = ask-no 1 _ x in
+        omega (arith, (refused-same (sym y ∙ e)).1)

@@ -1,5 +1,5 @@
 -- Pieces put into a buffer one after the other are one piece.
-use Rattle.std.specs.Prelude.{None, Option, Some}
+use Rattle.std.specs.Prelude.{None, Option, Some, Err, Ok}
 use mathlib.Core.Path.{◌≡◌, refl, sym, ap, ◌∙◌}
 use mathlib.Core.List.{List, [], ◌∷◌, ◌++◌, append_assoc, append-nil}
 use Prim.Native.Nat.{ℕ, ◌+◌, ◌≤◌, ◌<◌}
@@ -14,10 +14,8 @@ use Rattle.checker.specs.Reports.{spaced, line_text, counts_of, refusal, answer,
 use Rattle.layout.specs.Records.{records}
 use Rattle.layout.specs.declared.Form.{Form}
 use Rattle.program.specs.Program.{Program, program}
-use Rattle.checker.specs.Verdicts.{verdict_in}
-use Rattle.checker.specs.declared.Verdict.TheVariants.{Accepted, Refused}
+use Rattle.checker.specs.Verdicts.{verdict_in, refused}
 use Rattle.checker.specs.declared.Counts.{Counts}
-use Rattle.checker.specs.declared.Counts.TheVariants.{Of}
 use Rattle.checker.proofs.Texts.{spaced-cons, spaced-nil, counts-known, length-count, line-length, one_byte}
 
 -- the bytes t were put at a, and b is the place behind them
@@ -47,16 +45,21 @@ unfolding count
 spaced-four r w u c = simp (spaced-cons, spaced-nil, append_assoc, append-nil)
 
 -- four counts are the counts of a line
-pub counts-put : {x y₁ y₂ y₃ y₄ : List ℕ} {a b₁ b₂ b₃ b₄ r w u c : ℕ} (k : Counts) → k ≡ Of r w u c → a + length (spaced (counts_of k)) ≤ length x
-    → Put x y₁ a b₁ (text " " ++ decimal r) → Put y₁ y₂ b₁ b₂ (text " " ++ decimal w) → Put y₂ y₃ b₂ b₃ (text " " ++ decimal u) → Put y₃ y₄ b₃ b₄ (text " " ++ decimal c)
+pub counts-put : {x y₁ y₂ y₃ y₄ : List ℕ} {a b₁ b₂ b₃ b₄ : ℕ} {n : Counts} (k : Option Counts) → k ≡ Some n → a + length (spaced (counts_of k)) ≤ length x
+    → Put x y₁ a b₁ (text " " ++ decimal n.reads) → Put y₁ y₂ b₁ b₂ (text " " ++ decimal n.assigns) → Put y₂ y₃ b₂ b₃ (text " " ++ decimal n.empties)
+    → Put y₃ y₄ b₃ b₄ (text " " ++ decimal n.captures)
     → Put x y₄ a b₄ (spaced (counts_of k))
 unfolding count counts_of
-counts-put {a = a} {r = r} {w = w} {u = u} {c = c} k e h p q s t =
-    let n = counts-known k e in
-    put_as (spaced-four r w u c ∙ ap (λ (m : Counts). spaced (counts_of m)) (sym e))
-    (put_then (put_then (put_then p q (omega (arith, n, length-count r, length-count w, p.ends, q.ends))) s
-    (omega (arith, n, length-count r, length-count w, length-count u, p.ends, q.ends, s.ends))) t
-    (omega (arith, n, length-count r, length-count w, length-count u, length-count c, p.ends, q.ends, s.ends, t.ends)))
+counts-put {a = a} {n = n} k e h p q s t =
+    let l = counts-known k e in
+    let r = length-count n.reads in
+    let w = length-count n.assigns in
+    let u = length-count n.empties in
+    let c = length-count n.captures in
+    put_as (spaced-four n.reads n.assigns n.empties n.captures ∙ ap (λ (m : Option Counts). spaced (counts_of m)) (sym e))
+    (put_then (put_then (put_then p q (omega (arith, l, r, w, p.ends, q.ends))) s
+    (omega (arith, l, r, w, u, p.ends, q.ends, s.ends))) t
+    (omega (arith, l, r, w, u, c, p.ends, q.ends, s.ends, t.ends)))
 
 -- the pieces of a line
 pub line-put : {x y₁ y₂ y₃ y₄ y₅ : List ℕ} {a b₁ b₂ b₃ b₄ b₅ : ℕ} (f w : ℕ) (ns : List ℕ) → a + length (line_text f w ns) ≤ length x
@@ -123,13 +126,13 @@ refusal-put n p h q r s t u =
     put_then (put_then (put_then (put_then q r (omega (arith, l, eight-bytes.0, q.ends, r.ends))) s (omega (arith, l, eight-bytes.0, eight-bytes.1, q.ends, r.ends, s.ends))) t
     (omega (arith, l, eight-bytes.0, eight-bytes.1, q.ends, r.ends, s.ends, t.ends))) u (omega (arith, l, one_byte.2, eight-bytes.0, eight-bytes.1, q.ends, r.ends, s.ends, t.ends, u.ends))
 
-pub accepted-length : (P : Program) (n : ℕ) → length (answer P (Accepted n)) ≡ length (version_lines P P) + 9 + length (decimal n) + 1
+pub accepted-length : (P : Program) (n : ℕ) → length (answer P (Ok n)) ≡ length (version_lines P P) + 9 + length (decimal n) + 1
 unfolding answer
 accepted-length P n = simp length-append (omega (arith, one_byte.2, eight-bytes.2))
 
-pub accepted-put : {x y₁ y₂ y₃ y₄ : List ℕ} {b₁ b₂ b₃ b₄ : ℕ} (P : Program) (n : ℕ) → length (answer P (Accepted n)) ≤ length x
+pub accepted-put : {x y₁ y₂ y₃ y₄ : List ℕ} {b₁ b₂ b₃ b₄ : ℕ} (P : Program) (n : ℕ) → length (answer P (Ok n)) ≤ length x
     → Put x y₁ 0 b₁ (version_lines P P) → Put y₁ y₂ b₁ b₂ (text "accepted ") → Put y₂ y₃ b₂ b₃ (decimal n) → Put y₃ y₄ b₃ b₄ (text "\n")
-    → Put x y₄ 0 b₄ (answer P (Accepted n))
+    → Put x y₄ 0 b₄ (answer P (Ok n))
 unfolding answer
 accepted-put P n h q r s t =
     let l = accepted-length P n in
@@ -137,11 +140,11 @@ accepted-put P n h q r s t =
     (omega (arith, l, one_byte.2, eight-bytes.2, q.ends, r.ends, s.ends, t.ends))
 
 -- the text by its verdict
-pub told-accepted : {r : Option ℕ} {x y : List ℕ} (form : Form) (s : List ℕ) (n : ℕ) → verdict_in form s ≡ Accepted n → Told r x y (answer (program (records s)) (Accepted n)) → Told r x y (report_in form s)
+pub told-accepted : {r : Option ℕ} {x y : List ℕ} (form : Form) (s : List ℕ) (n : ℕ) → verdict_in form s ≡ Ok n → Told r x y (answer (program (records s)) (Ok n)) → Told r x y (report_in form s)
 unfolding report_in
 told-accepted form s n e t = rw e t
 
-pub told-refused : {r : Option ℕ} {x y : List ℕ} (form : Form) (s : List ℕ) (n p : ℕ) → verdict_in form s ≡ Refused n p → Told r x y (refusal n p) → Told r x y (report_in form s)
+pub told-refused : {r : Option ℕ} {x y : List ℕ} (form : Form) (s : List ℕ) (n p : ℕ) → verdict_in form s ≡ Err (refused n p) → Told r x y (refusal n p) → Told r x y (report_in form s)
 unfolding report_in answer
 told-refused form s n p e t = rw e t
 

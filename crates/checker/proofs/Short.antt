@@ -1,5 +1,5 @@
 -- How long a report gets: digits, counts, lines, the whole text.
-use Rattle.std.specs.Prelude.{None, Some}
+use Rattle.std.specs.Prelude.{None, Some, Err, Ok}
 use mathlib.Core.Path.{◌≡◌, refl}
 use Rattle.layout.specs.Found.{Found}
 use mathlib.Core.List.{List, [], ◌∷◌, flat_map}
@@ -22,11 +22,9 @@ use Rattle.program.proofs.Laid.{bounds, in_bounds_lem, version_bounded}
 use Rattle.rules.specs.Actions.{Action, body_action}
 use Rattle.writer.specs.Text.{text, decimal}
 use Rattle.writer.proofs.Digits.{length-one, length_more}
-use Rattle.checker.specs.Verdicts.{ask, verdict_in}
+use Rattle.checker.specs.Verdicts.{ask, verdict_in, Verdict}
 use Rattle.checker.specs.Reports.{counts, spaced, version_line, version_lines, refusal, answer, report_in}
 use Rattle.checker.specs.Claims.{ReportsShort, LinesShort, RefusalsShort}
-use Rattle.checker.specs.declared.Verdict.{Verdict}
-use Rattle.checker.specs.declared.Verdict.TheVariants.{Accepted, Refused}
 use Rattle.checker.proofs.Accepted.{passed as all-passed}
 use Rattle.checker.proofs.Few.{Small, body-small, size_few, few-versions}
 use Rattle.checker.proofs.Offsets.{refused-low}
@@ -122,7 +120,7 @@ refusal-short : (q p : ℕ) → q < 100 → p < 100000 → length (refusal q p) 
 unfolding refusal
 refusal-short q p h l = simp length-append (omega (arith, refused-bytes.0, refused-bytes.1, accepted-bytes.1, two_digits q h, five-digits p l))
 
-accepted-short : (P : Program) (n : ℕ) → length P ≡ n → n ≤ ALL-VERSIONS → Each (Short P) P → length (answer P (Accepted n)) ≤ 1100
+accepted-short : (P : Program) (n : ℕ) → length P ≡ n → n ≤ ALL-VERSIONS → Each (Short P) P → length (answer P (Ok n)) ≤ 1100
 unfolding answer
 accepted-short P n e h each = simp length-append (omega (arith, accepted-bytes.0, accepted-bytes.1, two_digits n (omega (arith, h)), lines-short P P each))
 
@@ -130,8 +128,8 @@ accepted-short P n e h each = simp length-append (omega (arith, accepted-bytes.0
 
 -- is below 100
 unfoldable Numbered : Verdict → Type 0
-Numbered (Accepted n) = Unit {0}
-Numbered (Refused q p) = q < 100
+Numbered (Ok n) = Unit {0}
+Numbered (Err why) = why.question < 100
 
 ask-numbered : (k : ℕ) (x : Found) (more : Verdict) → k < 100 → Numbered more → Numbered (ask k x more)
 unfolding ask Numbered
@@ -162,7 +160,7 @@ refusals-short form s q p e =
     let h : Numbered (verdict_in form s) = numbered form s in
     refusal-short q p (rw e at h) (omega (arith, refused-low form s q p e))
 
-lines_of : (form : Form) (s : List ℕ) (n : ℕ) → verdict_in form s ≡ Accepted n → Each (Short (program (records s))) (program (records s))
+lines_of : (form : Form) (s : List ℕ) (n : ℕ) → verdict_in form s ≡ Ok n → Each (Short (program (records s))) (program (records s))
 lines_of form s n e = let a = all-passed s n e in each-short (program (records s)) (program (records s)) (helds bounds (program (records s)) (in_bounds_lem (length s) (records s) a.q4))
 
 pub lines-few : LinesShort
@@ -176,8 +174,8 @@ unfolding ReportsShort RefusalsShort report_in answer
 reports-short form s = go (verdict_in form s) refl
   where
     go : (v : Verdict) → verdict_in form s ≡ v → length (answer (program (records s)) v) ≤ 1100
-    go (Accepted n) e =
+    go (Ok n) e =
         let a = all-passed s n e in
         let few = few-versions (length s) (records s) a.q4 in
         accepted-short (program (records s)) n a.count (omega (arith, few, a.count)) (lines_of form s n e)
-    go (Refused q p) e = omega (arith, refusals-short form s q p e)
+    go (Err why) e = omega (arith, refusals-short form s why.question why.at e)

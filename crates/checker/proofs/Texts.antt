@@ -1,5 +1,5 @@
 -- The text, piece by piece: its lengths, and its lines as a loop along the records meets them.
-use Rattle.std.specs.Prelude.{None, Some}
+use Rattle.std.specs.Prelude.{None, Option, Some}
 use mathlib.Core.Path.{◌≡◌, refl, ap}
 use Rattle.flow.specs.Masks.{Flowed}
 use mathlib.Core.List.{List, [], ◌∷◌, ◌++◌, flat_map}
@@ -8,7 +8,6 @@ use Prim.Native.Nat.{ℕ, ◌+◌}
 use native.Mathlib.Omega.{arith}
 use lib.ListN.{length, length-append}
 use Rattle.layout.specs.Kinds as kind
-use Rattle.layout.specs.Records.{records}
 use Rattle.sets.specs.Sets.{size, set_of}
 use Rattle.program.specs.Program.{Version, Program, nowhere}
 use Rattle.program.specs.Places.{view_at, version_at}
@@ -19,7 +18,6 @@ use Rattle.flow.specs.declared.Action.{Action}
 use Rattle.writer.specs.Text.{text, decimal}
 use Rattle.checker.specs.Reports.{counts, counts_of, spaced, line_text, version_line, version_lines}
 use Rattle.checker.specs.declared.Counts.{Counts}
-use Rattle.checker.specs.declared.Counts.TheVariants.{Of, Unknown}
 use Rattle.checker.proofs.Asks.{same_ahead}
 
 -- ---- counts
@@ -59,15 +57,16 @@ spaced-none = ap length spaced-nil
 spaced-four : (r w u c : ℕ) → length (spaced (r ∷ w ∷ u ∷ c ∷ [])) ≡ 4 + length (decimal r) + length (decimal w) + length (decimal u) + length (decimal c)
 spaced-four r w u c = omega (arith, spaced-length r (w ∷ u ∷ c ∷ []), spaced-length w (u ∷ c ∷ []), spaced-length u (c ∷ []), spaced-length c [], spaced-none)
 
-pub counts-known : {r w u c : ℕ} (k : Counts) → k ≡ Of r w u c → length (spaced (counts_of k)) ≡ 4 + length (decimal r) + length (decimal w) + length (decimal u) + length (decimal c)
+pub counts-known : {n : Counts} (k : Option Counts) → k ≡ Some n
+    → length (spaced (counts_of k)) ≡ 4 + length (decimal n.reads) + length (decimal n.assigns) + length (decimal n.empties) + length (decimal n.captures)
 unfolding counts_of
-counts-known {r} {w} {u} {c} k e = rw e (spaced-four r w u c)
+counts-known {n} k e = rw e (spaced-four n.reads n.assigns n.empties n.captures)
 
-pub counts-none : (k : Counts) → k ≡ Unknown → spaced (counts_of k) ≡ []
+pub counts-none : (k : Option Counts) → k ≡ None → spaced (counts_of k) ≡ []
 unfolding counts_of
 counts-none k e = rw e spaced-nil
 
-pub counts-unknown : (k : Counts) → k ≡ Unknown → length (spaced (counts_of k)) ≡ 0
+pub counts-unknown : (k : Option Counts) → k ≡ None → length (spaced (counts_of k)) ≡ 0
 counts-unknown k e = ap length (counts-none k e)
 
 pub line-length : (f w : ℕ) (ns : List ℕ) → length (line_text f w ns) ≡ length (decimal f) + 1 + length (decimal w) + length (spaced ns) + 1

@@ -1,18 +1,15 @@
 -- Program: the bytes that `check` prints.
 use mathlib.Core.List.{List, [], ◌∷◌, ◌++◌, flat_map}
 use Rattle.std.proofs.Math.Option.{Option-elim}
-use Rattle.std.specs.Prelude.{cond, ℕ, length, leb, ◌≡◌, None, Option, Some}
+use Rattle.std.specs.Prelude.{cond, ℕ, length, leb, ◌≡◌, None, Option, Some, Err, Ok}
 use Rattle.layout.specs.Records.{records}
 use Rattle.layout.specs.declared.Form.{Form}
 use Rattle.sets.specs.Sets.{size}
 use Rattle.program.specs.Program.{Version, Program, program}
 use Rattle.rules.specs.Actions.{body_action}
 use Rattle.writer.specs.Text.{text, decimal, placed}
-use Rattle.checker.specs.Verdicts.{verdict_in}
-use Rattle.checker.specs.declared.Verdict.{Verdict}
-use Rattle.checker.specs.declared.Verdict.TheVariants.{Accepted, Refused}
+use Rattle.checker.specs.Verdicts.{verdict_in, Verdict}
 use Rattle.checker.specs.declared.Counts.{Counts}
-use Rattle.checker.specs.declared.Counts.TheVariants.{Of, Unknown}
 use Rattle.checker.specs.declared.Line.{Line}
 
 -- the counts of registers in each set of a version's body: R W U C
@@ -41,8 +38,8 @@ refusal n p = text "refused " ++ decimal n ++ text " at " ++ decimal p ++ text "
 
 -- `accepted` and the number of versions behind the lines; or the refusal
 unfoldable pub answer : Program → Verdict → List ℕ
-answer P (Accepted n) = version_lines P P ++ text "accepted " ++ decimal n ++ text "\n"
-answer P (Refused n p) = refusal n p
+answer P (Ok n) = version_lines P P ++ text "accepted " ++ decimal n ++ text "\n"
+answer P (Err why) = refusal why.question why.at
 
 -- Program: what `check` prints of an image in a form
 unfoldable pub report_in : Form → List ℕ → List ℕ
@@ -62,9 +59,9 @@ pub record Told (r : Option ℕ) (before after t : List ℕ) : Type 0 where
   pub writes : after ≡ placed before 0 t
 
 -- the counts of a line as the code has it; none where they are not known
-unfoldable pub counts_of : Counts → List ℕ
-counts_of (Of r w u c) = r ∷ w ∷ u ∷ c ∷ []
-counts_of Unknown = []
+unfoldable pub counts_of : Option Counts → List ℕ
+counts_of (Some n) = n.reads ∷ n.assigns ∷ n.empties ∷ n.captures ∷ []
+counts_of None = []
 
 -- a line as the code has it, as text
 unfoldable pub line_of : Line → List ℕ

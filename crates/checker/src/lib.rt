@@ -4,24 +4,26 @@
 pub mod questions;
 pub mod report;
 
-/// The answer to an image: accepted with its number of versions, or the number of the question that says no and the offset.
-#[derive(Clone, Copy)]
-pub enum Verdict {
-    Accepted(usize),
-    Refused(u8, usize),
+/// A refusal: the number of the question that says no, and the offset.
+#[derive(Clone, Copy, Debug, PartialEq, Eq)]
+pub struct Refusal {
+    pub question: u8,
+    pub at: usize,
 }
 
-/// The counts of registers in each set of a body, read, assigned, emptied and captured; none where its flow is not allowed.
+/// The counts of registers in each set of a body.
 #[derive(Clone, Copy)]
-pub enum Counts {
-    Of(u32, u32, u32, u32),
-    Unknown,
+pub struct Counts {
+    pub reads: u32,
+    pub assigns: u32,
+    pub empties: u32,
+    pub captures: u32,
 }
 
-/// What a line of the text says of a version.
+/// What a line of the text says of a version; no counts where its flow is not allowed.
 #[derive(Clone, Copy)]
 pub struct Line {
     pub function: usize,
     pub version: usize,
-    pub counts: Counts,
+    pub counts: Option<Counts>,
 }

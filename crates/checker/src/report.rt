@@ -7,23 +7,20 @@ ghost use Rattle.program.specs.Places.{version_at};
 ghost use Rattle.writer.specs.Text.{placed, text, decimal};
 ghost use Rattle.checker.specs.Reports.{counts, counts_of, spaced, version_line, version_lines, line_of, refusal, answer, report_in, report_text, Told};
 
-use crate::{Counts, Line, Verdict, questions};
+use crate::{Counts, Line, Refusal, questions};
 use layout::Form;
 
 /// The counts of registers in each set of the body of the version at `v`.
-fn counts_at(image: &[u8], v: usize) -> Counts
+fn counts_at(image: &[u8], v: usize) -> Option<Counts>
     ensures { counts_of result ≡ counts (program (records image.now)) (version_at image.now v) }
 {
-    match flow::body::action(image, v) {
-        Some(a) => {
-            let reads = sets::size(a.reads);
-            let assigns = sets::size(a.assigns);
-            let empties = sets::size(a.empties);
-            let captures = sets::size(a.captures);
-            Counts::Of(reads, assigns, empties, captures)
-        }
-        None => Counts::Unknown,
-    }
+    let a = flow::body::action(image, v)?;
+    Some(Counts {
+        reads: sets::size(a.reads),
+        assigns: sets::size(a.assigns),
+        empties: sets::size(a.empties),
+        captures: sets::size(a.captures),
+    })
 }
 
 /// The line of the version at `v`.
@@ -38,15 +35,20 @@ fn line_at(image: &[u8], v: usize) -> Line
 }
 
 /// How long the counts are, each behind a space.
-fn counts_length(counts: Counts) -> usize
+fn counts_length(counts: Option<Counts>) -> usize
     ensures { (result ≡ length (spaced (counts_of counts))) × (result ≤ 84) }
 {
     match counts {
-        Counts::Of(r, w, u, c) => {
-            let first = 2 + writer::digits_of(r as usize) + writer::digits_of(w as usize);
-            first + 2 + writer::digits_of(u as usize) + writer::digits_of(c as usize)
+        Some(n) => {
+            let first = 2
+                + writer::digits_of(n.reads as usize)
+                + writer::digits_of(n.assigns as usize);
+            first
+                + 2
+                + writer::digits_of(n.empties as usize)
+                + writer::digits_of(n.captures as usize)
         }
-        Counts::Unknown => 0,
+        None => 0,
     }
 }
 
@@ -93,18 +95,18 @@ fn put_count(out: &mut [u8], at: usize, n: usize) -> usize
 }
 
 /// Puts the counts at `at`, each behind a space, and gives the place behind them.
-fn put_counts(out: &mut [u8], at: usize, counts: Counts) -> usize
+fn put_counts(out: &mut [u8], at: usize, counts: Option<Counts>) -> usize
     requires { at + length (spaced (counts_of counts)) ≤ length out.old }
     ensures { (result ≡ at + length (spaced (counts_of counts))) × (out.new ≡ placed out.old at (spaced (counts_of counts))) }
 {
     match counts {
-        Counts::Of(r, w, u, c) => {
-            let second = put_count(out, at, r as usize);
-            let third = put_count(out, second, w as usize);
-            let fourth = put_count(out, third, u as usize);
-            put_count(out, fourth, c as usize)
+        Some(n) => {
+            let second = put_count(out, at, n.reads as usize);
+            let third = put_count(out, second, n.assigns as usize);
+            let fourth = put_count(out, third, n.empties as usize);
+            put_count(out, fourth, n.captures as usize)
         }
-        Counts::Unknown => at,
+        None => at,
     }
 }
 
@@ -150,7 +152,7 @@ fn put_lines(image: &[u8], out: &mut [u8]) -> usize
 /// Writes the text of an accepted image with `n` versions.
 fn report_accepted(image: &[u8], out: &mut [u8], n: usize) -> Option<usize>
     requires { length image.now ≤ IMAGE }
-    ensures { Told result out.old out.new (answer (program (records image.now)) (Verdict.Accepted n)) }
+    ensures { Told result out.old out.new (answer (program (records image.now)) (Ok n)) }
 {
     let size = writer::digits_of(n);
     let total = lines_length(image) + 9 + size + 1;
@@ -164,13 +166,13 @@ fn report_accepted(image: &[u8], out: &mut [u8], n: usize) -> Option<usize>
     Some(total)
 }
 
-/// Writes the text of an image that the question `n` refuses at `p`.
-fn report_refused(out: &mut [u8], n: u8, p: usize) -> Option<usize>
-    ensures { Told result out.old out.new (refusal n p) }
+/// Writes the text of an image that is refused.
+fn report_refused(out: &mut [u8], why: Refusal) -> Option<usize>
+    ensures { Told result out.old out.new (refusal why.question why.at) }
 {
-    let number = n as usize;
+    let number = why.question as usize;
     let size = writer::digits_of(number);
-    let place = writer::digits_of(p);
+    let place = writer::digits_of(why.at);
     let total = 8 + size + 4 + place + 1;
     if out.len() < total {
         return None;
@@ -178,7 +180,7 @@ fn report_refused(out: &mut [u8], n: u8, p: usize) -> Option<usize>
     writer::put_bytes(out, 0, b"refused ");
     writer::put_number(out, 8, number);
     writer::put_bytes(out, 8 + size, b" at ");
-    writer::put_number(out, 12 + size, p);
+    writer::put_number(out, 12 + size, why.at);
     writer::put_byte(out, 12 + size + place, b'\n');
     Some(total)
 }
@@ -188,8 +190,8 @@ pub fn report_in(image: &[u8], form: Form, out: &mut [u8]) -> Option<usize>
     ensures { Told result out.old out.new (report_in form image.now) }
 {
     match questions::verdict_in(image, form) {
-        Verdict::Accepted(n) => report_accepted(image, out, n),
-        Verdict::Refused(n, p) => report_refused(out, n, p),
+        Ok(n) => report_accepted(image, out, n),
+        Err(why) => report_refused(out, why),
     }
 }
 

@@ -91,10 +91,8 @@ fn end_vector(bytes: &mut [u8; 2632], numbers: &mut [i64; 2129], v: usize)
     ensures { (state_in bytes.new numbers.new ≡ done_vector bytes.old numbers.old v) × Sized bytes.new numbers.new }
 {
     let n = heap::items(bytes, numbers, v);
-    let mut j: usize = 0;
-    while j < 16 {
+    for j in 0..16 {
         numbers[2112 + j] = numbers[1024 + 16 * v + j];
-        j += 1;
     }
     close_run(bytes, 2, n);
 }

@@ -1,4 +1,5 @@
 -- 02, 13: bounds of 12) agree as well: the claims hold.
+use Rattle.std.specs.Prelude.{Ok}
 use mathlib.Core.Path.{◌≡◌, sym, ap, subst}
 use mathlib.Core.List.{List, ◌++◌}
 use mathlib.Core.Option.{none}
@@ -11,7 +12,6 @@ use Rattle.layout.specs.Bounds.{FUNCTIONS}
 use Rattle.layout.proofs.Bools.{and_both}
 use Rattle.program.specs.Program.{Program, find_version}
 use Rattle.checker.specs.Verdicts.{verdict_of}
-use Rattle.checker.specs.declared.Verdict.TheVariants.{Accepted}
 use Rattle.checker.proofs.Accepted.{passed}
 use Rattle.machine.specs.Begin.{program_of}
 use Rattle.joins.specs.Shifted.{shift_program}
@@ -22,7 +22,7 @@ use Rattle.joins.proofs.Together.{Below, carries-first, carries-second, find-hig
 use Rattle.joins.proofs.Joining.{below-image, closed-image, joined-program, taken}
 use Rattle.joins.proofs.Listed.{bounds-first, bounds-second, report-joined}
 
-module _ (a b : List ℕ) (n m room : ℕ) (va : verdict_of a ≡ Accepted n) (vb : verdict_of b ≡ Accepted m) (h : in_bounds a b room ≡ true) where
+module _ (a b : List ℕ) (n m room : ℕ) (va : verdict_of a ≡ Ok n) (vb : verdict_of b ≡ Ok m) (h : in_bounds a b room ≡ true) where
   abbrev k : ℕ
   k = functions_in a
 

@@ -1,4 +1,5 @@
 -- 02, 13: the answer of a join, as the code finds it.
+use Rattle.std.specs.Prelude.{Err, Ok, Result}
 use mathlib.Core.Path.{◌≡◌, refl, sym, ap, ◌∙◌}
 use mathlib.Core.List.{List, [], ◌∷◌}
 use mathlib.Core.Bool.{Bool, true, false, cond}
@@ -17,13 +18,13 @@ use Rattle.program.specs.Program.{Program, program}
 use Rattle.program.specs.Questions.{question7}
 use Rattle.writer.specs.Text.{placed}
 use Rattle.writer.proofs.Placed.{placed-then}
-use Rattle.checker.specs.Verdicts.{verdict_of}
-use Rattle.checker.specs.declared.Verdict.{Verdict}
+use Rattle.std.specs.Result.{MatchResult, IsErrAnd}
+use Rattle.std.proofs.lemmas.Result.{err_from_is_err_and}
+use Rattle.checker.specs.Verdicts.{Verdict, verdict_of, refused}
+use Rattle.checker.specs.declared.Refusal.{Refusal}
 use Rattle.checker.proofs.Accepted.{passed}
 use Rattle.checker.proofs.Asks.{accepted-short}
 use Rattle.machine.specs.Begin.{program_of}
-use Rattle.joins.specs.declared.Joined.{Joined}
-use Rattle.joins.specs.declared.Joined.TheVariants.{Written, First, Second, Together}
 use Rattle.joins.specs.Joins.{functions_in, versions_in, joined, in_bounds, join_after, join_of, leaves, joined_buffer}
 use Rattle.joins.specs.Parts.{Bytes, Ready}
 use Rattle.layout.proofs.Behind.{Chain, chained}
@@ -33,6 +34,8 @@ use Rattle.program.proofs.Programs.{no-versions, program-version, program-other}
 use Rattle.joins.proofs.Named.{all-within, all-raisable}
 use Rattle.joins.proofs.Joining.{fits-image, below-image}
 use Rattle.joins.proofs.Parts.{all_raised}
+use Rattle.joins.specs.declared.JoinError.{JoinError}
+use Rattle.joins.specs.declared.JoinError.TheVariants.{First, Second, Together}
 
 -- ---- versions
 
@@ -47,14 +50,14 @@ versions-few (r ∷ rs) p e c f = go (eqb r.kind kind.VERSION) refl (versions-fe
     go false x h = let n : length (program (r ∷ rs)) ≡ length (program rs) = ap (λ (vs : Program). length vs) (program-other r rs f.0.size x) in omega (arith, h, n, f.0.size)
 
 -- an accepted image: its count, and bounds that keep sums small
-pub counted-versions : (s : List ℕ) (n : ℕ) → verdict_of s ≡ Verdict.Accepted n → (versions_in s ≡ n) × (n ≤ IMAGE) × (length s ≤ IMAGE)
+pub counted-versions : (s : List ℕ) (n : ℕ) → verdict_of s ≡ Ok n → (versions_in s ≡ n) × (n ≤ IMAGE) × (length s ≤ IMAGE)
 counted-versions s n e =
     let w = passed s n e in
     let l = accepted-short Form.Wide s n e in
     (w.count, omega (arith, l, w.count, versions-few (records s) 0 (length s) (chained s w.q2) (fits-image s n w)), l)
 
 -- its records can be raised as far as functions go
-pub ready : (k : ℕ) (s : List ℕ) (n : ℕ) → Bytes s → verdict_of s ≡ Verdict.Accepted n → k + functions_in s ≤ FUNCTIONS → Ready k s
+pub ready : (k : ℕ) (s : List ℕ) (n : ℕ) → Bytes s → verdict_of s ≡ Ok n → k + functions_in s ≤ FUNCTIONS → Ready k s
 ready k s n b e h =
     let w = passed s n e in
     record {
@@ -69,11 +72,11 @@ ready k s n b e h =
 -- ---- 23
 
 -- what becomes of two accepted images
-abbrev pub Says : List ℕ → List ℕ → List ℕ → Joined → List ℕ → Type 0
-Says a b out r last = (r ≡ cond (in_bounds a b (length out)) (Written (length a + length b)) (Together 23 0)) × (last ≡ leaves r out (joined a b))
+abbrev pub Says : List ℕ → List ℕ → List ℕ → Result ℕ JoinError → List ℕ → Type 0
+Says a b out r last = (r ≡ cond (in_bounds a b (length out)) (Ok (length a + length b)) (Err (Together (refused 23 0)))) × (last ≡ leaves r out (joined a b))
 
 module _ (a b out : List ℕ) where
-  no_bound : in_bounds a b (length out) ≡ false → Says a b out (Together 23 0) out
+  no_bound : in_bounds a b (length out) ≡ false → Says a b out (Err (Together (refused 23 0))) out
   unfolding leaves
   no_bound e = (rw e refl, refl)
 
@@ -81,7 +84,7 @@ module _ (a b out : List ℕ) where
   unfolding in_bounds ◌and◌
   long-bound h = rw (lt-leb (length a + length b) IMAGE h) refl
 
-  pub says-long : IMAGE < length a + length b → Says a b out (Together 23 0) out
+  pub says-long : IMAGE < length a + length b → Says a b out (Err (Together (refused 23 0))) out
   says-long h = no_bound (long-bound h)
 
   module _ (l : length a + length b ≤ IMAGE) {k m : ℕ} (ek : k ≡ functions_in a) (em : m ≡ functions_in b) where
@@ -89,7 +92,7 @@ module _ (a b out : List ℕ) where
     unfolding in_bounds ◌and◌
     numbers-bound h = rw (le-leb (length a + length b) IMAGE l, lt-leb (functions_in a + functions_in b) FUNCTIONS (omega (arith, h, ek, em))) refl
 
-    pub says-numbers : FUNCTIONS < k + m → Says a b out (Together 23 0) out
+    pub says-numbers : FUNCTIONS < k + m → Says a b out (Err (Together (refused 23 0))) out
     says-numbers h = no_bound (numbers-bound h)
 
     module _ (f : k + m ≤ FUNCTIONS) {x y : ℕ} (ex : versions_in a ≡ x) (ey : versions_in b ≡ y) where
@@ -97,7 +100,7 @@ module _ (a b out : List ℕ) where
       unfolding in_bounds ◌and◌
       many-bound h = rw (le-leb (length a + length b) IMAGE l, le-leb (functions_in a + functions_in b) FUNCTIONS (omega (arith, f, ek, em)), lt-leb (versions_in a + versions_in b) ALL-VERSIONS (omega (arith, h, ex, ey))) refl
 
-      pub says-many : ALL-VERSIONS < x + y → Says a b out (Together 23 0) out
+      pub says-many : ALL-VERSIONS < x + y → Says a b out (Err (Together (refused 23 0))) out
       says-many h = no_bound (many-bound h)
 
       module _ (v : x + y ≤ ALL-VERSIONS) where
@@ -105,14 +108,14 @@ module _ (a b out : List ℕ) where
         unfolding in_bounds ◌and◌
         room_bound h = rw (le-leb (length a + length b) IMAGE l, le-leb (functions_in a + functions_in b) FUNCTIONS (omega (arith, f, ek, em)), le-leb (versions_in a + versions_in b) ALL-VERSIONS (omega (arith, v, ex, ey)), lt-leb (length a + length b) (length out) h) refl
 
-        pub says-short : length out < length a + length b → Says a b out (Together 23 0) out
+        pub says-short : length out < length a + length b → Says a b out (Err (Together (refused 23 0))) out
         says-short h = no_bound (room_bound h)
 
         all-bounds : length a + length b ≤ length out → in_bounds a b (length out) ≡ true
         unfolding in_bounds ◌and◌
         all-bounds h = rw (le-leb (length a + length b) IMAGE l, le-leb (functions_in a + functions_in b) FUNCTIONS (omega (arith, f, ek, em)), le-leb (versions_in a + versions_in b) ALL-VERSIONS (omega (arith, v, ex, ey)), le-leb (length a + length b) (length out) h) refl
 
-        pub says-written : {first last : List ℕ} → length a + length b ≤ length out → length (all_raised (functions_in a) (records b)) ≡ length b → first ≡ placed out 0 a → last ≡ placed first (length a) (all_raised k (records b)) → Says a b out (Written (length a + length b)) last
+        pub says-written : {first last : List ℕ} → length a + length b ≤ length out → length (all_raised (functions_in a) (records b)) ≡ length b → first ≡ placed out 0 a → last ≡ placed first (length a) (all_raised k (records b)) → Says a b out (Ok (length a + length b)) last
         unfolding leaves joined
         says-written {first} {last} h n p q = (
           rw (all-bounds h) refl,
@@ -122,16 +125,33 @@ module _ (a b out : List ℕ) where
 -- ---- behind the verdicts
 
 module _ (a b out : List ℕ) where
-  pub first-refused : (q p : ℕ) → verdict_of a ≡ Verdict.Refused q p → (First q p ≡ join_of a b (length out)) × (out ≡ joined_buffer a b out)
+  pub first-refused : (why : Refusal) → verdict_of a ≡ Err why → (Err (First why) ≡ join_of a b (length out)) × (out ≡ joined_buffer a b out)
   unfolding join_of join_after leaves
-  first-refused q p e = (rw e refl, rw e refl)
+  first-refused why e = (rw e refl, rw e refl)
 
-  pub second-refused : (n q p : ℕ) → verdict_of a ≡ Verdict.Accepted n → verdict_of b ≡ Verdict.Refused q p → (Second q p ≡ join_of a b (length out)) × (out ≡ joined_buffer a b out)
+  pub second-refused : (n : ℕ) (why : Refusal) → verdict_of a ≡ Ok n → verdict_of b ≡ Err why → (Err (Second why) ≡ join_of a b (length out)) × (out ≡ joined_buffer a b out)
   unfolding join_of join_after leaves
-  second-refused n q p e f = (rw (e, f) refl, rw (e, f) refl)
+  second-refused n why e f = (rw (e, f) refl, rw (e, f) refl)
 
-  pub both-accepted : {r : Joined} {last : List ℕ} (n m : ℕ) → verdict_of a ≡ Verdict.Accepted n → verdict_of b ≡ Verdict.Accepted m → Says a b out r last → (r ≡ join_of a b (length out)) × (last ≡ joined_buffer a b out)
+  pub both-accepted : {r : Result ℕ JoinError} {last : List ℕ} (n m : ℕ) → verdict_of a ≡ Ok n → verdict_of b ≡ Ok m → Says a b out r last → (r ≡ join_of a b (length out)) × (last ≡ joined_buffer a b out)
   unfolding join_of join_after
   both-accepted {r} n m e f s =
       let z : r ≡ join_of a b (length out) = s.0 ∙ sym (rw (e, f) refl) in
-      (z, s.1 ∙ ap (λ (j : Joined). leaves j out (joined a b)) z)
+      (z, s.1 ∙ ap (λ (j : Result ℕ JoinError). leaves j out (joined a b)) z)
+
+-- ---- a verdict under the name of its image
+
+module _ (v : Verdict) (r : Result ℕ JoinError) (named : Refusal → JoinError) (h : MatchResult v (λ n. r ≡ Ok n) (λ why. IsErrAnd r (λ e. e ≡ named why))) where
+  pub named-ok : (n : ℕ) → r ≡ Ok n → v ≡ Ok n
+  named-ok n e = go v h
+    where
+      go : (w : Verdict) → MatchResult w (λ m. r ≡ Ok m) (λ why. IsErrAnd r (λ d. d ≡ named why)) → w ≡ Ok n
+      go (Ok m) g = let z : m ≡ n = cc in rw z refl
+      go (Err why) g = let t = err_from_is_err_and r g in let y = t.1 in let z : ◌≡◌ {A = ℕ} 0 1 = cc in absurd (omega arith)
+
+  pub named-err : (e : JoinError) → r ≡ Err e → (why : Refusal) × (v ≡ Err why) × (e ≡ named why)
+  named-err d e = go v h
+    where
+      go : (w : Verdict) → MatchResult w (λ m. r ≡ Ok m) (λ why. IsErrAnd r (λ d. d ≡ named why)) → (why : Refusal) × (w ≡ Err why) × (d ≡ named why)
+      go (Ok m) g = let z : ◌≡◌ {A = ℕ} 0 1 = cc in absurd (omega arith)
+      go (Err why) g = let t = err_from_is_err_and r g in let y = t.1 in let z : d ≡ t.0 = cc in (why, refl, z ∙ t.2)

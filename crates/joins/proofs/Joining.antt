@@ -1,5 +1,5 @@
 -- 02, 13: the claims hold.
-use Rattle.std.specs.Prelude.{None, Some}
+use Rattle.std.specs.Prelude.{None, Some, Err, Ok}
 use mathlib.Core.Path.{◌≡◌, refl, sym, ap, ◌∙◌, subst}
 use mathlib.Core.List.{List, ◌++◌, map}
 use mathlib.Core.Option.{none}
@@ -28,13 +28,10 @@ use Rattle.program.proofs.Held.{holds}
 use Rattle.program.proofs.Laid as laid
 use Rattle.rules.specs.Questions.{question6, question8, question18, question9}
 use Rattle.rules.specs.Flows.{question10}
-use Rattle.checker.specs.Verdicts.{verdict_of}
-use Rattle.checker.specs.declared.Verdict.{Verdict}
-use Rattle.checker.specs.declared.Verdict.TheVariants.{Accepted, Refused}
+use Rattle.checker.specs.Verdicts.{verdict_of, Verdict, refused as refused_by}
 use Rattle.checker.proofs.Accepted.{Passed, passed, accept}
 use Rattle.machine.specs.Begin.{begin_of, begin_after, entered_of, question11, refused, run_after, run_after_to, run_of, run_of_to, program_of}
 use Rattle.machine.specs.declared.Entry.{Entry}
-use Rattle.joins.specs.declared.Joined.TheVariants.{Written, Together}
 use Rattle.joins.specs.Shifted.{shift_version, shift_program}
 use Rattle.joins.specs.Joins.{functions_in, versions_in, joined, in_bounds, join_after, join_of, raise_rec}
 use Rattle.joins.specs.Alongside.{Carries, Closed, SimRan, SimBegun}
@@ -45,6 +42,7 @@ use Rattle.joins.proofs.Ordered.{next_of, Counted, counted, question2-joined, qu
 use Rattle.joins.proofs.Questions.{asks6, asks7, asks8, asks18, asks9, asks10}
 use Rattle.joins.proofs.Together.{Below, below-records, names_in, carries-first, carries-second, first-joined, find-high}
 use Rattle.joins.proofs.Runs.{budget-sim, buffer-sim, events-sim, begun-sim}
+use Rattle.joins.specs.declared.JoinError.TheVariants.{Together}
 
 -- ---- what an accepted image gives
 
@@ -65,7 +63,7 @@ module _ (s : List ℕ) (n : ℕ) (w : Passed Form.Wide s n) where
 
 -- ---- runs of a program that stands in another
 
-module _ (k o n : ℕ) (s t : List ℕ) (x y : ℕ) (va : verdict_of s ≡ Accepted x) (vt : verdict_of t ≡ Accepted y) (C : Carries k o n (program_of s) (program_of t)) (D : Closed n (program_of s)) where
+module _ (k o n : ℕ) (s t : List ℕ) (x y : ℕ) (va : verdict_of s ≡ Ok x) (vt : verdict_of t ≡ Ok y) (C : Carries k o n (program_of s) (program_of t)) (D : Closed n (program_of s)) where
   begin-same : (level f v : ℕ) (words buffer : List ℤ) → f < n → SimBegun k n (begin_of s level f v words buffer) (begin_of t level (k + f) v words buffer)
   unfolding begin_of begin_after
   begin-same level f v words buffer h = rw (va, vt) (begun-sim k o n (program_of s) (program_of t) C D level f v words buffer h)
@@ -90,7 +88,7 @@ module _ (k o n : ℕ) (s t : List ℕ) (x y : ℕ) (va : verdict_of s ≡ Accep
 
 -- ---- the joined image
 
-module _ (a b : List ℕ) (n m room : ℕ) (va : verdict_of a ≡ Accepted n) (vb : verdict_of b ≡ Accepted m) (h : in_bounds a b room ≡ true) where
+module _ (a b : List ℕ) (n m room : ℕ) (va : verdict_of a ≡ Ok n) (vb : verdict_of b ≡ Ok m) (h : in_bounds a b room ≡ true) where
   wa : Passed Form.Wide a n
   wa = passed a n va
 
@@ -189,7 +187,7 @@ module _ (a b : List ℕ) (n m room : ℕ) (va : verdict_of a ≡ Accepted n) (v
         count = ap (λ (R : Program). length R) joined-program ∙ length-append P (shift_program k o Q) ∙ ap (λ (i : ℕ). length P + i) (length-map Q (shift_version k o));
       }
 
-  accepted-joined : verdict_of (joined a b) ≡ Accepted (versions_in a + versions_in b)
+  accepted-joined : verdict_of (joined a b) ≡ Ok (versions_in a + versions_in b)
   accepted-joined = accept passed-joined
 
   -- no version stands behind those of both
@@ -212,23 +210,23 @@ module _ (a b : List ℕ) (n m room : ℕ) (va : verdict_of a ≡ Accepted n) (v
 pub record Taken (a b : List ℕ) (room n : ℕ) : Type 0 where
   pub first_count : ℕ
   pub second-count : ℕ
-  pub first : verdict_of a ≡ Accepted first_count
-  pub second : verdict_of b ≡ Accepted second-count
+  pub first : verdict_of a ≡ Ok first_count
+  pub second : verdict_of b ≡ Ok second-count
   pub inside : in_bounds a b room ≡ true
   pub size : length a + length b ≡ n
 
-pub taken : (a b : List ℕ) (room n : ℕ) → join_of a b room ≡ Written n → Taken a b room n
+pub taken : (a b : List ℕ) (room n : ℕ) → join_of a b room ≡ Ok n → Taken a b room n
 unfolding join_of join_after
 taken a b room n e = go (verdict_of a) (verdict_of b) refl refl e
   where
-    in_bounds_lem : (i j : ℕ) → verdict_of a ≡ Accepted i → verdict_of b ≡ Accepted j → (t : Bool) → in_bounds a b room ≡ t → cond t (Written (length a + length b)) (Together 23 0) ≡ Written n → Taken a b room n
+    in_bounds_lem : (i j : ℕ) → verdict_of a ≡ Ok i → verdict_of b ≡ Ok j → (t : Bool) → in_bounds a b room ≡ t → cond t (Ok (length a + length b)) (Err (Together (refused_by 23 0))) ≡ Ok n → Taken a b room n
     in_bounds_lem i j p q true t g = record { first_count = i; second-count = j; first = p; second = q; inside = t; size = cc }
     in_bounds_lem i j p q false t g = let z : ◌≡◌ {A = ℕ} 0 1 = cc in absurd (omega arith)
 
-    go : (x y : Verdict) → verdict_of a ≡ x → verdict_of b ≡ y → join_after x y a b room ≡ Written n → Taken a b room n
-    go (Refused i j) y p q g = let z : ◌≡◌ {A = ℕ} 0 1 = cc in absurd (omega arith)
-    go (Accepted i) (Refused j l) p q g = let z : ◌≡◌ {A = ℕ} 0 1 = cc in absurd (omega arith)
-    go (Accepted i) (Accepted j) p q g = in_bounds_lem i j p q (in_bounds a b room) refl g
+    go : (x y : Verdict) → verdict_of a ≡ x → verdict_of b ≡ y → join_after x y a b room ≡ Ok n → Taken a b room n
+    go (Err why) y p q g = let z : ◌≡◌ {A = ℕ} 0 1 = cc in absurd (omega arith)
+    go (Ok i) (Err why) p q g = let z : ◌≡◌ {A = ℕ} 0 1 = cc in absurd (omega arith)
+    go (Ok i) (Ok j) p q g = in_bounds_lem i j p q (in_bounds a b room) refl g
 
 -- THE LAW of 02, 13
 pub joins-well : JoinsWell

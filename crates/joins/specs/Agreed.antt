@@ -1,10 +1,9 @@
 -- 02, 13: bounds of 12) agree as well: what is promised of a join that was written. The statements alone.
-use Rattle.std.specs.Prelude.{◌≡◌, List, ◌++◌, map, ℕ, ◌+◌, ◌≤◌, ◌<◌}
+use Rattle.std.specs.Prelude.{◌≡◌, List, ◌++◌, map, ℕ, ◌+◌, ◌≤◌, ◌<◌, Ok}
 use Rattle.std.proofs.Math.Option.{Option, none, some}
 use Rattle.program.specs.Program.{Version, Program, find_version}
 use Rattle.machine.specs.Begin.{program_of}
 use Rattle.bounds.specs.Bounds.{Bound, bound_of, by_number, bounded, unlisted, Entry, entry_of, none_of, report}
-use Rattle.joins.specs.declared.Joined.TheVariants.{Written}
 use Rattle.joins.specs.Joins.{functions_in, joined, join_of}
 
 -- the bound of what is found, if it is
@@ -39,4 +38,4 @@ pub record SameBounds (a b : List ℕ) : Type 0 where
 
 -- of any two images and any lent buffer
 unfoldable pub BoundsAgree : Type 0
-BoundsAgree = (a b : List ℕ) (room n : ℕ) → join_of a b room ≡ Written n → SameBounds a b
+BoundsAgree = (a b : List ℕ) (room n : ℕ) → join_of a b room ≡ Ok n → SameBounds a b

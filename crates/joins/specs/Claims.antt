@@ -1,12 +1,10 @@
 -- 02, 13: what is promised of a join that was written: the statements alone.
-use Rattle.std.specs.Prelude.{◌≡◌, List, [], ◌∷◌, ℕ, ◌+◌, ◌≤◌, ◌<◌, ℤ, length}
+use Rattle.std.specs.Prelude.{◌≡◌, List, [], ◌∷◌, ℕ, ◌+◌, ◌≤◌, ◌<◌, ℤ, length, Ok}
 use Rattle.checker.specs.Verdicts.{verdict_of}
-use Rattle.checker.specs.declared.Verdict.TheVariants.{Accepted}
 use Rattle.machine.specs.Runs.{buffer_of}
 use Rattle.machine.specs.Events.{Run, Event, single, budget, change, after, replies}
 use Rattle.machine.specs.Begin.{begin_of, run_of}
 use Rattle.machine.specs.declared.Entry.{Entry}
-use Rattle.joins.specs.declared.Joined.TheVariants.{Written}
 use Rattle.joins.specs.Joins.{functions_in, versions_in, joined, join_of}
 use Rattle.joins.specs.Alongside.{Sim}
 
@@ -38,7 +36,7 @@ pub record SameRuns (k n : ℕ) (s : List ℕ) (f : ℕ) (t : List ℕ) (g : ℕ
 pub record Joins (a b : List ℕ) (n : ℕ) : Type 0 where
   pub size : length (joined a b) ≡ n
   -- the joined image is accepted, with the versions of both
-  pub accepted : verdict_of (joined a b) ≡ Accepted (versions_in a + versions_in b)
+  pub accepted : verdict_of (joined a b) ≡ Ok (versions_in a + versions_in b)
   -- each entry, under its new number, has the same results and steps as alone
   pub first : (f : ℕ) → f < functions_in a → SameRuns 0 (functions_in a) a f (joined a b) f
   pub second : (f : ℕ) → f < functions_in b → SameRuns (functions_in a) (functions_in b) b f (joined a b) (functions_in a + f)
@@ -47,4 +45,4 @@ pub record Joins (a b : List ℕ) (n : ℕ) : Type 0 where
 
 -- of any two images and any lent buffer
 unfoldable pub JoinsWell : Type 0
-JoinsWell = (a b : List ℕ) (room n : ℕ) → join_of a b room ≡ Written n → Joins a b n
+JoinsWell = (a b : List ℕ) (room n : ℕ) → join_of a b room ≡ Ok n → Joins a b n

@@ -1,5 +1,5 @@
 -- 02, 13: two images into one.
-use Rattle.std.specs.Prelude.{List, [], ◌∷◌, ◌++◌, map, Bool, cond, ℕ, ◌+◌, length, set, leb}
+use Rattle.std.specs.Prelude.{List, [], ◌∷◌, ◌++◌, map, Bool, cond, ℕ, ◌+◌, length, set, leb, Err, Ok, Result}
 use Rattle.layout.specs.Bounds.{IMAGE, FUNCTIONS, ALL-VERSIONS}
 use Rattle.layout.specs.Kinds as kind
 use Rattle.layout.specs.Tests.{◌and◌}
@@ -7,11 +7,10 @@ use Rattle.layout.specs.Records.{Rec, ◌!◌, records, choose}
 use Rattle.layout.specs.Forms.{printed}
 use Rattle.program.specs.Program.{Program}
 use Rattle.writer.specs.Text.{placed}
-use Rattle.checker.specs.Verdicts.{verdict_of}
-use Rattle.checker.specs.declared.Verdict.{Verdict}
+use Rattle.checker.specs.Verdicts.{verdict_of, Verdict, refused}
 use Rattle.machine.specs.Begin.{program_of}
-use Rattle.joins.specs.declared.Joined.{Joined}
-use Rattle.joins.specs.declared.Joined.TheVariants.{Written, First, Second, Together}
+use Rattle.joins.specs.declared.JoinError.{JoinError}
+use Rattle.joins.specs.declared.JoinError.TheVariants.{First, Together, Second}
 
 -- ---- the second's records renumbered
 
@@ -58,21 +57,21 @@ in_bounds a b room =
     and leb (length a + length b) room
 
 -- 23, at 0, behind the questions to both
-unfoldable pub join_after : Verdict → Verdict → List ℕ → List ℕ → ℕ → Joined
-join_after (Verdict.Refused q p) x a b room = First q p
-join_after (Verdict.Accepted n) (Verdict.Refused q p) a b room = Second q p
-join_after (Verdict.Accepted n) (Verdict.Accepted m) a b room = cond (in_bounds a b room) (Written (length a + length b)) (Together 23 0)
+unfoldable pub join_after : Verdict → Verdict → List ℕ → List ℕ → ℕ → Result ℕ JoinError
+join_after (Err why) x a b room = Err (First why)
+join_after (Ok n) (Err why) a b room = Err (Second why)
+join_after (Ok n) (Ok m) a b room = cond (in_bounds a b room) (Ok (length a + length b)) (Err (Together (refused 23 0)))
 
 -- 02, 13: what becomes of a join, each image put to its questions first, the first image before the second
-unfoldable pub join_of : List ℕ → List ℕ → ℕ → Joined
+unfoldable pub join_of : List ℕ → List ℕ → ℕ → Result ℕ JoinError
 join_of a b room = join_after (verdict_of a) (verdict_of b) a b room
 
 -- the buffer after it: the bytes t from place 0 on, all else as it was; a refusal leaves it as it was
-unfoldable pub leaves : Joined → List ℕ → List ℕ → List ℕ
-leaves (Written n) out t = placed out 0 t
-leaves (First q p) out t = out
-leaves (Second q p) out t = out
-leaves (Together q p) out t = out
+unfoldable pub leaves : Result ℕ JoinError → List ℕ → List ℕ → List ℕ
+leaves (Ok n) out t = placed out 0 t
+leaves (Err (First why)) out t = out
+leaves (Err (Second why)) out t = out
+leaves (Err (Together why)) out t = out
 
 -- the buffer after the join of two images
 abbrev pub joined_buffer : List ℕ → List ℕ → List ℕ → List ℕ

@@ -5,21 +5,20 @@ ghost use Rattle.std.specs.Prelude.{◌≡◌, cond, map, ◌+◌, ◌≤◌, le
 ghost use Rattle.layout.specs.Forms.{printed};
 ghost use Rattle.layout.specs.Records.{size_at, records};
 ghost use Rattle.writer.specs.Text.{placed};
-ghost use Rattle.checker.specs.Verdicts.{verdict_of};
+ghost use Rattle.checker.specs.Verdicts.{refused, verdict_of};
+ghost use Rattle.joins.specs.declared.JoinError.TheVariants.{Together};
 ghost use Rattle.joins.specs.Joins.{joined_buffer, functions_in, in_bounds, joined, join_of, leaves, raise_rec};
 ghost use Rattle.joins.specs.Parts.{Ready, Stands, function_place, raised_at};
 
-use checker::{Verdict, questions};
+use checker::{Refusal, questions};
 use layout::kinds;
 
-/// What becomes of a join: the length of the joined image, which the buffer has from place 0 on; a refusal of the first image or of
-/// the second, with the question's number and the offset; or one of both together.
-#[derive(Clone, Copy)]
-pub enum Joined {
-    Written(usize),
-    First(u8, usize),
-    Second(u8, usize),
-    Together(u8, usize),
+/// Why nothing is joined: a refusal of the first image or of the second, or one of both together.
+#[derive(Clone, Copy, Debug, PartialEq, Eq)]
+pub enum JoinError {
+    First(Refusal),
+    Second(Refusal),
+    Together(Refusal),
 }
 
 /// How many functions an image has: one more than its last version's number.
@@ -87,41 +86,47 @@ fn put_records(image: &[u8], k: u8, out: &mut [u8], from: usize)
 }
 
 /// Joins two images that passed their questions, with so many versions.
-fn join_accepted(first: &[u8], second: &[u8], out: &mut [u8], n: usize, m: usize) -> Joined
-    requires first_value { verdict_of first.now ≡ Verdict.Accepted n }
-    requires second_value { verdict_of second.now ≡ Verdict.Accepted m }
-    ensures { (result ≡ cond (in_bounds first.now second.now (length out.old)) (Joined.Written (length first.now + length second.now))
-        (Joined.Together 23 0)) × (out.new ≡ leaves result out.old (joined first.now second.now)) }
+fn join_accepted(
+    first: &[u8],
+    second: &[u8],
+    out: &mut [u8],
+    n: usize,
+    m: usize,
+) -> Result<usize, JoinError>
+    requires first_value { verdict_of first.now ≡ Ok n }
+    requires second_value { verdict_of second.now ≡ Ok m }
+    ensures { (result ≡ cond (in_bounds first.now second.now (length out.old)) (Ok (length first.now + length second.now))
+        (Err (Together (refused 23 0)))) × (out.new ≡ leaves result out.old (joined first.now second.now)) }
 {
     let size = first.len() + second.len();
+    let no = Err(JoinError::Together(Refusal {
+        question: 23,
+        at: 0,
+    }));
     if layout::bounds::IMAGE < size {
-        return Joined::Together(23, 0);
+        return no;
     }
     let k = functions(first);
     if layout::bounds::FUNCTIONS < k + functions(second) {
-        return Joined::Together(23, 0);
+        return no;
     }
     if layout::bounds::ALL_VERSIONS < n + m {
-        return Joined::Together(23, 0);
+        return no;
     }
     if out.len() < size {
-        return Joined::Together(23, 0);
+        return no;
     }
     writer::put_bytes(out, 0, first);
     put_records(second, k as u8, out, first.len());
-    Joined::Written(size)
+    Ok(size)
 }
 
-/// Joins two images, the first before the second, whose functions follow the first's, into the buffer from place 0 on. A refusal leaves the buffer as it was.
-pub fn join(first: &[u8], second: &[u8], out: &mut [u8]) -> Joined
+/// Joins two images, the first before the second, whose functions follow the first's, into the buffer from place 0 on, and gives its length there. A refusal leaves the buffer as it was.
+pub fn join(first: &[u8], second: &[u8], out: &mut [u8]) -> Result<usize, JoinError>
     ensures { (result ≡ join_of first.now second.now (length out.old))
         × (out.new ≡ joined_buffer first.now second.now out.old) }
 {
-    match questions::verdict(first) {
-        Verdict::Refused(q, p) => Joined::First(q, p),
-        Verdict::Accepted(n) => match questions::verdict(second) {
-            Verdict::Refused(q, p) => Joined::Second(q, p),
-            Verdict::Accepted(m) => join_accepted(first, second, out, n, m),
-        },
-    }
+    let n = questions::verdict(first).map_err(JoinError::First)?;
+    let m = questions::verdict(second).map_err(JoinError::Second)?;
+    join_accepted(first, second, out, n, m)
 }

@@ -1,4 +1,6 @@
 -- VEC: its operands one after the other, and the vector that they make.
+use Rattle.std.specs.Prelude.{None, Some, Option as Optional}
+use Rattle.std.specs.Option.{is_some}
 use mathlib.Core.Path.{◌≡◌, refl, sym, ap, ◌∙◌}
 use mathlib.Core.List.{List, [], ◌∷◌, ◌++◌, append_assoc}
 use mathlib.Core.Bool.{Bool, true, false, cond}
@@ -20,6 +22,7 @@ use Rattle.machine.specs.States.{an_integer, assign, integer, live_frames, new_v
 use Rattle.machine.specs.declared.End.{End}
 use Rattle.machine.specs.declared.State.{State}
 use Rattle.machine.specs.declared.Value.{Value}
+use Rattle.store.specs.Answers.{whole_of}
 use Rattle.store.specs.Lists.{up_to}
 use Rattle.store.proofs.Lists.{up_to-same}
 use Rattle.store.specs.Store.{◌#◌, PLACES, ITEM, LENGTHS, cell_in, frame_in, state_in, value_of, vector_in, Live}
@@ -115,6 +118,17 @@ module _ (b : List ℕ) (n : List ℤ) (k : ℕ) (rs : List ℕ) where
       pub gather-stuck : integer (frame_in b n k) (rs ! i) ≡ stuck → Gathers false b n k rs
       unfolding Gathers each ◌>>=◌
       gather-stuck e = G.some ∙ rw (cons, e) refl
+
+      -- by the answer of the read
+      pub gather-next : (r : Optional ℤ) → whole_of r ≡ integer (frame_in b n k) (rs ! i) → is_some r ≡ true → Gathered b n k rs (i + 1)
+      unfolding whole_of
+      gather-next (Some z) e h = gather-on (sym e)
+      gather-next None e h = let z : ◌≡◌ {A = ℕ} 0 1 = cc in absurd (omega arith)
+
+      pub gather-ends : (r : Optional ℤ) → whole_of r ≡ integer (frame_in b n k) (rs ! i) → is_some r ≡ false → Gathers false b n k rs
+      unfolding whole_of
+      gather-ends (Some z) e h = let z : ◌≡◌ {A = ℕ} 0 1 = cc in absurd (omega arith)
+      gather-ends None e h = gather-stuck (sym e)
 
     pub gather-done : length rs ≤ i → Gathers true b n k rs
     unfolding Gathers each ◌>>=◌

@@ -20,11 +20,9 @@ fn all_integers(bytes: &[u8; 2632], numbers: &[i64; 2129], k: usize, rs: &[u8]) 
     requires { k < 32 }
     ensures { Gathers result bytes.now numbers.now k rs.now }
 {
-    let mut i: usize = 0;
-    while i < rs.len() {
-        match cells::integer(bytes, numbers, k, rs[i]) {
-            Some(_) => i += 1,
-            None => return false,
+    for r in rs {
+        if cells::integer(bytes, numbers, k, *r).is_none() {
+            return false;
         }
     }
     true
@@ -53,10 +51,8 @@ fn fill(
     requires { (k < 32) × (v < 64) × Small rs.now × (length rs.now < 256) × Ready bytes.old numbers.old counts.now }
     ensures { Leaves bytes.new numbers.new counts.now (vector_made bytes.old numbers.old k v rs.now) }
 {
-    let mut j: usize = 0;
-    while j < 16 {
+    for j in 0..16 {
         numbers[1024 + 16 * v + j] = pick(numbers, k, rs, j);
-        j += 1;
     }
     bytes[2560 + v] = rs.len() as u8;
 }
@@ -111,14 +107,12 @@ fn pass(
     requires { Ready bytes.old numbers.old counts.old × (k < to) × Live bytes.old to × Small rs.now }
     ensures { Leaves bytes.new numbers.new counts.new (passed_on bytes.old numbers.old k to rs.now) }
 {
-    let mut i: usize = 0;
-    while i < 16 {
+    for i in 0..16 {
         if rs.len() <= i {
             return;
         }
         let e = layout::wide(rs[i]);
         cells::assign_cell(bytes, numbers, counts, to, i as u8, k, e);
-        i += 1;
     }
 }
 

@@ -1,5 +1,5 @@
 -- The table of an image that questions 3, 4 and 5 passed: record by record, what stands ahead is what the table says.
-use Rattle.std.specs.Prelude.{None}
+use Rattle.std.specs.Prelude.{None, Ok}
 use mathlib.Core.Path.{◌≡◌, refl, sym, ap, ◌∙◌, subst}
 use Rattle.layout.specs.Found.{Found}
 use mathlib.Core.Logic.{◌⊎◌, inl, inr}
@@ -27,7 +27,6 @@ use Rattle.program.specs.Places.{view_at, past}
 use Rattle.program.proofs.Laid.{passed}
 use Rattle.program.proofs.Views.{view-at, view-end}
 use Rattle.checker.specs.Verdicts.{verdict_of}
-use Rattle.checker.specs.declared.Verdict.TheVariants.{Accepted}
 use Rattle.checker.proofs.Accepted as Accept
 use Rattle.machine.specs.Begin.{program_of}
 use Rattle.loaded.specs.Loaded.{BLOCK-ENTRIES, RECORDS, entry_in, line_in, lines_in, block_in, blocks_in, record_at, version_in, numbered_in, program_in}
@@ -522,7 +521,7 @@ shown-from (suc n) s p h low d c t last R P A = go (ltb p (length s)) refl (λ z
         one_more s p i low d c t last R P A (on (omega arith))
 
 -- THE LAW of loading: behind an accepted image's records, the table stands for its program
-pub filled-stands : (s t : List ℕ) (n : ℕ) → verdict_of s ≡ Accepted n → ((j : ℕ) → j < 256 → t ! j ≡ 0) → bytes_for (length s) ≤ length t
+pub filled-stands : (s t : List ℕ) (n : ℕ) → verdict_of s ≡ Ok n → ((j : ℕ) → j < 256 → t ! j ≡ 0) → bytes_for (length s) ≤ length t
     → (f w : ℕ) → find_version (program_in s (filled s (records s) beginning t)) f w ≡ find_version (program_of s) f w
 unfolding question3 question4 question5 Passed
 filled-stands s t n e z l f w = go (ltb f 32) (ltb w 4) refl refl

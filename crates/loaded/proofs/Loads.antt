@@ -1,5 +1,5 @@
 -- What `load` answers, by the verdict and the table's length.
-use Rattle.std.specs.Prelude.{None}
+use Rattle.std.specs.Prelude.{None, Err, Ok}
 use mathlib.Core.Path.{◌≡◌, refl, ap, ◌∙◌}
 use mathlib.Core.List.{List}
 use Prim.Native.Nat.{ℕ, ◌≤◌, ◌<◌, min}
@@ -13,35 +13,35 @@ use Rattle.layout.proofs.Bools.{and_both}
 use Rattle.program.proofs.Laid.{passed}
 use Rattle.program.specs.Program.{find_version}
 use Rattle.checker.specs.Verdicts.{verdict_of}
-use Rattle.checker.specs.declared.Verdict.{Verdict}
+use Rattle.checker.specs.declared.Refusal.{Refusal}
 use Rattle.checker.proofs.Accepted as Accept
 use Rattle.loaded.specs.Loaded.{program_in}
 use Rattle.loaded.specs.Filling.{beginning, filled}
 use Rattle.loaded.specs.Loading.{answered, bytes_for, load_of, Stands}
-use Rattle.loaded.specs.declared.Loaded.{Loaded}
 use Rattle.loaded.proofs.Filled.{filled-stands}
 use Rattle.loaded.proofs.Finding.{no-versions}
+use Rattle.loaded.specs.declared.LoadError.TheVariants.{Short, Refused}
 
 -- an accepted image is not too long
-pub not-long : (s : List ℕ) (n : ℕ) → verdict_of s ≡ Verdict.Accepted n → length s ≤ 32768
+pub not-long : (s : List ℕ) (n : ℕ) → verdict_of s ≡ Ok n → length s ≤ 32768
 unfolding question1
 not-long s n e = leb-true _ _ (and_both _ _ (passed _ None 0 (Accept.passed s n e).q1).0).1
 
 -- t₀ with all versions taken off is t
 module _ (s t₀ t : List ℕ) (long : length t ≡ length t₀) (free : (j : ℕ) → j < 256 → t ! j ≡ 0) where
-  pub load-refused : (q p : ℕ) → verdict_of s ≡ Verdict.Refused q p → (Loaded.Refused q p ≡ load_of s (length t₀)) × Stands s t (Loaded.Refused q p) × (length t ≡ length t₀)
+  pub load-refused : (why : Refusal) → verdict_of s ≡ Err why → (Err (Refused why) ≡ load_of s (length t₀)) × Stands s t (Err (Refused why)) × (length t ≡ length t₀)
   unfolding answered Stands
-  load-refused q p e = (rw e refl, no-versions s t free, long)
+  load-refused why e = (rw e refl, no-versions s t free, long)
 
-  module _ (n : ℕ) (e : verdict_of s ≡ Verdict.Accepted n) (m : ℕ) (needed : m ≡ bytes_for (min (length s) IMAGE)) where
+  module _ (n : ℕ) (e : verdict_of s ≡ Ok n) (m : ℕ) (needed : m ≡ bytes_for (min (length s) IMAGE)) where
     enough : m ≡ bytes_for (length s)
     enough = let l = not-long s n e in let x : min (length s) IMAGE ≡ length s = omega arith in rw x at needed
 
-    pub load-short : length t < m → (Loaded.Short m ≡ load_of s (length t₀)) × Stands s t (Loaded.Short m) × (length t ≡ length t₀)
+    pub load-short : length t < m → (Err (Short m) ≡ load_of s (length t₀)) × Stands s t (Err (Short m)) × (length t ≡ length t₀)
     unfolding answered Stands
     load-short l = let g = enough in (rw (g, e, lt-ltb (length t₀) (bytes_for (length s)) (omega arith)) refl, no-versions s t free, long)
 
-    pub load-ready : (T : List ℕ) → m ≤ length t → T ≡ filled s (records s) beginning t → length T ≡ length t₀ → (Loaded.Ready n ≡ load_of s (length t₀)) × Stands s T (Loaded.Ready n) ×
+    pub load-ready : (T : List ℕ) → m ≤ length t → T ≡ filled s (records s) beginning t → length T ≡ length t₀ → (Ok n ≡ load_of s (length t₀)) × Stands s T (Ok n) ×
         (length T ≡ length t₀)
     unfolding answered Stands
     load-ready T l x y =

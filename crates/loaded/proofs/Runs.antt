@@ -1,4 +1,5 @@
 -- A loaded image runs as its program: begins, steps, budgets, steps back, searches, positions and records of the topmost call are the same, for every state, in a pool too.
+use Rattle.std.specs.Prelude.{Err, Ok}
 use mathlib.Core.Path.{◌≡◌, refl, sym, ap, ap₂, ◌∙◌}
 use mathlib.Core.List.{List, [], ◌∷◌}
 use mathlib.Core.Bool.{Bool, true, false}
@@ -12,8 +13,7 @@ use Rattle.layout.specs.Bounds.{REGISTERS, VERSIONS}
 use Rattle.layout.specs.Tests.{◌and◌, found}
 use Rattle.program.specs.Program.{Argument, Instr, LIT, MOVE, USE, DUP, VEC, LEN, GET, SET, ARITH, SELECT, CAST, NAMED, STORE, PROM, FORCE, PEEK, POKE, CALL, DISPATCH, SKIP, Program}
 use Rattle.program.specs.Program.{Version, find_version}
-use Rattle.checker.specs.Verdicts.{verdict_of}
-use Rattle.checker.specs.declared.Verdict.{Verdict}
+use Rattle.checker.specs.Verdicts.{verdict_of, Verdict}
 use Rattle.machine.specs.Allowed.{vectors_in, needs_vector, execute_with, proceed_with, advance_with, step_in_with, step_with, run_with, budget_in_with, budget_with}
 use Rattle.machine.specs.Begin.{begin_after, begin_of, entered_of, program_of, run_after_to, run_of_to}
 use Rattle.machine.specs.Calls.{dispatches, finish, looked, passed, present, searched, versions_of}
@@ -52,7 +52,6 @@ use Rattle.runs.proofs.Alike.{advance-alike, alike_self, bind-same, entered-alik
 use Rattle.loaded.specs.Loaded.{program_in}
 use Rattle.loaded.specs.Loading.{Stands, answered, load_of}
 use Rattle.loaded.specs.Running.{run_in_to}
-use Rattle.loaded.specs.declared.Loaded.{Loaded}
 
 -- two programs with the same versions under the same numbers, offsets too
 module _ (P Q : Program) (h : (f w : ℕ) → find_version P f w ≡ find_version Q f w) where
@@ -290,16 +289,16 @@ module _ (P Q : Program) (h : (f w : ℕ) → find_version P f w ≡ find_versio
 -- ---- behind a load that was ready
 
 -- a run is begun without the questions to the image: they were asked
-pub loaded-begin : (s t : List ℕ) (m n : ℕ) → load_of s m ≡ Loaded.Ready n → Stands s t (Loaded.Ready n) → (level f w : ℕ) (words buffer : List ℤ) → entered_of
+pub loaded-begin : (s t : List ℕ) (m n : ℕ) → load_of s m ≡ Ok n → Stands s t (Ok n) → (level f w : ℕ) (words buffer : List ℤ) → entered_of
     (program_in s t) level f w words buffer ≡ begin_of s level f w words buffer
 unfolding Stands answered begin_of begin_after
 loaded-begin s t m n e h level f w words buffer = entered-same (program_in s t) (program_of s) h level f w words buffer ∙ go (verdict_of s) e
   where
-    go : (v : Verdict) → answered v (length s) m ≡ Loaded.Ready n → entered_of (program_of s) level f w words buffer ≡ begin_after v (program_of s) level f w words buffer
-    go (Verdict.Accepted k) g = refl
-    go (Verdict.Refused q p) g = let z : ◌≡◌ {A = ℕ} 0 1 = cc in absurd (omega arith)
+    go : (v : Verdict) → answered v (length s) m ≡ Ok n → entered_of (program_of s) level f w words buffer ≡ begin_after v (program_of s) level f w words buffer
+    go (Ok k) g = refl
+    go (Err why) g = let z : ◌≡◌ {A = ℕ} 0 1 = cc in absurd (omega arith)
 
-module _ (s t : List ℕ) (n : ℕ) (h : Stands s t (Loaded.Ready n)) where
+module _ (s t : List ℕ) (n : ℕ) (h : Stands s t (Ok n)) where
   pub loaded-step : (R : ℕ) (x : State) → step_of_to R (program_in s t) x ≡ step_of_to R (program_of s) x
   unfolding Stands
   loaded-step R x = step_same (program_in s t) (program_of s) h R x
@@ -351,13 +350,13 @@ module _ (s t : List ℕ) (n : ℕ) (h : Stands s t (Loaded.Ready n)) where
   loaded-pool-budget p i x k buffer = pool-budget-same (program_in s t) (program_of s) h p i x k buffer
 
 -- a start in a pool
-pub loaded-pool-begin : (s t : List ℕ) (m n : ℕ) → load_of s m ≡ Loaded.Ready n → Stands s t (Loaded.Ready n) → (level f w : ℕ) (words buffer : List ℤ) (p : Pool) (i : ℕ)
+pub loaded-pool-begin : (s t : List ℕ) (m n : ℕ) → load_of s m ≡ Ok n → Stands s t (Ok n) → (level f w : ℕ) (words buffer : List ℤ) (p : Pool) (i : ℕ)
     → pool_begun_by p i (entered_of (program_in s t) level f w words buffer) ≡ pool_begin s level f w words buffer p i
 unfolding pool_begin
 loaded-pool-begin s t m n e h level f w words buffer p i = ap (pool_begun_by p i) (loaded-begin s t m n e h level f w words buffer)
 
 -- with its first budget
-pub loaded-pool-run : (s t : List ℕ) (m n : ℕ) → load_of s m ≡ Loaded.Ready n → Stands s t (Loaded.Ready n) → (level f w : ℕ) (words buffer : List ℤ) (p : Pool) (i k : ℕ)
+pub loaded-pool-run : (s t : List ℕ) (m n : ℕ) → load_of s m ≡ Ok n → Stands s t (Ok n) → (level f w : ℕ) (words buffer : List ℤ) (p : Pool) (i k : ℕ)
     → pool_run_by (program_in s t) p i (entered_of (program_in s t) level f w words buffer) k buffer ≡ pool_run_by (program_of s) p i (begin_of s level f w words buffer) k buffer
 unfolding pool_run_as
 loaded-pool-run s t m n e h level f w words buffer p i k = let b = begin_of s level f w words buffer in ap (λ (x : Begun). pool_run_by (program_in s t) p i x k buffer)
@@ -368,7 +367,7 @@ loaded-pool-run s t m n e h level f w words buffer p i k = let b = begin_of s le
     go x Entry.Begun = loaded-pool-budget s t n h x.pool i x.begun.state k buffer
 
 -- a run from the start
-pub loaded-run : (s t : List ℕ) (m n : ℕ) → load_of s m ≡ Loaded.Ready n → Stands s t (Loaded.Ready n) → (R level f w : ℕ) (words : List ℤ) (k : ℕ) (buffer : List ℤ)
+pub loaded-run : (s t : List ℕ) (m n : ℕ) → load_of s m ≡ Ok n → Stands s t (Ok n) → (R level f w : ℕ) (words : List ℤ) (k : ℕ) (buffer : List ℤ)
     → run_in_to R s t level f w words k buffer ≡ run_of_to R s level f w words k buffer
 unfolding run_in_to run_of_to run_after_to
 loaded-run s t m n e h R level f w words k buffer =

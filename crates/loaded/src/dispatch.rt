@@ -28,14 +28,12 @@ fn same_ownerships(image: &[u8], table: &[u8], p: u16, k: u8) -> bool
     if n != lesser(lookup::parameters(image, table, k), most) {
         return false;
     }
-    let mut i: u8 = 0;
-    while i < n {
+    for i in 0..n {
         let asked = crate::byte(image, e + 7 + 2 * (i as usize));
         let has = lookup::type_of(image, table, k, i);
         if asked / 16 != has / 16 {
             return false;
         }
-        i += 1;
     }
     true
 }

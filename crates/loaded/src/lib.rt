@@ -9,8 +9,9 @@ ghost use Rattle.loaded.specs.Loaded.{entry_in};
 ghost use Rattle.loaded.specs.Filling.{beginning, entered, filled, moved_on, pointed, recorded};
 ghost use Rattle.loaded.specs.Loading.{bytes_for, load_of, Stands};
 ghost use Rattle.loaded.specs.declared.Cursor.{Cursor};
+ghost use Rattle.loaded.specs.declared.LoadError.TheVariants.{Refused};
 
-use checker::{Verdict, questions};
+use checker::{Refusal, questions};
 use layout::{bounds, kinds};
 
 pub mod decode;
@@ -26,13 +27,19 @@ const VERSION_BYTES: usize = 256;
 /// The bytes of the entries of versions and blocks: where the records begin.
 pub const RECORDS: usize = 2304;
 
-/// What became of an image: its table is filled, with its number of versions; it is refused, by the number of the question and the offset;
-/// or the table is too short, with the bytes that it needs.
-#[derive(Clone, Copy)]
-pub enum Loaded {
-    Ready(usize),
-    Refused(u8, usize),
+/// Why no table was filled: the image is refused, or the table is too short, with the bytes that it needs.
+#[derive(Clone, Copy, Debug, PartialEq, Eq)]
+pub enum LoadError {
+    Refused(Refusal),
     Short(usize),
+}
+
+impl From<Refusal> for LoadError {
+    ghost from_gives = { λ why e. e ≡ Refused why };
+
+    fn from(why: Refusal) -> LoadError {
+        LoadError::Refused(why)
+    }
 }
 
 /// What is next in a block: the instruction of a record, the end of the block, or nothing.
@@ -175,10 +182,8 @@ fn fill(image: &[u8], table: &mut [u8])
 fn clear(table: &mut [u8])
     ensures { (length table.new ≡ length table.old) × ((k : ℕ) → k < 256 → table.new ! k ≡ 0) }
 {
-    let mut k: usize = 0;
-    while k < VERSION_BYTES {
+    for k in 0..VERSION_BYTES {
         put(table, k, 0);
-        k += 1;
     }
 }
 
@@ -193,21 +198,17 @@ pub fn bytes_for(n: usize) -> usize
     }
 }
 
-/// Checks an image and fills the table with its places and records. Where it is refused, or the table is too short, the table has no version.
-pub fn load(image: &[u8], table: &mut [u8]) -> Loaded
+/// Checks an image and fills the table with its places and records, and gives its number of versions. Where it is refused, or the table is too short, the table has no version.
+pub fn load(image: &[u8], table: &mut [u8]) -> Result<usize, LoadError>
     ensures { (result ≡ load_of image.now (length table.old)) × Stands image.now table.new result
         × (length table.new ≡ length table.old) }
 {
     clear(table);
-    match questions::verdict(image) {
-        Verdict::Refused(q, p) => Loaded::Refused(q, p),
-        Verdict::Accepted(n) => {
-            let needed = bytes_for(image.len());
-            if table.len() < needed {
-                return Loaded::Short(needed);
-            }
-            fill(image, table);
-            Loaded::Ready(n)
-        }
+    let n = questions::verdict(image)?;
+    let needed = bytes_for(image.len());
+    if table.len() < needed {
+        return Err(LoadError::Short(needed));
     }
+    fill(image, table);
+    Ok(n)
 }

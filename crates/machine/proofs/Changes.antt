@@ -1,5 +1,5 @@
 -- A new image, as code meets it: the bytes of a version by its place, bytes compared one by one, and what a change depends on.
-use Rattle.std.specs.Prelude.{None, Some}
+use Rattle.std.specs.Prelude.{None, Some, Err, Ok}
 use mathlib.Core.Path.{◌≡◌, refl, ap, ◌∙◌}
 use Rattle.layout.specs.Found.{Found}
 use mathlib.Core.List.{List, [], ◌∷◌}
@@ -22,8 +22,7 @@ use Rattle.program.specs.Search.{Question, free, first}
 use Rattle.program.specs.Places.{view_at, past, version_at, version_place}
 use Rattle.program.proofs.Views.{view-end, view-past, Whole, at-version}
 use Rattle.program.proofs.Lookups.{place_found, place-nothing}
-use Rattle.checker.specs.Verdicts.{verdict_of}
-use Rattle.checker.specs.declared.Verdict.{Verdict}
+use Rattle.checker.specs.Verdicts.{verdict_of, Verdict, refused}
 use Rattle.checker.proofs.Asks.{same_ahead, accepted-short}
 use Rattle.checker.proofs.Offsets.{first-low}
 use Rattle.machine.specs.Begin.{program_of}
@@ -193,11 +192,11 @@ module _ (old new : List ℕ) (s : State) where
           last false k = let y : length new ≡ p = cc in omega arith
 
   -- the change, by the verdict on the new image and the answer
-  pub change-refused : (q p : ℕ) → verdict_of new ≡ Verdict.Refused q p → change_of old new s ≡ Changed.Refused q p
+  pub change-refused : (q p : ℕ) → verdict_of new ≡ Err (refused q p) → change_of old new s ≡ Changed.Refused q p
   unfolding change_of change_after
   change-refused q p e = rw e refl
 
-  module _ (k : ℕ) (e : verdict_of new ≡ Verdict.Accepted k) where
+  module _ (k : ℕ) (e : verdict_of new ≡ Ok k) where
     pub change-taken : answer15 old new s ≡ None → change_of old new s ≡ Changed.Taken
     unfolding change_of change_after changed_by
     change-taken h = rw (e, h) refl
@@ -225,5 +224,5 @@ change-alike old new s t h g = go (verdict_of new)
     answers = lacks (first (question15 old new s) (program_of new)) ∙ ap (λ (q : Question). missing new t (first q (program_of new))) asks
 
     go : (v : Verdict) → change_after v old new s ≡ change_after v old new t
-    go (Verdict.Refused q p) = refl
-    go (Verdict.Accepted n) = ap changed_by answers
+    go (Err why) = refl
+    go (Ok n) = ap changed_by answers

@@ -1,12 +1,11 @@
 -- Questions 11, 19, 12 and 13 behind those to the image, and the state of a begun run before its first step.
-use Rattle.std.specs.Prelude.{List, [], ◌∷◌, ◌&&◌, true, false, cond, ℕ, zero, suc, ◌-◌, ℤ, pos, negsuc, length, drop, replicate, take, leb, ltb}
+use Rattle.std.specs.Prelude.{List, [], ◌∷◌, ◌&&◌, true, false, cond, ℕ, zero, suc, ◌-◌, ℤ, pos, negsuc, length, drop, replicate, take, leb, ltb, Err, Ok}
 use Rattle.std.proofs.Math.Option.{Option, bind as ◌>>=◌, none, some}
 use Rattle.layout.specs.Bounds.{LEVELS}
 use Rattle.layout.specs.Records.{records}
 use Rattle.program.specs.Program.{Version, Program, program, find_version, parameter_types}
 use Rattle.rules.specs.Types.{kind_of, within}
-use Rattle.checker.specs.Verdicts.{verdict_of}
-use Rattle.checker.specs.declared.Verdict.{Verdict}
+use Rattle.checker.specs.Verdicts.{verdict_of, Verdict}
 use Rattle.machine.specs.Values.{RANGE}
 use Rattle.machine.specs.States.{ACTIVATIONS, ITEMS, PROMISES, VECTORS, new_frame, new_vector, over}
 use Rattle.machine.specs.Calls.{frame_for}
@@ -118,8 +117,8 @@ entered_of P level f v words buffer = question11 level (find_version P f v) word
 
 -- after the questions to its image
 unfoldable pub begin_after : Verdict → Program → ℕ → ℕ → ℕ → List ℤ → List ℤ → Begun
-begin_after (Verdict.Refused q p) P level f v words buffer = refused q p
-begin_after (Verdict.Accepted n) P level f v words buffer = entered_of P level f v words buffer
+begin_after (Err why) P level f v words buffer = refused why.question why.at
+begin_after (Ok n) P level f v words buffer = entered_of P level f v words buffer
 
 -- the program of an image
 abbrev pub program_of : List ℕ → Program

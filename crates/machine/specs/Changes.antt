@@ -1,12 +1,11 @@
 -- 02, 3: a state goes on under a newly accepted image where every version with a live frame has the same bytes and number in both.
-use Rattle.std.specs.Prelude.{List, [], ◌∷◌, Bool, true, false, cond, not, ◌||◌, ℕ, ◌-◌, length, drop, take, eqb, None, Some}
+use Rattle.std.specs.Prelude.{List, [], ◌∷◌, Bool, true, false, cond, not, ◌||◌, ℕ, ◌-◌, length, drop, take, eqb, None, Some, Err, Ok}
 use Rattle.layout.specs.Found.{Found}
 use Rattle.std.proofs.Math.Option.{Option, none, some}
 use Rattle.layout.specs.Tests.{◌and◌, all, any, found}
 use Rattle.program.specs.Program.{Version, Program, find_version}
 use Rattle.program.specs.Search.{Question, free, first}
-use Rattle.checker.specs.Verdicts.{verdict_of}
-use Rattle.checker.specs.declared.Verdict.{Verdict}
+use Rattle.checker.specs.Verdicts.{verdict_of, Verdict}
 use Rattle.machine.specs.States.{live_frames}
 use Rattle.machine.specs.Begin.{program_of}
 use Rattle.machine.specs.declared.Changed.{Changed}
@@ -80,8 +79,8 @@ changed_by (Some p) = Changed.Refused 15 p
 
 -- after the questions to the new image
 unfoldable pub change_after : Verdict → List ℕ → List ℕ → State → Changed
-change_after (Verdict.Refused q p) old new s = Changed.Refused q p
-change_after (Verdict.Accepted n) old new s = changed_by (answer15 old new s)
+change_after (Err why) old new s = Changed.Refused why.question why.at
+change_after (Ok n) old new s = changed_by (answer15 old new s)
 
 -- 02, 3: from the old image to the new one, in the state s, which is carried over whole
 unfoldable pub change_of : List ℕ → List ℕ → State → Changed

@@ -1,5 +1,6 @@
 -- 02, request 4: how many versions a search looks at.
 use Rattle.std.specs.Prelude.{None, Some, Option}
+use Rattle.std.specs.Option.{is_some}
 use mathlib.Core.Path.{◌≡◌, refl, sym, ap, ◌∙◌}
 use Rattle.loaded.specs.Answers.{Number}
 use mathlib.Core.List.{List}
@@ -69,6 +70,13 @@ module _ (s t : List ℕ) (f : ℕ) (p : Version → Bool) where
             let x = past (found_none p g) 0 (rw g refl) (omega arith) in
             rw z at x
 
+        pub count-none : is_some r ≡ false → {d : ℕ} → d ≡ c → Counting (program_in s t) f p (w + 1) d
+        count-none h q = rw q (go r refl h)
+          where
+            go : (o : Number) → r ≡ o → is_some o ≡ false → Counting (program_in s t) f p (w + 1) c
+            go None e h = count-missing e
+            go (Some k) e h = absurd (false≢true (sym h))
+
         module _ {k : ℕ} (e : r ≡ Some k) where
           pub count_past : p (version_in s t k) ≡ false → Counting (program_in s t) f p (w + 1) (c + 1)
           unfolding present
@@ -77,15 +85,29 @@ module _ (s t : List ℕ) (f : ℕ) (p : Version → Bool) where
           pub count-here : p (version_in s t k) ≡ true → c + 1 ≡ looked (program_in s t) f p 4 0
           count-here q = let g = version-some s t found-by e in sym (turn ∙ ap (λ m. c + m) (looked-here (program_in s t) f p (4 - (w + 1)) w (found_some p g ∙ q)))
 
+  -- each version that is there counts
+  pub count-each : (w c : ℕ) → Counting (program_in s t) f p w c → w < 4 → (r : Number) → version_of s t r ≡ find_version (program_in s t) f w
+      → ((W : Version) → p W ≡ false) → is_some r ≡ true → {d : ℕ} → d ≡ c + 1 → Counting (program_in s t) f p (w + 1) d
+  count-each w c C l (Some k) v never h q = rw q (count_past w c C l (Some k) v refl (never (version_in s t k)))
+  count-each w c C l None v never h q = absurd (false≢true h)
+
 -- by the test of a DISPATCH
 module _ (s t : List ℕ) (own p j : ℕ) (ks : List ℕ) (x : Option ℕ) (D : Passes x s t own p ks (version_in s t j)) where
-  pub passes-here : {m : ℕ} → x ≡ Some m → dispatches_at s t own p ks (version_in s t j) ≡ true
+  pub passes-here : is_some x ≡ true → dispatches_at s t own p ks (version_in s t j) ≡ true
   unfolding FitsIf
-  passes-here q = (rw q at D).0
+  passes-here h = go x D h
+    where
+      go : (o : Option ℕ) → Passes o s t own p ks (version_in s t j) → is_some o ≡ true → dispatches_at s t own p ks (version_in s t j) ≡ true
+      go (Some m) F h = F.0
+      go None F h = absurd (false≢true h)
 
-  pub passes-past : x ≡ None → dispatches_at s t own p ks (version_in s t j) ≡ false
+  pub passes-past : is_some x ≡ false → dispatches_at s t own p ks (version_in s t j) ≡ false
   unfolding FitsIf
-  passes-past q = rw q at D
+  passes-past h = go x D h
+    where
+      go : (o : Option ℕ) → Passes o s t own p ks (version_in s t j) → is_some o ≡ false → dispatches_at s t own p ks (version_in s t j) ≡ false
+      go (Some m) F h = absurd (false≢true (sym h))
+      go None F h = F
 
 pub searched-is : (s t : List ℕ) (own p : ℕ) (ks : List ℕ) {f : ℕ} → f ≡ s ! (p + 3) → looked (program_in s t) f (dispatches_at s t own p ks) 4 0 ≡ searched_at s t own p ks
 unfolding searched dispatches_at

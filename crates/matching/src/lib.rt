@@ -165,12 +165,10 @@ pub fn listed(image: &[u8], at: usize, step: usize, n: usize, rs: &mut [u8; 8])
     requires { (at < 131072) × (step < 3) × (n ≤ 8) × (length rs.old ≡ 8) }
     ensures { (take n rs.new ≡ every image.now at step n) × (length rs.new ≡ 8) }
 {
-    let mut i: usize = 0;
     let mut p = at;
-    while i < n {
+    for i in 0..n {
         rs[i] = loaded::byte(image, p);
         p += step;
-        i += 1;
     }
 }
 
@@ -187,10 +185,8 @@ pub fn code_of(
     requires { (k < 32) × (n ≤ 8) × (n ≤ length rs.now) }
     ensures { Coded result image.now table.now bytes.now k (take n rs.now) × (result ≤ KINDLESS) }
 {
-    let mut i = n;
     let mut code: u32 = 0;
-    while 0 < i {
-        i -= 1;
+    for i in (0..n).rev() {
         let m = register_kind(image, table, bytes, k, rs[i]);
         if m == 0 {
             return KINDLESS;
@@ -208,11 +204,9 @@ pub fn kinds_in(code: u16, n: usize) -> [u8; 8]
 {
     let mut kinds = [0u8; 8];
     let mut c = code;
-    let mut i: usize = 0;
-    while i < n {
+    for i in 0..n {
         kinds[i] = 2 + ((c % 4) as u8);
         c = c / 4;
-        i += 1;
     }
     kinds
 }
@@ -241,10 +235,8 @@ fn matches(image: &[u8], table: &[u8], j: u8, kinds: &[u8; 8], n: usize) -> Opti
     if n != most as usize {
         return None;
     }
-    let mut i = n;
     let mut owned: u8 = 0;
-    while 0 < i {
-        i -= 1;
+    for i in (0..n).rev() {
         let t = lookup::type_of(image, table, j, i as u8);
         if types::is_within(layout::wide(kinds[i]), (t % 16) as usize) {
             owned = 2 * owned + bit(t);
@@ -256,7 +248,15 @@ fn matches(image: &[u8], table: &[u8], j: u8, kinds: &[u8; 8], n: usize) -> Opti
 }
 
 /// Does the DISPATCH at the place `p`, in the version `own`, with arguments of these kinds, pass the version `j`?
-fn passes(image: &[u8], table: &[u8], own: u8, p: u16, j: u8, kinds: &[u8; 8], n: usize) -> Option<u8>
+fn passes(
+    image: &[u8],
+    table: &[u8],
+    own: u8,
+    p: u16,
+    j: u8,
+    kinds: &[u8; 8],
+    n: usize,
+) -> Option<u8>
     requires { (n ≤ 8) × (n ≤ length kinds.now) }
     ensures { Passes result image.now table.now own p (take n kinds.now) (version_in image.now table.now j) }
 {
@@ -273,14 +273,12 @@ fn pick(image: &[u8], table: &[u8], own: u8, p: u16, kinds: &[u8; 8], n: usize) 
     ensures { Decides result image.now table.now n (picked_at image.now table.now own p (take n kinds.now)) }
 {
     let f = loaded::byte(image, p as usize + 3);
-    let mut w: u8 = 0;
-    while w < 4 {
-        match lookup::version(table, f, w) {
-            Some(j) => match passes(image, table, own, p, j, kinds, n) {
-                Some(owned) => return Choice::Version(j, owned),
-                None => w += 1,
-            },
-            None => w += 1,
+    for w in 0..4 {
+        let Some(j) = lookup::version(table, f, w) else {
+            continue;
+        };
+        if let Some(owned) = passes(image, table, own, p, j, kinds, n) {
+            return Choice::Version(j, owned);
         }
     }
     Choice::Undef
@@ -404,19 +402,15 @@ pub fn searched(image: &[u8], table: &[u8], own: u8, p: u16, kinds: &[u8; 8], n:
     ensures { result ≡ searched_at image.now table.now own p (take n kinds.now) }
 {
     let f = loaded::byte(image, p as usize + 3);
-    let mut w: u8 = 0;
     let mut c: u8 = 0;
-    while w < 4 {
-        match lookup::version(table, f, w) {
-            Some(j) => match passes(image, table, own, p, j, kinds, n) {
-                Some(_) => return c + 1,
-                None => {
-                    c += 1;
-                    w += 1;
-                }
-            },
-            None => w += 1,
+    for w in 0..4 {
+        let Some(j) = lookup::version(table, f, w) else {
+            continue;
+        };
+        if passes(image, table, own, p, j, kinds, n).is_some() {
+            return c + 1;
         }
+        c += 1;
     }
     c
 }
@@ -425,15 +419,10 @@ pub fn searched(image: &[u8], table: &[u8], own: u8, p: u16, kinds: &[u8; 8], n:
 pub fn versions(image: &[u8], table: &[u8], f: u8) -> u8
     ensures { result ≡ versions_of (program_in image.now table.now) f }
 {
-    let mut w: u8 = 0;
     let mut c: u8 = 0;
-    while w < 4 {
-        match lookup::version(table, f, w) {
-            Some(_) => {
-                c += 1;
-                w += 1;
-            }
-            None => w += 1,
+    for w in 0..4 {
+        if lookup::version(table, f, w).is_some() {
+            c += 1;
         }
     }
     c

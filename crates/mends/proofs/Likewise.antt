@@ -1,8 +1,8 @@
 -- Where a pass stands at the record that fails: after a change of a register type byte it stands there likewise.
-use Rattle.std.specs.Prelude.{None, Some}
+use Rattle.std.specs.Prelude.{None, Some, Err}
 use mathlib.Core.Path.{◌≡◌, refl, sym, ap, ◌∙◌, subst}
 use Rattle.layout.specs.Found.{Found}
-use mathlib.Core.Logic.{◌⊎◌, inl, inr}
+use mathlib.Core.Logic.{◌⊎◌}
 use mathlib.Core.List.{List}
 use mathlib.Core.Bool.{Bool, true, false, cond}
 use Prim.Native.Nat.{ℕ, ◌+◌, ◌≤◌, ◌<◌}
@@ -21,21 +21,15 @@ use Rattle.program.proofs.Passes.{Asking, start, at-end, say-no, go_on}
 use Rattle.program.proofs.Views.{Whole}
 use Rattle.rules.specs.Questions.{question6, question8, question9}
 use Rattle.rules.specs.Flows.{question10}
-use Rattle.checker.specs.Verdicts.{ask, from6, from7, from8, from9, from10, from18, verdict_of, verdict_in}
-use Rattle.checker.specs.declared.Verdict.{Verdict}
-use Rattle.checker.specs.declared.Verdict.TheVariants.{Accepted, Refused}
+use Rattle.checker.specs.Verdicts.{ask, verdict_of, verdict_in, Verdict, refused}
 use Rattle.checker.proofs.Accepted.{passed}
+use Rattle.checker.proofs.Asks.{refused-same}
 use Rattle.mends.specs.Mends.{places, is_accepted, mendable}
 use Rattle.mends.specs.Parts.{question_by, Among, Passing}
 use Rattle.mends.proofs.Changed.{Aside, Asides, no-head, size_same, kind-same}
 use Rattle.mends.proofs.Mending.{refused-behind, sound-records, accepted-some, apart}
 
 -- ---- what refuses, and what an accepted image passed
-
-ask-cases : (n q r : ℕ) (x : Found) (more : Verdict) → ask n x more ≡ Refused q r → ((n ≡ q) × (x ≡ Some r)) ⊎ ((x ≡ None) × (more ≡ Refused q r))
-unfolding ask
-ask-cases n q r None more e = inr (refl, e)
-ask-cases n q r (Some p) more e = let z : n ≡ q = cc in let y : p ≡ r = cc in inl (z, ap Some y)
 
 -- the question that refused found the record at r
 module _ (s : List ℕ) (q r : ℕ) (m : mendable q ≡ true) where
@@ -48,47 +42,26 @@ module _ (s : List ℕ) (q r : ℕ) (m : mendable q ≡ true) where
   by : (n : ℕ) → n ≡ q → first (question_by n P) P ≡ Some r → Goal
   by n z h = subst (λ (i : ℕ). first (question_by i P) P ≡ Some r) z h
 
-  ten : from10 s ≡ Refused q r → Goal
-  unfolding question_by choose
-  ten e = go (ask-cases 10 q r (first (question10 P) P) _ e)
-    where
-      go : ((10 ≡ q) × (first (question10 P) P ≡ Some r)) ⊎ ((first (question10 P) P ≡ None) × (Accepted (length P) ≡ Refused q r)) → Goal
-      go (inl z) = by 10 z.0 z.1
-      go (inr z) = let y = z.1 in let w : ◌≡◌ {A = ℕ} 0 1 = cc in absurd (omega arith)
+  -- it is this question's own no, or that of those behind it
+  either : (n : ℕ) (x : Found) (more : Verdict) → (n ≡ q → x ≡ Some r → Goal) → (more ≡ Err (refused q r) → Goal) → ask n x more ≡ Err (refused q r) → Goal
+  unfolding ask
+  either n None more own behind e = behind e
+  either n (Some p) more own behind e = let z = refused-same e in own z.0 (ap Some z.1)
 
-  nine : from9 s ≡ Refused q r → Goal
-  unfolding question_by choose
-  nine e = go (ask-cases 9 q r (first (question9 P) P) _ e)
-    where
-      go : ((9 ≡ q) × (first (question9 P) P ≡ Some r)) ⊎ ((first (question9 P) P ≡ None) × (from10 s ≡ Refused q r)) → Goal
-      go (inl z) = by 9 z.0 z.1
-      go (inr z) = ten z.1
-
-  eight : from8 s ≡ Refused q r → Goal
-  unfolding question_by choose mendable
-  eight e = go (ask-cases 8 q r (first (question8 P) P) _ e)
-    where
-      go : ((8 ≡ q) × (first (question8 P) P ≡ Some r)) ⊎ ((first (question8 P) P ≡ None) × (from18 s ≡ Refused q r)) → Goal
-      go (inl z) = by 8 z.0 z.1
-      go (inr z) = nine (refused-behind 18 q r _ _ refl m z.1).1
-
-  six : from6 s ≡ Refused q r → Goal
-  unfolding question_by choose mendable
-  six e = go (ask-cases 6 q r (first question6 P) _ e)
-    where
-      go : ((6 ≡ q) × (first question6 P ≡ Some r)) ⊎ ((first question6 P ≡ None) × (from7 s ≡ Refused q r)) → Goal
-      go (inl z) = by 6 z.0 z.1
-      go (inr z) = eight (refused-behind 14 q r _ _ refl m (refused-behind 7 q r _ _ refl m z.1).1).1
-
-  pub refused-first : verdict_of s ≡ Refused q r → first (question_by q (program (records s))) (program (records s)) ≡ Some r
-  unfolding verdict_in mendable
+  pub refused-first : verdict_of s ≡ Err (refused q r) → first (question_by q (program (records s))) (program (records s)) ≡ Some r
+  unfolding verdict_in mendable question_by choose
   refused-first e =
       let e1 = refused-behind 1 q r _ _ refl m e in
       let e2 = refused-behind 2 q r _ _ refl m e1.1 in
       let e3 = refused-behind 3 q r _ _ refl m e2.1 in
       let e4 = refused-behind 4 q r _ _ refl m e3.1 in
       let e5 = refused-behind 5 q r _ _ refl m e4.1 in
-      six e5.1
+      either 6 _ _ (by 6) (λ e6.
+      either 8 _ _ (by 8) (λ e8.
+      either 9 _ _ (by 9) (
+      either 10 _ _ (by 10) (λ z. let w : ◌≡◌ {A = ℕ} 0 1 = cc in absurd (omega arith)))
+      (refused-behind 18 q r _ _ refl m e8).1)
+      (refused-behind 14 q r _ _ refl m (refused-behind 7 q r _ _ refl m e6).1).1) e5.1
 
 -- an accepted image passed it
 pub accepted-first : (s : List ℕ) (q : ℕ) → is_accepted (verdict_of s) ≡ true → first (question_by q (program (records s))) (program (records s)) ≡ None
@@ -111,7 +84,7 @@ pub record Walking (s : List ℕ) (q r c : ℕ) (h : Here) : Type 0 where
   pub aside : (p : ℕ) → Among p (places (program (records s))) → Asides p (rest s c)
   pub comes : (p x : ℕ) → Among p (places (program (records s))) → (k : Question) → first k (program (records (set s p x))) ≡ None → Asking k None (set s p x) c h
 
-pub walk_first : (s : List ℕ) (q r : ℕ) → mendable q ≡ true → verdict_of s ≡ Refused q r → Walking s q r 0 (record { version = length s; blocks = 0 })
+pub walk_first : (s : List ℕ) (q r : ℕ) → mendable q ≡ true → verdict_of s ≡ Err (refused q r) → Walking s q r 0 (record { version = length s; blocks = 0 })
 walk_first s q r m e = record {
   own = subst (λ (a : Found). Asking (question_by q (program (records s))) a s 0 (record { version = length s; blocks = 0 })) (refused-first s q r m e) (start (question_by q (program (records s))) s);
   whole = (sound-records s q r m e).1;

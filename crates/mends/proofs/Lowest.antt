@@ -1,4 +1,5 @@
 -- 02, 14: lowest offset first, then lowest new value: places and values are looked at in rising order.
+use Rattle.std.specs.Prelude.{None, Some, Option}
 use mathlib.Core.Path.{◌≡◌, refl, sym, ap, ◌∙◌, subst}
 use mathlib.Core.Logic.{◌⊎◌, inl, inr}
 use mathlib.Core.List.{List, [], ◌∷◌, ◌++◌, flat_map}
@@ -19,12 +20,11 @@ use Rattle.program.specs.Places.{numbers}
 use Rattle.program.proofs.Programs.{no-versions, program-version, program-other}
 use Rattle.checker.specs.Verdicts.{verdict_of}
 use Rattle.mends.specs.declared.Change.{Change}
-use Rattle.mends.specs.declared.Change.TheVariants.{To, Nowhere}
-use Rattle.mends.specs.Mends.{type_places, places, VALUES, is_accepted, mends_by, first_value, or_else, first_place, mend_of}
+use Rattle.mends.specs.Mends.{type_places, places, VALUES, is_accepted, mends_by, first_value, or_else, first_place, mend_of, to}
 use Rattle.mends.specs.Parts.{Among}
 use Rattle.mends.specs.Claims.{LowestFirst}
 use Rattle.mends.proofs.Changed.{Sets, sets-from}
-use Rattle.mends.proofs.Claimed.{value-some, value_none, answered_byte}
+use Rattle.mends.proofs.Claimed.{to-same, value-some, value_none, answered_byte}
 use Rattle.mends.proofs.Mending.{sound-records}
 use Rattle.mends.proofs.Parts.{among-number}
 
@@ -53,31 +53,31 @@ rising-numbers k (suc n) l r = let e : k + suc n ≡ k + 1 + n = omega arith in 
 
 -- ---- what a search finds is the lowest
 
-value-lowest : (mends : ℕ → Bool) (p c : ℕ) (xs : List ℕ) (q x : ℕ) → Rising c xs → first_value mends p xs ≡ To q x → (y : ℕ) → Among y xs → mends y ≡ true → x ≤ y
+value-lowest : (mends : ℕ → Bool) (p c : ℕ) (xs : List ℕ) (q x : ℕ) → Rising c xs → first_value mends p xs ≡ Some (to q x) → (y : ℕ) → Among y xs → mends y ≡ true → x ≤ y
 unfolding first_value Rising Among
 value-lowest mends p c [] q x r e y a m = absurd a
 value-lowest mends p c (z ∷ xs) q x r e y a m = go (mends z) refl e a (value-lowest mends p (suc z) xs q x r.1)
   where
-    go : (b : Bool) → mends z ≡ b → cond b (To p z) (first_value mends p xs) ≡ To q x → Among y (z ∷ xs) → (first_value mends p xs ≡ To q x → (y : ℕ) → Among y xs → mends y ≡ true → x ≤ y) → x ≤ y
-    go true f g (inl h) ih = let u : z ≡ x = cc in omega (arith, u, h)
-    go true f g (inr h) ih = let u : z ≡ x = cc in omega (arith, u, rising-among (suc z) y xs r.1 h)
+    go : (b : Bool) → mends z ≡ b → cond b (Some (to p z)) (first_value mends p xs) ≡ Some (to q x) → Among y (z ∷ xs) → (first_value mends p xs ≡ Some (to q x) → (y : ℕ) → Among y xs → mends y ≡ true → x ≤ y) → x ≤ y
+    go true f g (inl h) ih = omega (arith, (to-same g).1, h)
+    go true f g (inr h) ih = omega (arith, (to-same g).1, rising-among (suc z) y xs r.1 h)
     go false f g (inl h) ih = absurd (true≢false (sym m ∙ ap mends h ∙ f))
     go false f g (inr h) ih = ih g y h m
 
-place-lowest : (mends : ℕ → ℕ → Bool) (values : List ℕ) (c d : ℕ) (ps : List ℕ) (p x : ℕ) → Rising c ps → Rising d values → first_place mends values ps ≡ To p x
+place-lowest : (mends : ℕ → ℕ → Bool) (values : List ℕ) (c d : ℕ) (ps : List ℕ) (p x : ℕ) → Rising c ps → Rising d values → first_place mends values ps ≡ Some (to p x)
     → (p' x' : ℕ) → Among p' ps → Among x' values → mends p' x' ≡ true → (p < p') ⊎ ((p ≡ p') × (x ≤ x'))
 unfolding first_place or_else Rising Among
 place-lowest mends values c d [] p x r v e p' x' a b m = absurd a
 place-lowest mends values c d (z ∷ ps) p x r v e p' x' a b m = go (first_value (mends z) z values) refl e a (place-lowest mends values (suc z) d ps p x r.1 v)
   where
-    go : (k : Change) → first_value (mends z) z values ≡ k → or_else k (first_place mends values ps) ≡ To p x → Among p' (z ∷ ps)
-        → (first_place mends values ps ≡ To p x → (p' x' : ℕ) → Among p' ps → Among x' values → mends p' x' ≡ true → (p < p') ⊎ ((p ≡ p') × (x ≤ x'))) → (p < p') ⊎ ((p ≡ p') × (x ≤ x'))
-    go (To i y) f g (inl h) ih =
+    go : (k : Option Change) → first_value (mends z) z values ≡ k → or_else k (first_place mends values ps) ≡ Some (to p x) → Among p' (z ∷ ps)
+        → (first_place mends values ps ≡ Some (to p x) → (p' x' : ℕ) → Among p' ps → Among x' values → mends p' x' ≡ true → (p < p') ⊎ ((p ≡ p') × (x ≤ x'))) → (p < p') ⊎ ((p ≡ p') × (x ≤ x'))
+    go (Some hit) f g (inl h) ih =
         let t = value-some (mends z) z values p x (f ∙ g) in
         inr (t.0 ∙ sym h, value-lowest (mends z) z d values p x v (f ∙ g) x' b (subst (λ (j : ℕ). mends j x' ≡ true) h m))
-    go (To i y) f g (inr h) ih = let t = value-some (mends z) z values p x (f ∙ g) in inl (omega (arith, t.0, rising-among (suc z) p' ps r.1 h))
-    go Nowhere f g (inl h) ih = absurd (value_none (mends z) z values f x' b (subst (λ (j : ℕ). mends j x' ≡ true) h m))
-    go Nowhere f g (inr h) ih = ih g p' x' h b m
+    go (Some hit) f g (inr h) ih = let t = value-some (mends z) z values p x (f ∙ g) in inl (omega (arith, t.0, rising-among (suc z) p' ps r.1 h))
+    go None f g (inl h) ih = absurd (value_none (mends z) z values f x' b (subst (λ (j : ℕ). mends j x' ≡ true) h m))
+    go None f g (inr h) ih = ih g p' x' h b m
 
 -- ---- the places of an image rise
 
@@ -111,7 +111,7 @@ values-rise = subst (Rising 0) (append-none (numbers 0 256)) (rising-numbers 0 2
 
 -- THE LAW
 pub lowest-first : LowestFirst
-unfolding LowestFirst mend_of mends_by is_accepted
+unfolding LowestFirst mend_of mends_by
 lowest-first s q r p x e p' x' l m =
     let a = answered_byte s q r p x (verdict_of s) refl e in
     let w = sound-records s q r a.1 a.0 in

@@ -1,5 +1,5 @@
 -- 02, 14: a place and a value that mend: the byte is a register type of a VERSION, and the value is a type byte.
-use Rattle.std.specs.Prelude.{None, Some}
+use Rattle.std.specs.Prelude.{None, Some, Err, Ok}
 use mathlib.Core.Path.{◌≡◌, refl, sym, ap, ◌∙◌, subst}
 use Rattle.layout.specs.Found.{Found}
 use mathlib.Core.Logic.{◌⊎◌, inl, inr}
@@ -25,10 +25,9 @@ use Rattle.program.proofs.Held.{Held, Helds, helds}
 use Rattle.program.proofs.Programs.{no-versions, program-version, program-other}
 use Rattle.rules.specs.Types.{parameter_type, kind_of, ownership_of, is_shared, is_owned, is_borrowed, is_vector}
 use Rattle.rules.specs.Questions.{question6}
-use Rattle.checker.specs.Verdicts.{ask, verdict_of, verdict_in}
-use Rattle.checker.specs.declared.Verdict.{Verdict}
-use Rattle.checker.specs.declared.Verdict.TheVariants.{Accepted, Refused}
+use Rattle.checker.specs.Verdicts.{ask, verdict_of, verdict_in, Verdict, refused}
 use Rattle.checker.proofs.Accepted.{passed}
+use Rattle.checker.proofs.Asks.{refused-same}
 use Rattle.mends.specs.Mends.{type_places, places, VALUES, is_accepted, mends_by, first_place, mendable}
 use Rattle.mends.specs.Parts.{Among, TYPES}
 use Rattle.mends.specs.Retyped.{within, retype_one, retype}
@@ -38,13 +37,13 @@ use Rattle.mends.proofs.Searches.{kept, places-kept}
 
 -- ---- an image that is refused by 6, 8, 9 or 10
 
-pub refused-behind : (n q r : ℕ) (x : Found) (more : Verdict) → mendable n ≡ false → mendable q ≡ true → ask n x more ≡ Refused q r → (x ≡ None) × (more ≡ Refused q r)
+pub refused-behind : (n q r : ℕ) (x : Found) (more : Verdict) → mendable n ≡ false → mendable q ≡ true → ask n x more ≡ Err (refused q r) → (x ≡ None) × (more ≡ Err (refused q r))
 unfolding ask
 refused-behind n q r None more a b e = (refl, e)
-refused-behind n q r (Some p) more a b e = let z : n ≡ q = cc in absurd (true≢false (sym b ∙ ap mendable (sym z) ∙ a))
+refused-behind n q r (Some p) more a b e = absurd (true≢false (sym b ∙ ap mendable (sym (refused-same e).0) ∙ a))
 
 -- it passed 1, 2 and 3
-pub sound-records : (s : List ℕ) (q r : ℕ) → mendable q ≡ true → verdict_of s ≡ Refused q r → (question1 s ≡ None) × (question2 (records s) ≡ None) × (question3 Form.Wide (records s) ≡ None)
+pub sound-records : (s : List ℕ) (q r : ℕ) → mendable q ≡ true → verdict_of s ≡ Err (refused q r) → (question1 s ≡ None) × (question2 (records s) ≡ None) × (question3 Form.Wide (records s) ≡ None)
 unfolding verdict_in mendable
 sound-records s q r m e =
     let e1 = refused-behind 1 q r _ _ refl m e in
@@ -121,13 +120,12 @@ held_in q g v (u ∷ vs) (inr i) h = held_in q g v vs i h.1
 
 -- ---- the laws
 
-pub accepted-some : (v : Verdict) → is_accepted v ≡ true → (k : ℕ) × (v ≡ Accepted k)
-unfolding is_accepted
-accepted-some (Accepted k) e = (k, refl)
-accepted-some (Refused q p) e = absurd (true≢false (sym e))
+pub accepted-some : (v : Verdict) → is_accepted v ≡ true → (k : ℕ) × (v ≡ Ok k)
+accepted-some (Ok k) e = (k, refl)
+accepted-some (Err why) e = absurd (true≢false (sym e))
 
 -- a register type byte of an image that is refused by 6, 8, 9 or 10
-module _ (s : List ℕ) (q r : ℕ) (m : mendable q ≡ true) (e : verdict_of s ≡ Refused q r) (p : ℕ) (a : Among p (places (program (records s)))) where
+module _ (s : List ℕ) (q r : ℕ) (m : mendable q ≡ true) (e : verdict_of s ≡ Err (refused q r)) (p : ℕ) (a : Among p (places (program (records s)))) where
   sound : (question1 s ≡ None) × (question2 (records s) ≡ None) × (question3 Form.Wide (records s) ≡ None)
   sound = sound-records s q r m e
 
@@ -164,7 +162,7 @@ bool_false true h = absurd (h refl)
 bool_false false h = refl
 
 -- THE LAW of the short search: eight values do
-pub short : (s : List ℕ) (q r : ℕ) → mendable q ≡ true → verdict_of s ≡ Refused q r → first_place (mends_by s) TYPES (places (program (records s))) ≡ first_place (mends_by s) VALUES (places (program (records s)))
+pub short : (s : List ℕ) (q r : ℕ) → mendable q ≡ true → verdict_of s ≡ Err (refused q r) → first_place (mends_by s) TYPES (places (program (records s))) ≡ first_place (mends_by s) VALUES (places (program (records s)))
 short s q r m e =
     ap (λ (values : List ℕ). first_place (mends_by s) values (places (program (records s)))) (sym types-kept)
     ∙ places-kept (mends_by s) parameter_type VALUES (places (program (records s))) (λ p a x h. bool_false (mends_by s p x) (λ good. true≢false (sym (a-type s q r m e p a x good) ∙ h)))

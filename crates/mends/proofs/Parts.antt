@@ -1,5 +1,5 @@
 -- What the parts of the search for a mend know on their way.
-use Rattle.std.specs.Prelude.{None}
+use Rattle.std.specs.Prelude.{None, Err, Ok, Some, Option}
 use mathlib.Core.Path.{◌≡◌, refl, sym, ap, ◌∙◌, subst}
 use mathlib.Core.Logic.{inl, inr}
 use mathlib.Core.List.{List, [], ◌∷◌, ◌++◌, flat_map, append-nil}
@@ -27,16 +27,15 @@ use Rattle.program.proofs.Views.{Whole, at-version, view-end, view-past}
 use Rattle.rules.specs.Types.{is_owned}
 use Rattle.rules.specs.Flows.{question10}
 use Rattle.checker.specs.Verdicts.{verdict_of}
-use Rattle.checker.specs.declared.Verdict.{Verdict}
 use Rattle.checker.proofs.Asks.{same_ahead}
 use Rattle.writer.specs.Text.{placed}
 use Rattle.writer.proofs.Placed.{placed-fits}
+use Rattle.checker.specs.declared.Refusal.{Refusal}
 use Rattle.mends.specs.declared.Change.{Change}
-use Rattle.mends.specs.declared.Change.TheVariants.{To, Nowhere}
 use Rattle.mends.specs.declared.Mended.{Mended}
 use Rattle.mends.specs.declared.Mended.TheVariants.{Accepted, Refused, Byte, Unmended}
-use Rattle.mends.specs.Mends.{places, VALUES, is_accepted, mends_by, first_value, or_else, first_place, mendable, beside, mend_after, mend_of}
-use Rattle.mends.specs.Parts.{TYPES, question_by, Among, Passing, Told, Refusal, Failing, Owned, Helps}
+use Rattle.mends.specs.Mends.{places, VALUES, is_accepted, mends_by, first_value, or_else, first_place, mendable, beside, mend_after, mend_of, to}
+use Rattle.mends.specs.Parts.{TYPES, question_by, Among, Passing, Told, RefusedBy, Failing, Owned, Helps}
 use Rattle.mends.specs.Retyped.{retype}
 use Rattle.mends.proofs.Changed.{Typed}
 use Rattle.mends.proofs.Likewise.{accepted-first, refused-first, no_place}
@@ -69,7 +68,7 @@ typed-inside p (r ∷ rs) c e ch (inl t) = omega (arith, ch.0, t.2, behind rs (c
 typed-inside p (r ∷ rs) c e ch (inr t) = typed-inside p rs (c + r.size) e ch.2 t
 
 -- it stands in the image
-pub place_inside : {s : List ℕ} {q r : ℕ} → Refusal s q r → (p : ℕ) → Among p (places (program (records s))) → p < length s
+pub place_inside : {s : List ℕ} {q r : ℕ} → RefusedBy s q r → (p : ℕ) → Among p (places (program (records s))) → p < length s
 place_inside {s} {q} {r} f p a = typed-inside p (records s) 0 (length s) (chained s (sound-records s q r f.may f.refused).1) (all_typed s q r f.may f.refused p a)
 
 pub same-value : (s : List ℕ) (p x : ℕ) {y : ℕ} → y ≡ s ! p → y ≡ x → false ≡ mends_by s p x
@@ -107,14 +106,6 @@ fails-first q h r s f e z = go (is_accepted (verdict_of s)) refl
     go : (a : Bool) → is_accepted (verdict_of s) ≡ a → false ≡ is_accepted (verdict_of s)
     go true g = sym z ∙ e ∙ f (accepted-first s q g) ∙ sym g
     go false g = sym g
-
-pub is-accepted : (s : List ℕ) {n : ℕ} → verdict_of s ≡ Verdict.Accepted n → true ≡ is_accepted (verdict_of s)
-unfolding is_accepted
-is-accepted s e = rw e refl
-
-pub is-refused : (s : List ℕ) {q r : ℕ} → verdict_of s ≡ Verdict.Refused q r → false ≡ is_accepted (verdict_of s)
-unfolding is_accepted
-is-refused s e = rw e refl
 
 -- ---- whether a change of a byte can help
 
@@ -155,12 +146,12 @@ helps-as {s} {t} {q} {r} {h} f e p y a o false g =
     none-helps (subst (λ (i : ℕ). Failing s t i r h) e f) p a y o (sym (g ∙ ap (λ (i : ℕ). asked (question_by i (program (records (set s p y)))) (set s p y) h r) e))
 
 -- a byte that cannot help has no value that mends
-pub helpless : (s : List ℕ) (p : ℕ) (b : Bool) → Helps b s p → b ≡ false → Nowhere ≡ first_value (mends_by s p) p TYPES
+pub helpless : (s : List ℕ) (p : ℕ) (b : Bool) → Helps b s p → b ≡ false → None ≡ first_value (mends_by s p) p TYPES
 unfolding Helps first_value
 helpless s p true h e = absurd (true≢false e)
 helpless s p false h e = sym (none TYPES)
   where
-    none : (xs : List ℕ) → first_value (mends_by s p) p xs ≡ Nowhere
+    none : (xs : List ℕ) → first_value (mends_by s p) p xs ≡ None
     none [] = refl
     none (x ∷ xs) = rw (h x) (none xs)
 
@@ -176,23 +167,23 @@ pub value-first : (s : List ℕ) (p : ℕ) → Valuing s s p 0
 value-first s p = record { same = refl; few = omega arith; left = refl }
 
 -- the image by another name
-pub valued_as : {s now later : List ℕ} {c : Change} (p : ℕ) → now ≡ s → (c ≡ first_value (mends_by now p) p TYPES) × (later ≡ now) → (c ≡ first_value (mends_by s p) p TYPES) × (later ≡ s)
+pub valued_as : {s now later : List ℕ} {c : Option Change} (p : ℕ) → now ≡ s → (c ≡ first_value (mends_by now p) p TYPES) × (later ≡ now) → (c ≡ first_value (mends_by s p) p TYPES) × (later ≡ s)
 valued_as {s} {now} {later} {c} p e h = subst (λ (l : List ℕ). (c ≡ first_value (mends_by l p) p TYPES) × (later ≡ l)) e h
 
 module _ {s now : List ℕ} {p i : ℕ} (w : Valuing s now p i) where
-  value-test : i < 8 → {x : ℕ} {m : Bool} → x ≡ TYPES ! i → m ≡ mends_by now p x → first_value (mends_by s p) p TYPES ≡ cond m (To p x) (first_value (mends_by s p) p (drop (suc i) TYPES))
+  value-test : i < 8 → {x : ℕ} {m : Bool} → x ≡ TYPES ! i → m ≡ mends_by now p x → first_value (mends_by s p) p TYPES ≡ cond m (Some (to p x)) (first_value (mends_by s p) p (drop (suc i) TYPES))
   unfolding first_value
   value-test h {x} {m} e f =
       let g : m ≡ mends_by s p (TYPES ! i) = f ∙ ap (λ (t : List ℕ). mends_by t p x) w.same ∙ ap (mends_by s p) e in
       w.left ∙ ap (first_value (mends_by s p) p) (drop-cons TYPES i 0 h) ∙ rw (sym g, sym e) refl
 
-  pub value-hit : i < 8 → {x : ℕ} {m : Bool} {later : List ℕ} → x ≡ TYPES ! i → m ≡ mends_by now p x → m ≡ true → later ≡ now → (To p x ≡ first_value (mends_by s p) p TYPES) × (later ≡ s)
+  pub value-hit : i < 8 → {x : ℕ} {m : Bool} {later : List ℕ} → x ≡ TYPES ! i → m ≡ mends_by now p x → m ≡ true → later ≡ now → (Some (to p x) ≡ first_value (mends_by s p) p TYPES) × (later ≡ s)
   value-hit h {x} e f t g = (sym (value-test h e f ∙ rw t refl), g ∙ w.same)
 
   pub value-next : i < 8 → {x : ℕ} {m : Bool} {later : List ℕ} → x ≡ TYPES ! i → m ≡ mends_by now p x → m ≡ false → later ≡ now → Valuing s later p (i + 1)
   value-next h {x} e f t g = let n : i + 1 ≡ suc i = omega arith in record { same = g ∙ w.same; few = omega arith; left = value-test h e f ∙ rw (t, n) refl }
 
-  pub value-last : 8 ≤ i → (Nowhere ≡ first_value (mends_by s p) p TYPES) × (now ≡ s)
+  pub value-last : 8 ≤ i → (None ≡ first_value (mends_by s p) p TYPES) × (now ≡ s)
   unfolding first_value
   value-last h = let n : i ≡ 8 = omega (arith, h, w.few) in (sym (w.left ∙ rw n refl), w.same)
 
@@ -217,27 +208,27 @@ pub place-owned : {s now : List ℕ} {from n i : ℕ} → Placing s now from n i
 unfolding Owned
 place-owned {s} {now} {from} {n} {i} w o h = rw w.same (o (from + i) (among-number from n i h))
 
-pub place-few : {s : List ℕ} {q r : ℕ} → Refusal s q r → (from n i : ℕ) → Owned s from n → i < n → from + i < length s
+pub place-few : {s : List ℕ} {q r : ℕ} → RefusedBy s q r → (from n i : ℕ) → Owned s from n → i < n → from + i < length s
 unfolding Owned
 place-few f from n i o h = place_inside f (from + i) (o (from + i) (among-number from n i h))
 
 module _ {s now : List ℕ} {from n i : ℕ} (w : Placing s now from n i) (h : i < n) where
-  place-test : {c : Change} → c ≡ first_value (mends_by now (from + i)) (from + i) TYPES → first_place (mends_by s) TYPES (numbers from n) ≡ or_else c (first_place (mends_by s) TYPES (numbers (from + i + 1) (n - (i + 1))))
+  place-test : {c : Option Change} → c ≡ first_value (mends_by now (from + i)) (from + i) TYPES → first_place (mends_by s) TYPES (numbers from n) ≡ or_else c (first_place (mends_by s) TYPES (numbers (from + i + 1) (n - (i + 1))))
   unfolding first_place numbers
   place-test {c} e =
       let m : n - i ≡ suc (n - (i + 1)) = omega arith in
       w.left ∙ ap (λ (k : ℕ). first_place (mends_by s) TYPES (numbers (from + i) k)) m
-      ∙ ap (λ (d : Change). or_else d (first_place (mends_by s) TYPES (numbers (from + i + 1) (n - (i + 1))))) (sym (e ∙ ap (λ (t : List ℕ). first_value (mends_by t (from + i)) (from + i) TYPES) w.same))
+      ∙ ap (λ (d : Option Change). or_else d (first_place (mends_by s) TYPES (numbers (from + i + 1) (n - (i + 1))))) (sym (e ∙ ap (λ (t : List ℕ). first_value (mends_by t (from + i)) (from + i) TYPES) w.same))
 
-  pub place-hit : {c : Change} {p x : ℕ} {later : List ℕ} → c ≡ first_value (mends_by now (from + i)) (from + i) TYPES → c ≡ To p x → later ≡ now → (To p x ≡ first_place (mends_by s) TYPES (numbers from n)) × (later ≡ s)
+  pub place-hit : {c : Option Change} {hit : Change} {later : List ℕ} → c ≡ first_value (mends_by now (from + i)) (from + i) TYPES → c ≡ Some hit → later ≡ now → (Some hit ≡ first_place (mends_by s) TYPES (numbers from n)) × (later ≡ s)
   unfolding or_else
   place-hit e f g = (sym (place-test e ∙ rw f refl), g ∙ w.same)
 
-  pub place-next : {c : Change} {later : List ℕ} → c ≡ first_value (mends_by now (from + i)) (from + i) TYPES → c ≡ Nowhere → later ≡ now → Placing s later from n (i + 1)
+  pub place-next : {c : Option Change} {later : List ℕ} → c ≡ first_value (mends_by now (from + i)) (from + i) TYPES → c ≡ None → later ≡ now → Placing s later from n (i + 1)
   unfolding or_else
   place-next e f g = let k : from + (i + 1) ≡ from + i + 1 = omega arith in record { same = g ∙ w.same; few = omega arith; left = place-test e ∙ rw (f, k) refl }
 
-pub place-last : {s now : List ℕ} {from n i : ℕ} → Placing s now from n i → n ≤ i → (Nowhere ≡ first_place (mends_by s) TYPES (numbers from n)) × (now ≡ s)
+pub place-last : {s now : List ℕ} {from n i : ℕ} → Placing s now from n i → n ≤ i → (None ≡ first_place (mends_by s) TYPES (numbers from n)) × (now ≡ s)
 unfolding first_place numbers
 place-last {n = n} {i = i} w h = let e : n - i ≡ 0 = omega arith in (sym (w.left ∙ rw e refl), w.same)
 
@@ -282,7 +273,7 @@ search-broken {s} {p = p} w e z = view-past s p (sym (e ∙ ap (λ (t : List ℕ
 pub search-past : {s now : List ℕ} {p : ℕ} → Searching s now p → length now ≤ p → view_at s p ≡ nowhere
 search-past {s} {p = p} w h = view-end s p (omega (arith, h, ap length w.same))
 
-pub search-nowhere : {s now : List ℕ} {p : ℕ} → Searching s now p → view_at s p ≡ nowhere → (Nowhere ≡ first_place (mends_by s) TYPES (places (program (records s)))) × (now ≡ s)
+pub search-nowhere : {s now : List ℕ} {p : ℕ} → Searching s now p → view_at s p ≡ nowhere → (None ≡ first_place (mends_by s) TYPES (places (program (records s)))) × (now ≡ s)
 unfolding first_place flat_map
 search-nowhere w e = (sym (w.left ∙ rw e refl), w.same)
 
@@ -299,16 +290,16 @@ module _ {s now : List ℕ} {p n k : ℕ} (w : Searching s now p) (m : Whole s p
     unfolding Owned
     search-owned = λ y a. w.owned y (subst (Among y) (sym here) (among_first y (numbers (p + 10) many) (places (view_at s (p + n)).versions) a))
 
-    search-test : {c : Change} → c ≡ first_place (mends_by now) TYPES (numbers (p + 10) many) → first_place (mends_by s) TYPES (places (program (records s))) ≡ or_else c (first_place (mends_by s) TYPES (places (view_at s (p + n)).versions))
+    search-test : {c : Option Change} → c ≡ first_place (mends_by now) TYPES (numbers (p + 10) many) → first_place (mends_by s) TYPES (places (program (records s))) ≡ or_else c (first_place (mends_by s) TYPES (places (view_at s (p + n)).versions))
     search-test f =
         w.left ∙ ap (first_place (mends_by s) TYPES) here ∙ places-both (mends_by s) TYPES (numbers (p + 10) many) (places (view_at s (p + n)).versions)
-        ∙ ap (λ (d : Change). or_else d (first_place (mends_by s) TYPES (places (view_at s (p + n)).versions))) (sym (f ∙ ap (λ (t : List ℕ). first_place (mends_by t) TYPES (numbers (p + 10) many)) w.same))
+        ∙ ap (λ (d : Option Change). or_else d (first_place (mends_by s) TYPES (places (view_at s (p + n)).versions))) (sym (f ∙ ap (λ (t : List ℕ). first_place (mends_by t) TYPES (numbers (p + 10) many)) w.same))
 
-    pub search-hit : {c : Change} {q v : ℕ} {later : List ℕ} → c ≡ first_place (mends_by now) TYPES (numbers (p + 10) many) → c ≡ To q v → later ≡ now → (To q v ≡ first_place (mends_by s) TYPES (places (program (records s)))) × (later ≡ s)
+    pub search-hit : {c : Option Change} {hit : Change} {later : List ℕ} → c ≡ first_place (mends_by now) TYPES (numbers (p + 10) many) → c ≡ Some hit → later ≡ now → (Some hit ≡ first_place (mends_by s) TYPES (places (program (records s)))) × (later ≡ s)
     unfolding or_else
     search-hit f g z = (sym (search-test f ∙ rw g refl), z ∙ w.same)
 
-    pub search-next : {c : Change} {later : List ℕ} → c ≡ first_place (mends_by now) TYPES (numbers (p + 10) many) → c ≡ Nowhere → later ≡ now → Searching s later (p + n)
+    pub search-next : {c : Option Change} {later : List ℕ} → c ≡ first_place (mends_by now) TYPES (numbers (p + 10) many) → c ≡ None → later ≡ now → Searching s later (p + n)
     unfolding or_else
     search-next f g z = record { same = z ∙ w.same; inside = l; left = search-test f ∙ rw g refl; owned = λ y a. w.owned y (subst (Among y) (sym here) (among_second y (numbers (p + 10) many) (places (view_at s (p + n)).versions) a)) }
 
@@ -328,33 +319,33 @@ copied s out e f =
         none (x ∷ l) = refl
 
 -- it is no longer than an image may be
-pub refused-short : {s : List ℕ} {q r : ℕ} → Refusal s q r → length s ≤ IMAGE
+pub refused-short : {s : List ℕ} {q r : ℕ} → RefusedBy s q r → length s ≤ IMAGE
 unfolding question1
 refused-short {s} {q} {r} f = leb-true _ _ (and_both _ _ (passed (ltb 0 (length s) and leb (length s) IMAGE) None 0 (sound-records s q r f.may f.refused).0).0).1
 
-pub found-short : {s : List ℕ} {q r : ℕ} {c : Change} → Refusal s q r → c ≡ first_place (mends_by s) TYPES (places (program (records s))) → c ≡ first_place (mends_by s) VALUES (places (program (records s)))
+pub found-short : {s : List ℕ} {q r : ℕ} {c : Option Change} → RefusedBy s q r → c ≡ first_place (mends_by s) TYPES (places (program (records s))) → c ≡ first_place (mends_by s) VALUES (places (program (records s)))
 found-short {s} {q} {r} f e = e ∙ short s q r f.may f.refused
 
-pub found-copied : {s now : List ℕ} {q r : ℕ} {c : Change} → now ≡ s → Refusal s q r → c ≡ first_place (mends_by now) TYPES (places (program (records now))) → c ≡ first_place (mends_by s) VALUES (places (program (records s)))
+pub found-copied : {s now : List ℕ} {q r : ℕ} {c : Option Change} → now ≡ s → RefusedBy s q r → c ≡ first_place (mends_by now) TYPES (places (program (records now))) → c ≡ first_place (mends_by s) VALUES (places (program (records s)))
 found-copied e f g = found-short f (g ∙ ap (λ (t : List ℕ). first_place (mends_by t) TYPES (places (program (records t)))) e)
 
 -- a change beside the refusal, or none
-pub beside-change : (q r : ℕ) {c d : Change} {p x : ℕ} → c ≡ d → c ≡ To p x → Byte q r p x ≡ beside q r d
+pub beside-change : (why : Refusal) {c d : Option Change} {hit : Change} → c ≡ d → c ≡ Some hit → Byte why hit ≡ beside why d
 unfolding beside
-beside-change q r e f = ap (beside q r) (sym f ∙ e)
+beside-change why e f = ap (beside why) (sym f ∙ e)
 
-pub beside-nowhere : (q r : ℕ) {c d : Change} → c ≡ d → c ≡ Nowhere → Unmended q r ≡ beside q r d
+pub beside-nowhere : (why : Refusal) {c d : Option Change} → c ≡ d → c ≡ None → Unmended why ≡ beside why d
 unfolding beside
-beside-nowhere q r e f = ap (beside q r) (sym f ∙ e)
+beside-nowhere why e f = ap (beside why) (sym f ∙ e)
 
-pub mend-accepted : (s : List ℕ) (n : ℕ) → verdict_of s ≡ Verdict.Accepted n → Accepted n ≡ mend_of s
+pub mend-accepted : (s : List ℕ) (n : ℕ) → verdict_of s ≡ Ok n → Accepted n ≡ mend_of s
 unfolding mend_of mend_after
 mend-accepted s n e = rw e refl
 
-pub mend-other : (s : List ℕ) (q r : ℕ) {b : Bool} → verdict_of s ≡ Verdict.Refused q r → b ≡ mendable q → b ≡ false → Refused q r ≡ mend_of s
+pub mend-other : (s : List ℕ) (why : Refusal) {b : Bool} → verdict_of s ≡ Err why → b ≡ mendable why.question → b ≡ false → Refused why ≡ mend_of s
 unfolding mend_of mend_after
-mend-other s q r e f g = rw (e, sym f, g) refl
+mend-other s why e f g = rw (e, sym f, g) refl
 
-pub mend-refused : (s : List ℕ) (q r : ℕ) {m : Mended} {b : Bool} → verdict_of s ≡ Verdict.Refused q r → b ≡ mendable q → b ≡ true → m ≡ beside q r (first_place (mends_by s) VALUES (places (program (records s)))) → m ≡ mend_of s
+pub mend-refused : (s : List ℕ) (why : Refusal) {m : Mended} {b : Bool} → verdict_of s ≡ Err why → b ≡ mendable why.question → b ≡ true → m ≡ beside why (first_place (mends_by s) VALUES (places (program (records s)))) → m ≡ mend_of s
 unfolding mend_of mend_after
-mend-refused s q r e f g h = h ∙ sym (rw (e, sym f, g) refl)
+mend-refused s why e f g h = h ∙ sym (rw (e, sym f, g) refl)

@@ -1,5 +1,5 @@
 -- A change of a register type byte leaves the table of versions as it is.
-use Rattle.std.specs.Prelude.{None, Some}
+use Rattle.std.specs.Prelude.{None, Some, Err}
 use mathlib.Core.Path.{◌≡◌, refl, ap, ap₂, ◌∙◌}
 use Rattle.layout.specs.Found.{Found}
 use mathlib.Core.List.{List, [], ◌∷◌, map}
@@ -11,8 +11,7 @@ use Rattle.layout.specs.Bounds.{VERSIONS, FUNCTIONS}
 use Rattle.layout.specs.Records.{records}
 use Rattle.program.specs.Program.{Version, Program, program, find_version}
 use Rattle.program.specs.Places.{place_of, version_place, offset_of, numbers, table_entry, table_of}
-use Rattle.checker.specs.Verdicts.{verdict_of}
-use Rattle.checker.specs.declared.Verdict.TheVariants.{Refused}
+use Rattle.checker.specs.Verdicts.{verdict_of, refused}
 use Rattle.mends.specs.Mends.{places, mendable}
 use Rattle.mends.specs.Parts.{Among}
 use Rattle.mends.specs.Retyped.{retype_one}
@@ -33,7 +32,7 @@ map_same : (f g : ℕ → ℕ) → ((k : ℕ) → f k ≡ g k) → (l : List ℕ
 map_same f g h [] = refl
 map_same f g h (k ∷ l) = ap₂ ◌∷◌ (h k) (map_same f g h l)
 
-pub table_kept : (s : List ℕ) (q r : ℕ) → mendable q ≡ true → verdict_of s ≡ Refused q r → (p x : ℕ) → Among p (places (program (records s))) → table_of (set s p x) ≡ table_of s
+pub table_kept : (s : List ℕ) (q r : ℕ) → mendable q ≡ true → verdict_of s ≡ Err (refused q r) → (p x : ℕ) → Among p (places (program (records s))) → table_of (set s p x) ≡ table_of s
 unfolding table_of table_entry version_place
 table_kept s q r m e p x a = map_same (table_entry (set s p x)) (table_entry s) entry (numbers 0 (FUNCTIONS * VERSIONS))
   where

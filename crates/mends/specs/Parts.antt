@@ -1,5 +1,5 @@
 -- What the parts of the search for a mend state to each other.
-use Rattle.std.specs.Prelude.{◌≡◌, ◌⊎◌, List, [], ◌∷◌, Bool, true, false, ℕ, set, None}
+use Rattle.std.specs.Prelude.{◌≡◌, ◌⊎◌, List, [], ◌∷◌, Bool, true, false, ℕ, set, None, Err}
 use Rattle.layout.specs.Records.{records, choose}
 use Rattle.program.specs.Program.{Program, program}
 use Rattle.program.specs.Search.{Question, first}
@@ -7,8 +7,7 @@ use Rattle.program.specs.Places.{asked, numbers, table_of}
 use Rattle.program.specs.declared.Here.{Here}
 use Rattle.rules.specs.Questions.{question6, question8, question9}
 use Rattle.rules.specs.Flows.{question10}
-use Rattle.checker.specs.Verdicts.{verdict_of}
-use Rattle.checker.specs.declared.Verdict.{Verdict}
+use Rattle.checker.specs.Verdicts.{verdict_of, refused}
 use Rattle.mends.specs.Mends.{mendable, mends_by, places}
 
 -- the values that can mend: the type bytes, lowest first
@@ -33,13 +32,13 @@ unfoldable pub Told : ℕ → Here → ℕ → List ℕ → Type 0
 Told q h r s = (p x : ℕ) → Among p (places (program (records s))) → Passing q h r (set s p x)
 
 -- an image that is refused by q, which may be mended
-pub record Refusal (s : List ℕ) (q r : ℕ) : Type 0 where
+pub record RefusedBy (s : List ℕ) (q r : ℕ) : Type 0 where
   pub may : mendable q ≡ true
-  pub refused : verdict_of s ≡ Verdict.Refused q r
+  pub refused : verdict_of s ≡ Err (refused q r)
 
 -- it is refused at the record at r, where a pass stands at h; t is its table of versions
 pub record Failing (s t : List ℕ) (q r : ℕ) (h : Here) : Type 0 where
-  pub refusal : Refusal s q r
+  pub refusal : RefusedBy s q r
   pub table : t ≡ table_of s
   pub told : Told q h r s
 

@@ -8,30 +8,29 @@ ghost use Rattle.program.specs.Places.{asked, numbers, table_of};
 ghost use Rattle.rules.specs.Types.{is_owned};
 ghost use Rattle.checker.specs.Verdicts.{verdict_of};
 ghost use Rattle.mends.specs.Mends.{VALUES, beside, first_place, first_value, is_accepted, mend_of, mendable, mends_by, places};
-ghost use Rattle.mends.specs.Parts.{Among, Failing, Helps, Owned, Passing, Refusal, TYPES, Told, question_by};
+ghost use Rattle.mends.specs.Parts.{Among, Failing, Helps, Owned, Passing, RefusedBy, TYPES, Told, question_by};
 
-use checker::{Verdict, questions};
+use checker::{Refusal, questions};
 use flow::question10;
 use layout::kinds;
 use program::{Here, lookup, pass};
 use typing::{question6, question8, question9};
 
-/// A register type byte and its new value, or that none mends.
-#[derive(Clone, Copy)]
-pub enum Change {
-    To(usize, u8),
-    Nowhere,
+/// A register type byte, by its offset, and its new value.
+#[derive(Clone, Copy, Debug, PartialEq, Eq)]
+pub struct Change {
+    pub at: usize,
+    pub value: u8,
 }
 
 /// What can be done for an image: nothing need be, it is accepted, with its number of versions; nothing can, it is refused by another
-/// question than 6, 8, 9 and 10, with its number and the offset; beside such a refusal the offset of the byte and its new value, or
-/// that no such byte exists.
+/// question than 6, 8, 9 and 10; beside such a refusal the byte and its new value, or that no such byte exists.
 #[derive(Clone, Copy)]
 pub enum Mended {
     Accepted(usize),
-    Refused(u8, usize),
-    Byte(u8, usize, usize, u8),
-    Unmended(u8, usize),
+    Refused(Refusal),
+    Byte(Refusal, Change),
+    Unmended(Refusal),
 }
 
 /// The question of flow.
@@ -67,10 +66,10 @@ fn type_byte(i: usize) -> u8
     35
 }
 
-/// Where a pass along the records stands at the record at `r`, at which the question `q` refused the image.
-fn standing(image: &[u8], q: u8, r: usize) -> Here
-    requires { Refusal image.now q r }
-    ensures { Told q result r image.now }
+/// Where a pass along the records stands at the record at which a question refused the image.
+fn standing(image: &[u8], why: Refusal) -> Here
+    requires { RefusedBy image.now why.question why.at }
+    ensures { Told why.question result why.at image.now }
 {
     let mut p: usize = 0;
     let mut here = Here {
@@ -80,7 +79,7 @@ fn standing(image: &[u8], q: u8, r: usize) -> Here
     while p < image.len() {
         let n = layout::size_at(image, p);
         here = pass::moved(image, here, p);
-        if p == r {
+        if p == why.at {
             return here;
         }
         p += n;
@@ -88,46 +87,35 @@ fn standing(image: &[u8], q: u8, r: usize) -> Here
     here
 }
 
-/// What the question `q` asks of the record at `r`, where a pass stands at `here`.
-fn passes(image: &[u8], table: &[usize; 128], q: u8, here: Here, r: usize) -> bool
+/// What the question that refused asks of the record that failed, where a pass stands at `here`.
+fn passes(image: &[u8], table: &[usize; 128], why: Refusal, here: Here) -> bool
     requires { table.now ≡ table_of image.now }
-    ensures { result ≡ asked (question_by q (program (records image.now))) image.now here r }
+    ensures { result ≡ asked (question_by why.question (program (records image.now))) image.now here why.at }
 {
-    match q {
-        6 => question6::types_at(image, here, r),
-        8 => question8::fits_at(image, table, here, r),
-        9 => question9::covers_at(image, table, here, r),
-        _ => question10::flows_at(image, table, here, r),
+    match why.question {
+        6 => question6::types_at(image, here, why.at),
+        8 => question8::fits_at(image, table, here, why.at),
+        9 => question9::covers_at(image, table, here, why.at),
+        _ => question10::flows_at(image, table, here, why.at),
     }
 }
 
 /// Is the image accepted? The record that failed is asked first.
-fn accepts(image: &[u8], table: &[usize; 128], q: u8, here: Here, r: usize) -> bool
+fn accepts(image: &[u8], table: &[usize; 128], why: Refusal, here: Here) -> bool
     requires table_value { table.now ≡ table_of image.now }
-    requires passing { Passing q here r image.now }
+    requires passing { Passing why.question here why.at image.now }
     ensures { result ≡ is_accepted (verdict_of image.now) }
 {
-    if passes(image, table, q, here, r) {
-        match questions::verdict(image) {
-            Verdict::Accepted(_) => true,
-            Verdict::Refused(_, _) => false,
-        }
+    if passes(image, table, why, here) {
+        questions::verdict(image).is_ok()
     } else {
         false
     }
 }
 
 /// Does the byte at `p`, changed to `x`, make the image accepted? It is changed back.
-fn mends(
-    image: &mut [u8],
-    table: &[usize; 128],
-    q: u8,
-    here: Here,
-    r: usize,
-    p: usize,
-    x: u8,
-) -> bool
-    requires failing { Failing image.old table.now q r here }
+fn mends(image: &mut [u8], table: &[usize; 128], why: Refusal, here: Here, p: usize, x: u8) -> bool
+    requires failing { Failing image.old table.now why.question why.at here }
     requires among { Among p (places (program (records image.old))) }
     ensures { (result ≡ mends_by image.old p x) × (image.new ≡ image.old) }
 {
@@ -136,7 +124,7 @@ fn mends(
         return false;
     }
     image[p] = x;
-    let m = accepts(image, table, q, here, r);
+    let m = accepts(image, table, why, here);
     image[p] = old;
     m
 }
@@ -152,112 +140,117 @@ fn other_ownership(t: u8) -> u8
 }
 
 /// Can a change of the byte at `p` help? Flow looks at a type by whether it is owned alone, so that one value tells of all that 10 may let pass.
-fn may_help(image: &mut [u8], table: &[usize; 128], q: u8, here: Here, r: usize, p: usize) -> bool
-    requires failing { Failing image.old table.now q r here }
+fn may_help(image: &mut [u8], table: &[usize; 128], why: Refusal, here: Here, p: usize) -> bool
+    requires failing { Failing image.old table.now why.question why.at here }
     requires among { Among p (places (program (records image.old))) }
     ensures { (Helps result image.old p) × (image.new ≡ image.old) }
 {
-    if q != FLOW {
+    if why.question != FLOW {
         return true;
     }
     let was = image[p];
     let x = other_ownership(was);
     image[p] = x;
-    let m = passes(image, table, q, here, r);
+    let m = passes(image, table, why, here);
     image[p] = was;
     m
 }
 
 /// The lowest value of the byte at `p` that mends.
-fn value_at(image: &mut [u8], table: &[usize; 128], q: u8, here: Here, r: usize, p: usize) -> Change
-    requires failing { Failing image.old table.now q r here }
+fn value_at(
+    image: &mut [u8],
+    table: &[usize; 128],
+    why: Refusal,
+    here: Here,
+    p: usize,
+) -> Option<Change>
+    requires failing { Failing image.old table.now why.question why.at here }
     requires among { Among p (places (program (records image.old))) }
     ensures { (result ≡ first_value (mends_by image.old p) p TYPES) × (image.new ≡ image.old) }
 {
-    if !may_help(image, table, q, here, r, p) {
-        return Change::Nowhere;
+    if !may_help(image, table, why, here, p) {
+        return None;
     }
     let mut i: usize = 0;
     while i < 8 {
         let x = type_byte(i);
-        if mends(image, table, q, here, r, p, x) {
-            return Change::To(p, x);
+        if mends(image, table, why, here, p, x) {
+            return Some(Change { at: p, value: x });
         }
         i += 1;
     }
-    Change::Nowhere
+    None
 }
 
 /// The lowest of `n` register type bytes from `from` on that mends.
 fn place_in(
     image: &mut [u8],
     table: &[usize; 128],
-    q: u8,
+    why: Refusal,
     here: Here,
-    r: usize,
     from: usize,
     n: usize,
-) -> Change
-    requires failing { Failing image.old table.now q r here }
+) -> Option<Change>
+    requires failing { Failing image.old table.now why.question why.at here }
     requires owned { Owned image.old from n }
     ensures { (result ≡ first_place (mends_by image.old) TYPES (numbers from n)) × (image.new ≡ image.old) }
 {
     let mut i: usize = 0;
     while i < n {
-        if let Change::To(p, x) = value_at(image, table, q, here, r, from + i) {
-            return Change::To(p, x);
+        if let Some(hit) = value_at(image, table, why, here, from + i) {
+            return Some(hit);
         }
         i += 1;
     }
-    Change::Nowhere
+    None
 }
 
 /// The lowest register type byte that mends.
-fn search(image: &mut [u8], table: &[usize; 128], q: u8, here: Here, r: usize) -> Change
-    requires { Failing image.old table.now q r here }
+fn search(image: &mut [u8], table: &[usize; 128], why: Refusal, here: Here) -> Option<Change>
+    requires { Failing image.old table.now why.question why.at here }
     ensures { (result ≡ first_place (mends_by image.old) TYPES (places (program (records image.old)))) × (image.new ≡ image.old) }
 {
     let mut p: usize = 0;
     while p < image.len() {
         let n = layout::size_at(image, p);
         if n == 0 {
-            return Change::Nowhere;
+            return None;
         }
         if layout::kind_at(image, p) == kinds::VERSION {
             let many = lookup::registers(image, p);
-            if let Change::To(at, x) = place_in(image, table, q, here, r, p + TYPES_AT, many) {
-                return Change::To(at, x);
+            if let Some(hit) = place_in(image, table, why, here, p + TYPES_AT, many) {
+                return Some(hit);
             }
             p += n;
         } else {
             p += n;
         }
     }
-    Change::Nowhere
+    None
 }
 
-/// The mend of an image that the question `q` refused at `r`, tried in a copy of its length.
-fn mend_in(image: &[u8], copy: &mut [u8], q: u8, r: usize) -> Change
-    requires refusal { Refusal image.now q r }
+/// The mend of an image that is refused, tried in a copy of its length.
+fn mend_in(image: &[u8], copy: &mut [u8], why: Refusal) -> Option<Change>
+    requires refusal { RefusedBy image.now why.question why.at }
     requires copy_len { length copy.old ≡ length image.now }
     ensures { result ≡ first_place (mends_by image.now) VALUES (places (program (records image.now))) }
 {
     writer::put_bytes(copy, 0, image);
     let table = lookup::versions(image);
-    let here = standing(image, q, r);
-    search(copy, &table, q, here, r)
+    let here = standing(image, why);
+    search(copy, &table, why, here)
 }
 
-/// The mend of an image that the question `q` refused at `r`.
-fn mend_refused(image: &[u8], q: u8, r: usize) -> Mended
-    requires { Refusal image.now q r }
-    ensures { result ≡ beside q r (first_place (mends_by image.now) VALUES (places (program (records image.now)))) }
+/// The mend of an image that is refused.
+fn mend_refused(image: &[u8], why: Refusal) -> Mended
+    requires { RefusedBy image.now why.question why.at }
+    ensures { result ≡ beside why (first_place (mends_by image.now) VALUES (places (program (records image.now)))) }
 {
     let n = image.len();
     let mut copy = [0u8; 32768];
-    match mend_in(image, &mut copy[0..n], q, r) {
-        Change::To(p, x) => Mended::Byte(q, r, p, x),
-        Change::Nowhere => Mended::Unmended(q, r),
+    match mend_in(image, &mut copy[0..n], why) {
+        Some(hit) => Mended::Byte(why, hit),
+        None => Mended::Unmended(why),
     }
 }
 
@@ -266,12 +259,12 @@ pub fn mend(image: &[u8]) -> Mended
     ensures { result ≡ mend_of image.now }
 {
     match questions::verdict(image) {
-        Verdict::Accepted(n) => Mended::Accepted(n),
-        Verdict::Refused(q, r) => {
-            if may_mend(q) {
-                mend_refused(image, q, r)
+        Ok(n) => Mended::Accepted(n),
+        Err(why) => {
+            if may_mend(why.question) {
+                mend_refused(image, why)
             } else {
-                Mended::Refused(q, r)
+                Mended::Refused(why)
             }
         }
     }

@@ -1,4 +1,5 @@
 -- How long a moved image is: four bytes more or fewer for each literal.
+use Rattle.std.specs.Prelude.{Ok}
 use mathlib.Core.Path.{◌≡◌, refl, ap, ◌∙◌}
 use mathlib.Core.List.{List, [], ◌∷◌, map}
 use mathlib.Core.Bool.{Bool, true, false, cond}
@@ -13,7 +14,6 @@ use Rattle.layout.specs.declared.Form.{Form}
 use Rattle.layout.proofs.Lists.{Each}
 use Rattle.layout.proofs.Printed.{record-long, verbatim}
 use Rattle.checker.specs.Verdicts.{verdict_in}
-use Rattle.checker.specs.declared.Verdict.{Verdict}
 use Rattle.checker.proofs.Accepted.{passed}
 use Rattle.runs.proofs.Moved.{Known, all_known, literal-long, number-long}
 use Rattle.runs.proofs.Longer.{long-enough}
@@ -73,13 +73,13 @@ records-widened (r ∷ rs) k =
 -- ---- an accepted image
 
 module _ (s : List ℕ) (b : (i : ℕ) → s ! i < 256) (n : ℕ) where
-  narrowed : verdict_in Form.Wide s ≡ Verdict.Accepted n → length (result Form.Wide s) + 4 * literals Form.Wide (records s) ≡ length s
+  narrowed : verdict_in Form.Wide s ≡ Ok n → length (result Form.Wide s) + 4 * literals Form.Wide (records s) ≡ length s
   unfolding moved
   narrowed e =
       let p = passed s n e in
       records-narrowed (records s) (all_known Form.Wide s b p.q2 p.q3) ∙ ap length (verbatim s b p.q2)
 
-  widened : verdict_in Form.Narrow s ≡ Verdict.Accepted n → (length (result Form.Narrow s) ≡ length s + 4 * literals Form.Narrow (records s)) × (9 * literals Form.Narrow (records s) ≤ length s)
+  widened : verdict_in Form.Narrow s ≡ Ok n → (length (result Form.Narrow s) ≡ length s + 4 * literals Form.Narrow (records s)) × (9 * literals Form.Narrow (records s) ≤ length s)
   unfolding moved
   widened e =
       let p = passed s n e in

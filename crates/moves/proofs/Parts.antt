@@ -1,5 +1,5 @@
 -- What a pass along the records of an image that it moves knows at each record.
-use Rattle.std.specs.Prelude.{None, Some}
+use Rattle.std.specs.Prelude.{None, Some, Err, Ok, Result}
 use mathlib.Core.Path.{◌≡◌, refl, sym, ap, ◌∙◌}
 use Rattle.layout.specs.Found.{Found}
 use mathlib.Core.List.{List, [], ◌∷◌, ◌++◌, append_assoc}
@@ -18,20 +18,17 @@ use Rattle.layout.specs.Forms.{literal_kind, literal_length, record_bytes, print
 use Rattle.layout.specs.Questions.{length_of, fitting, same, nothing, question3}
 use Rattle.layout.specs.declared.Form.{Form}
 use Rattle.layout.proofs.Printed.{body-long, record-slice}
-use Rattle.layout.proofs.Walk.{Along, ended, broken, refused, passed, rest-cons, rest_end, size-head, size_room}
+use Rattle.layout.proofs.Walk.{Along, ended, broken, refused as unmet, passed, rest-cons, rest_end, size-head, size_room}
 use Rattle.runs.proofs.Moved.{number-long}
-use Rattle.checker.specs.Verdicts.{verdict_in}
-use Rattle.checker.specs.declared.Verdict.{Verdict}
+use Rattle.checker.specs.Verdicts.{ask, verdict_in, refused}
 use Rattle.checker.proofs.Accepted.{passed as all-passed}
-use Rattle.checker.proofs.Asks.{accepted-short}
+use Rattle.checker.proofs.Asks.{accepted-short, still-refused}
 use Rattle.checker.proofs.Puts.{Put, Writing, put_as, put_then, writing-as, writing-first, writing-fits, writing-last, writing-next}
 use Rattle.writer.proofs.Placed.{placed-length}
 use Rattle.writer.specs.Text.{placed}
-use Rattle.moves.specs.Moves.{after, asking, buffer_after, fitting32, from16, leaves, move_of, question16, question17}
-use Rattle.moves.specs.declared.Moving.{Moving}
-use Rattle.moves.specs.declared.Moving.TheVariants.{Written, Refused}
-use Rattle.moves.specs.Parts.{Ready, Stands, head_of, moved_at, measured, sign_of}
-use Rattle.moves.specs.declared.Extent.TheVariants.{Long, Unfit}
+use Rattle.moves.specs.Moves.{after, buffer_after, fitting32, from16, leaves, move_of, question16, question17}
+use Rattle.moves.specs.Parts.{Ready, Stands, head_of, moved_at, sign_of}
+use Rattle.checker.specs.declared.Refusal.{Refusal}
 
 -- where question 3 found nothing, it finds nothing from p on
 abbrev pub Rest : Form → List ℕ → ℕ → Type 0
@@ -50,7 +47,7 @@ standing form s p b w h = record { bytes = b; inside = h; whole = λ z. no_place
   where
     go : (t : Bool) → eqb (size_at s p) (length_of form (kind_at s p) (body_at s p)) ≡ t → size_at s p ≡ length_of form (kind_at s p) (body_at s p)
     go true e = eqb-true _ _ e
-    go false e = absurd (no_place p (refused w h e))
+    go false e = absurd (no_place p (unmet w h e))
 
 room : (form : Form) (n : ℕ) → literal_length form ≡ n → literal_length (other form) ≤ n + 4
 unfolding literal_length other
@@ -195,13 +192,13 @@ unfolding question16
 measure-first form s r = record { three = rest-first form s r.known; sixteen = record { inside = omega arith; left = refl }; left = sym (zero-add _); small = omega arith }
 
 module _ {form : Form} {s : List ℕ} {p total : ℕ} (r : Ready form s) (w : Measuring form s p total) where
-  pub measured-end : length s ≤ p → Long total ≡ measured (question16 form (records s)) (length (moved form (records s)))
-  unfolding measured
+  pub measured-end : length s ≤ p → Ok total ≡ ask 16 (question16 form (records s)) (Ok (length (moved form (records s))))
+  unfolding ask
   measured-end h = rw (sym (ended w.sixteen h), w.left, moved-end form s p h, add-zero) refl
 
-  pub measured-unfit : p < length s → fitting32 form tt (rec_at s p) ≡ false → Unfit p ≡ measured (question16 form (records s)) (length (moved form (records s)))
-  unfolding measured
-  measured-unfit h e = rw (sym (refused w.sixteen h e)) refl
+  pub measured-unfit : p < length s → fitting32 form tt (rec_at s p) ≡ false → Err (refused 16 p) ≡ ask 16 (question16 form (records s)) (Ok (length (moved form (records s))))
+  unfolding ask
+  measured-unfit h e = rw (sym (unmet w.sixteen h e)) refl
 
   pub measuring-stands : p < length s → Stands form s p
   measuring-stands h = standing form s p r.bytes w.three h
@@ -247,51 +244,46 @@ module _ {form : Form} {s x y : List ℕ} {p at : ℕ} (r : Ready form s) (w : M
 -- ---- the answer
 
 module _ (n places : ℕ) (out t : List ℕ) where
-  pub says-long : IMAGE < n → (Refused 17 0 ≡ asking 17 (question17 n places) (Written n)) × (out ≡ leaves (Refused 17 0) out t)
-  unfolding asking question17 leaves ◌and◌
+  pub says-long : IMAGE < n → (Err (refused 17 0) ≡ ask 17 (question17 n places) (Ok n)) × (out ≡ leaves (Err (refused 17 0)) out t)
+  unfolding ask question17 leaves ◌and◌
   says-long h = (rw (lt-leb n IMAGE h) refl, refl)
 
-  pub says-short : places < n → (Refused 17 0 ≡ asking 17 (question17 n places) (Written n)) × (out ≡ leaves (Refused 17 0) out t)
-  unfolding asking question17 leaves ◌and◌
+  pub says-short : places < n → (Err (refused 17 0) ≡ ask 17 (question17 n places) (Ok n)) × (out ≡ leaves (Err (refused 17 0)) out t)
+  unfolding ask question17 leaves ◌and◌
   says-short h = (rw (lt-leb n places h) (go (leb n IMAGE)), refl)
     where
-      go : (b : Bool) → Refused 17 0 ≡ asking 17 (cond (b and false) None (Some 0)) (Written n)
+      go : (b : Bool) → Err (refused 17 0) ≡ ask 17 (cond (b and false) None (Some 0)) (Ok n)
       go true = refl
       go false = refl
 
-  pub says-written : {last : List ℕ} → n ≤ IMAGE → n ≤ places → last ≡ placed out 0 t → (Written n ≡ asking 17 (question17 n places) (Written n)) × (last ≡ leaves (Written n) out t)
-  unfolding asking question17 leaves ◌and◌
+  pub says-written : {last : List ℕ} → n ≤ IMAGE → n ≤ places → last ≡ placed out 0 t → (Ok n ≡ ask 17 (question17 n places) (Ok n)) × (last ≡ leaves (Ok n) out t)
+  unfolding ask question17 leaves ◌and◌
   says-written h l e = (rw (le-leb n IMAGE h, le-leb n places l) refl, e)
 
 -- what was measured says what 16 found
-pub found-unfit : (f : Found) (n p : ℕ) → Unfit p ≡ measured f n → f ≡ Some p
-unfolding measured
-found-unfit None n p e = let z : ◌≡◌ {A = ℕ} 0 1 = cc in absurd (omega (arith, z))
-found-unfit (Some q) n p e = let z : q ≡ p = cc in ap Some z
-
-pub found_none : (f : Found) (n m : ℕ) → Long m ≡ measured f n → (f ≡ None) × (m ≡ n)
-unfolding measured
+pub found_none : (f : Found) (n m : ℕ) → Ok m ≡ ask 16 f (Ok n) → (f ≡ None) × (m ≡ n)
+unfolding ask
 found_none None n m e = let z : m ≡ n = cc in (refl, z)
 found_none (Some q) n m e = let z : ◌≡◌ {A = ℕ} 0 1 = cc in absurd (omega (arith, z))
 
-pub unfit-says : (form : Form) (s out t : List ℕ) (p : ℕ) → question16 form (records s) ≡ Some p → (Refused 16 p ≡ from16 form s (length out)) × (out ≡ leaves (Refused 16 p) out t)
-unfolding asking leaves
-unfit-says form s out t p e = (rw e refl, refl)
+pub unfit-says : (form : Form) (s out t : List ℕ) (n : ℕ) (why : Refusal) → Err why ≡ ask 16 (question16 form (records s)) (Ok n) → (Err why ≡ from16 form s (length out)) × (out ≡ leaves (Err why) out t)
+unfolding leaves
+unfit-says form s out t n why e = (sym (still-refused 16 _ _ _ (sym e)), refl)
 
-pub fit-says : (form : Form) (s : List ℕ) (n places : ℕ) {r : Moving} → question16 form (records s) ≡ None → n ≡ length (moved form (records s)) → r ≡ asking 17 (question17 n places) (Written n) → r ≡ from16 form s places
-unfolding asking
+pub fit-says : (form : Form) (s : List ℕ) (n places : ℕ) {r : Result ℕ Refusal} → question16 form (records s) ≡ None → n ≡ length (moved form (records s)) → r ≡ ask 17 (question17 n places) (Ok n) → r ≡ from16 form s places
+unfolding ask
 fit-says form s n places e f g = g ∙ rw (e, f) refl
 
 -- ---- behind the verdict
 
 module _ (form : Form) (s : List ℕ) where
-  pub ready : (k : ℕ) → ((i : ℕ) → s ! i < 256) → verdict_in form s ≡ Verdict.Accepted k → Ready form s
+  pub ready : (k : ℕ) → ((i : ℕ) → s ! i < 256) → verdict_in form s ≡ Ok k → Ready form s
   ready k b e = record { bytes = b; short = accepted-short form s k e; known = (all-passed s k e).q3 }
 
-  pub accepted-says : {r : Moving} {last : List ℕ} (k : ℕ) (out : List ℕ) → verdict_in form s ≡ Verdict.Accepted k → r ≡ from16 form s (length out) → last ≡ leaves r out (moved form (records s)) → (r ≡ move_of form s (length out)) × (last ≡ buffer_after form s out)
+  pub accepted-says : {r : Result ℕ Refusal} {last : List ℕ} (k : ℕ) (out : List ℕ) → verdict_in form s ≡ Ok k → r ≡ from16 form s (length out) → last ≡ leaves r out (moved form (records s)) → (r ≡ move_of form s (length out)) × (last ≡ buffer_after form s out)
   unfolding move_of after
-  accepted-says {r} {last} k out e f g = let z : r ≡ move_of form s (length out) = f ∙ sym (rw e refl) in (z, g ∙ ap (λ (m : Moving). leaves m out (moved form (records s))) z)
+  accepted-says {r} {last} k out e f g = let z : r ≡ move_of form s (length out) = f ∙ sym (rw e refl) in (z, g ∙ ap (λ (m : Result ℕ Refusal). leaves m out (moved form (records s))) z)
 
-  pub refused_says : (q p : ℕ) (out : List ℕ) → verdict_in form s ≡ Verdict.Refused q p → (Refused q p ≡ move_of form s (length out)) × (out ≡ buffer_after form s out)
+  pub refused_says : (why : Refusal) (out : List ℕ) → verdict_in form s ≡ Err why → (Err why ≡ move_of form s (length out)) × (out ≡ buffer_after form s out)
   unfolding move_of after leaves
-  refused_says q p out e = (rw e refl, rw e refl)
+  refused_says why out e = (rw e refl, rw e refl)

@@ -1,5 +1,5 @@
 -- 02, 6: a move that is written gives an image that is asked, printed and run as the one that it was, and there and back is that image.
-use Rattle.std.specs.Prelude.{None, Some}
+use Rattle.std.specs.Prelude.{None, Some, Err, Ok, Result}
 use mathlib.Core.Path.{◌≡◌, refl, sym, ap, ◌∙◌}
 use Rattle.layout.specs.Found.{Found}
 use mathlib.Core.Logic.{◌⊎◌, inl, inr}
@@ -21,9 +21,8 @@ use Rattle.layout.proofs.Bools.{and_both}
 use Rattle.layout.proofs.Lists.{Each, each_both, each-then}
 use Rattle.layout.proofs.Printed.{all_pass}
 use Rattle.program.specs.Program.{program, number_in}
-use Rattle.checker.specs.Verdicts.{verdict_in}
+use Rattle.checker.specs.Verdicts.{verdict_in, Verdict, ask}
 use Rattle.checker.specs.Reports.{report_in}
-use Rattle.checker.specs.declared.Verdict.{Verdict}
 use Rattle.checker.proofs.Accepted.{passed}
 use Rattle.checker.proofs.Alike.{answer-shape}
 use Rattle.rules.proofs.Shapes.{shape}
@@ -33,23 +32,18 @@ use Rattle.runs.proofs.Widened.{Literal, Kept, Widened, old-whole, new-whole, fo
 use Rattle.runs.proofs.Moved.{Known, Returns, all_known, all-return, literal-long, moved-bytes, not-literal, records-narrower, records-wider, there_and_back}
 use Rattle.runs.proofs.Longer.{long-enough, moved-one, narrow-accepted, wide-accepted}
 use Rattle.runs.proofs.SixtyFour.{sixty-four}
-use Rattle.moves.specs.Moves.{fits32, fitting32, question16, question17, asking, after, move_of}
+use Rattle.checker.proofs.Asks.{asked}
+use Rattle.moves.specs.Moves.{fits32, fitting32, question16, question17, after, move_of}
 use Rattle.moves.specs.Claims.{result, Moves, MovedWhole, MovedAccepted, SameReport, ThereAndBack, RunsAgree, MovedAlike, narrow_of, wide_of}
-use Rattle.moves.specs.declared.Moving.{Moving}
-use Rattle.moves.specs.declared.Moving.TheVariants.{Written, Refused}
 use Rattle.moves.proofs.Numbers.{fitting-returns, narrow-fits}
+use Rattle.checker.specs.declared.Refusal.{Refusal}
 
 -- ---- what a written move passed
 
-after-written : (v : Verdict) (more : Moving) (m : ℕ) → after v more ≡ Written m → ((n : ℕ) × (v ≡ Verdict.Accepted n)) × (more ≡ Written m)
+after-written : (v : Verdict) (more : Result ℕ Refusal) (m : ℕ) → after v more ≡ Ok m → ((n : ℕ) × (v ≡ Ok n)) × (more ≡ Ok m)
 unfolding after
-after-written (Verdict.Accepted n) more m e = ((n, refl), e)
-after-written (Verdict.Refused q p) more m e = let z : ◌≡◌ {A = ℕ} 0 1 = cc in absurd (omega arith)
-
-asking-written : (n : ℕ) (f : Found) (more : Moving) (m : ℕ) → asking n f more ≡ Written m → (f ≡ None) × (more ≡ Written m)
-unfolding asking
-asking-written n None more m e = (refl, e)
-asking-written n (Some p) more m e = let z : ◌≡◌ {A = ℕ} 0 1 = cc in absurd (omega arith)
+after-written (Ok n) more m e = ((n, refl), e)
+after-written (Err why) more m e = let z : ◌≡◌ {A = ℕ} 0 1 = cc in absurd (omega arith)
 
 short-enough : (n places : ℕ) → question17 n places ≡ None → (n ≤ IMAGE) × (n ≤ places)
 unfolding question17
@@ -81,7 +75,7 @@ all_fit Form.Wide rs k e =
 record Made (form : Form) (s : List ℕ) (places m : ℕ) : Type 0 where
   bytes : (i : ℕ) → s ! i < 256
   versions : ℕ
-  accepted : verdict_in form s ≡ Verdict.Accepted versions
+  accepted : verdict_in form s ≡ Ok versions
   size : m ≡ length (result form s)
   short : m ≤ IMAGE
   room : m ≤ places
@@ -89,16 +83,16 @@ record Made (form : Form) (s : List ℕ) (places m : ℕ) : Type 0 where
   back : result (other form) (result form s) ≡ s
   returns : Each (Returns form) (records s)
 
-carried : Moving → ℕ
-carried (Written n) = n
-carried (Refused q p) = p
+carried : Result ℕ Refusal → ℕ
+carried (Ok n) = n
+carried (Err why) = why.at
 
 made : (form : Form) (s : List ℕ) (places m : ℕ) → Moves form s places m → Made form s places m
 unfolding Moves move_of carried
 made form s places m h =
     let a = after-written _ _ m h.1 in
-    let b = asking-written 16 _ _ m a.1 in
-    let c = asking-written 17 _ _ m b.1 in
+    let b = asked 16 _ _ m a.1 in
+    let c = asked 17 _ _ m b.1 in
     let d = short-enough _ places c.0 in
     let p = passed s a.0.0 a.0.1 in
     let k = all_known form s h.0 p.q2 p.q3 in
@@ -117,7 +111,7 @@ made form s places m h =
     }
 
 -- its source is of bytes and accepted
-pub accepted-source : (form : Form) (s : List ℕ) (places m : ℕ) → Moves form s places m → ((i : ℕ) → s ! i < 256) × (n : ℕ) × (verdict_in form s ≡ Verdict.Accepted n)
+pub accepted-source : (form : Form) (s : List ℕ) (places m : ℕ) → Moves form s places m → ((i : ℕ) → s ! i < 256) × (n : ℕ) × (verdict_in form s ≡ Ok n)
 accepted-source form s places m h = let a = made form s places m h in (a.bytes, a.versions, a.accepted)
 
 -- ---- the two images
@@ -130,7 +124,7 @@ widened Form.Wide s places m a = records-narrower (records s) a.known a.returns
 result-one : (form : Form) (s : List ℕ) (places m : ℕ) → Made form s places m → question1 (result form s) ≡ None
 result-one form s places m a = moved-one form s (passed s a.versions a.accepted).q1 a.back (omega (arith, a.short, a.size))
 
-result-accepted : (form : Form) (s : List ℕ) (places m : ℕ) (a : Made form s places m) → verdict_in (other form) (result form s) ≡ Verdict.Accepted a.versions
+result-accepted : (form : Form) (s : List ℕ) (places m : ℕ) (a : Made form s places m) → verdict_in (other form) (result form s) ≡ Ok a.versions
 unfolding other narrow_of wide_of
 result-accepted Form.Narrow s places m a = wide-accepted s (result Form.Narrow s) (widened Form.Narrow s places m a) a.versions a.accepted (result-one Form.Narrow s places m a)
 result-accepted Form.Wide s places m a = narrow-accepted (result Form.Wide s) s (widened Form.Wide s places m a) a.versions a.accepted (result-one Form.Wide s places m a)
@@ -185,10 +179,10 @@ pub same-report : SameReport
 unfolding SameReport report_in
 same-report form s places m h =
     let a = made form s places m h in
-    rw (a.accepted, result-accepted form s places m a) (sym (answer-shape _ _ (same_shape form s places m a) (Verdict.Accepted a.versions)))
+    rw (a.accepted, result-accepted form s places m a) (sym (answer-shape _ _ (same_shape form s places m a) (Ok a.versions)))
 
 pub returned : ThereAndBack
-unfolding ThereAndBack move_of after asking
+unfolding ThereAndBack move_of after ask
 returned form s places m h =
     let a = made form s places m h in
     let l = (long-enough s (passed s a.versions a.accepted).q1).1 in
@@ -202,7 +196,7 @@ runs-agree Form.Narrow s places m h level f v words budget buffer u =
 runs-agree Form.Wide s places m h level f v words budget buffer u =
     let a = made Form.Wide s places m h in
     let t = result Form.Wide s in
-    let e : verdict_in Form.Wide (result Form.Narrow t) ≡ Verdict.Accepted a.versions = ap (verdict_in Form.Wide) a.back ∙ a.accepted in
+    let e : verdict_in Form.Wide (result Form.Narrow t) ≡ Ok a.versions = ap (verdict_in Form.Wide) a.back ∙ a.accepted in
     ap (λ (x : List ℕ). run_of x level f v words budget buffer) (sym a.back)
     ∙ sixty-four t (moved-bytes Form.Wide (records s) a.known) a.versions a.versions (result-accepted Form.Wide s places m a) e level f v words budget buffer u
 

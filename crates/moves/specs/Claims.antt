@@ -1,5 +1,5 @@
 -- 02, 6: what is promised of a move that was written: the statements alone.
-use Rattle.std.specs.Prelude.{◌≡◌, ◌≢◌, List, [], ◌∷◌, cond, ℕ, ◌+◌, ◌*◌, ◌≤◌, ◌<◌, ℤ, length, eqb, None}
+use Rattle.std.specs.Prelude.{◌≡◌, ◌≢◌, List, [], ◌∷◌, cond, ℕ, ◌+◌, ◌*◌, ◌≤◌, ◌<◌, ℤ, length, eqb, None, Ok}
 use Rattle.layout.specs.Bounds.{IMAGE}
 use Rattle.layout.specs.Records.{Rec, ◌!◌, records}
 use Rattle.layout.specs.Forms.{literal_kind, moved, other}
@@ -7,14 +7,12 @@ use Rattle.layout.specs.declared.Form.{Form}
 use Rattle.program.specs.Program.{program_by}
 use Rattle.checker.specs.Verdicts.{verdict_in}
 use Rattle.checker.specs.Reports.{report_in}
-use Rattle.checker.specs.declared.Verdict.{Verdict}
 use Rattle.machine.specs.Begin.{run_of}
 use Rattle.machine.specs.declared.Answer.{Answer}
 use Rattle.machine.specs.declared.End.{End}
 use Rattle.runs.specs.Alike.{AllAlike}
 use Rattle.runs.specs.Wider.{run_before}
 use Rattle.moves.specs.Moves.{move_of, question17}
-use Rattle.moves.specs.declared.Moving.TheVariants.{Written}
 
 -- the image that a move writes
 abbrev pub result : Form → List ℕ → List ℕ
@@ -22,7 +20,7 @@ result form s = moved form (records s)
 
 -- an image of bytes whose move is written, as m bytes
 unfoldable pub Moves : Form → List ℕ → ℕ → ℕ → Type 0
-Moves form s places m = ((i : ℕ) → s ! i < 256) × (move_of form s places ≡ Written m)
+Moves form s places m = ((i : ℕ) → s ! i < 256) × (move_of form s places ≡ Ok m)
 
 -- what is written is the result, of bytes, no longer than an image or the buffer
 unfoldable pub MovedWhole : Type 0
@@ -40,7 +38,7 @@ NarrowedLength = (s : List ℕ) (places m : ℕ) → Moves Form.Wide s places m 
 -- so 17 refuses no accepted image that is narrowed into a buffer as long as the image
 unfoldable pub NarrowedFits : Type 0
 NarrowedFits =
-    (s : List ℕ) → ((i : ℕ) → s ! i < 256) → (n : ℕ) → verdict_in Form.Wide s ≡ Verdict.Accepted n → (places : ℕ) → length s ≤ places → question17 (length (result Form.Wide s)) places ≡ None
+    (s : List ℕ) → ((i : ℕ) → s ! i < 256) → (n : ℕ) → verdict_in Form.Wide s ≡ Ok n → (places : ℕ) → length s ≤ places → question17 (length (result Form.Wide s)) places ≡ None
 
 -- a widened image is 4 bytes longer for each literal: it has at most 13 bytes for each 9 of its source
 unfoldable pub WidenedLength : Type 0
@@ -48,7 +46,7 @@ WidenedLength = (s : List ℕ) (places m : ℕ) → Moves Form.Narrow s places m
 
 -- it is accepted by the other form's questions, with as many versions
 unfoldable pub MovedAccepted : Type 0
-MovedAccepted = (form : Form) (s : List ℕ) (places m : ℕ) → Moves form s places m → (n : ℕ) × (verdict_in form s ≡ Verdict.Accepted n) × (verdict_in (other form) (result form s) ≡ Verdict.Accepted n)
+MovedAccepted = (form : Form) (s : List ℕ) (places m : ℕ) → Moves form s places m → (n : ℕ) × (verdict_in form s ≡ Ok n) × (verdict_in (other form) (result form s) ≡ Ok n)
 
 -- `check` prints the same of both, the four counts of each version included
 unfoldable pub SameReport : Type 0
@@ -57,7 +55,7 @@ SameReport = (form : Form) (s : List ℕ) (places m : ℕ) → Moves form s plac
 -- there and back gives the same bytes, from both sides: the way back is written wherever the image itself has room
 unfoldable pub ThereAndBack : Type 0
 ThereAndBack = (form : Form) (s : List ℕ) (places m : ℕ) → Moves form s places m → (result (other form) (result form s) ≡ s)
-    × ((room : ℕ) → length s ≤ room → move_of (other form) (result form s) room ≡ Written (length s))
+    × ((room : ℕ) → length s ≤ room → move_of (other form) (result form s) room ≡ Ok (length s))
 
 -- the image of 32 bits of such a pair, and that of 64
 unfoldable pub narrow_of : Form → List ℕ → List ℕ

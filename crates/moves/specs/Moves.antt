@@ -1,5 +1,5 @@
 -- 02, 6: an image moved to the other form, into a lent buffer.
-use Rattle.std.specs.Prelude.{List, Bool, cond, not, ◌||◌, ℕ, ℤ, pos, negsuc, length, eqb, ltb, leb, None, Some}
+use Rattle.std.specs.Prelude.{List, Bool, cond, not, ◌||◌, ℕ, ℤ, pos, negsuc, length, eqb, ltb, leb, None, Some, Err, Ok, Result}
 use Rattle.layout.specs.Found.{Found}
 use Rattle.layout.specs.Bounds.{IMAGE}
 use Rattle.layout.specs.Tests.{◌and◌}
@@ -10,11 +10,9 @@ use Rattle.layout.specs.Forms.{literal_kind, moved}
 use Rattle.layout.specs.declared.Form.{Form}
 use Rattle.writer.specs.Text.{placed}
 use Rattle.program.specs.Program.{number_in}
-use Rattle.checker.specs.Verdicts.{verdict_in}
-use Rattle.checker.specs.declared.Verdict.{Verdict}
+use Rattle.checker.specs.Verdicts.{ask, verdict_in, Verdict}
 use Rattle.machine.specs.Values.{NARROW-RANGE}
-use Rattle.moves.specs.declared.Moving.{Moving}
-use Rattle.moves.specs.declared.Moving.TheVariants.{Written, Refused}
+use Rattle.checker.specs.declared.Refusal.{Refusal}
 
 -- does a number fit 32 bits? `negsuc n` is −(n + 1)
 unfoldable pub fits32 : ℤ → Bool
@@ -33,28 +31,23 @@ question16 form rs = scan (fitting32 form) same nothing tt rs
 unfoldable pub question17 : ℕ → ℕ → Found
 question17 n places = cond (leb n IMAGE and leb n places) None (Some 0)
 
--- the questions behind the image's own: a no refuses, else those that follow are put
-unfoldable pub asking : ℕ → Found → Moving → Moving
-asking n None more = more
-asking n (Some p) more = Refused n p
-
 -- the image's own questions come first
-unfoldable pub after : Verdict → Moving → Moving
-after (Verdict.Accepted n) more = more
-after (Verdict.Refused q p) more = Refused q p
+unfoldable pub after : Verdict → Result ℕ Refusal → Result ℕ Refusal
+after (Ok n) more = more
+after (Err why) more = Err why
 
 -- 16, 17, else how many bytes are written
-abbrev pub from16 : Form → List ℕ → ℕ → Moving
-from16 form s places = let n = length (moved form (records s)) in asking 16 (question16 form (records s)) (asking 17 (question17 n places) (Written n))
+abbrev pub from16 : Form → List ℕ → ℕ → Result ℕ Refusal
+from16 form s places = let n = length (moved form (records s)) in ask 16 (question16 form (records s)) (ask 17 (question17 n places) (Ok n))
 
 -- what becomes of the move of an image in a form to a buffer of so many places
-unfoldable pub move_of : Form → List ℕ → ℕ → Moving
+unfoldable pub move_of : Form → List ℕ → ℕ → Result ℕ Refusal
 move_of form s places = after (verdict_in form s) (from16 form s places)
 
 -- the buffer after it: the bytes t from place 0 on, all else as it was; a refusal leaves it as it was
-unfoldable pub leaves : Moving → List ℕ → List ℕ → List ℕ
-leaves (Written n) out t = placed out 0 t
-leaves (Refused q p) out t = out
+unfoldable pub leaves : Result ℕ Refusal → List ℕ → List ℕ → List ℕ
+leaves (Ok n) out t = placed out 0 t
+leaves (Err why) out t = out
 
 -- the buffer after the move of an image in a form
 abbrev pub buffer_after : Form → List ℕ → List ℕ → List ℕ

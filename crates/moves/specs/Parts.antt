@@ -1,13 +1,10 @@
 -- What the parts of a move state to each other.
-use Rattle.std.specs.Prelude.{◌≡◌, List, [], ◌∷◌, ℕ, ◌≤◌, ◌<◌, length, None, Some}
-use Rattle.layout.specs.Found.{Found}
+use Rattle.std.specs.Prelude.{◌≡◌, List, [], ◌∷◌, ℕ, ◌≤◌, ◌<◌, length, None}
 use Rattle.layout.specs.Bounds.{IMAGE}
 use Rattle.layout.specs.Records.{◌!◌, size_at, kind_at, body_at, records}
 use Rattle.layout.specs.Forms.{literal_kind, literal_length, record_bytes, sign_byte, moved_kind, moved_body}
 use Rattle.layout.specs.Questions.{length_of, question3}
 use Rattle.layout.specs.declared.Form.{Form}
-use Rattle.moves.specs.declared.Extent.{Extent}
-use Rattle.moves.specs.declared.Extent.TheVariants.{Long, Unfit}
 
 -- each is a byte
 abbrev pub Bytes : List ℕ → Type 0
@@ -29,11 +26,6 @@ pub record Stands (form : Form) (s : List ℕ) (p : ℕ) : Type 0 where
 -- the bytes that the record at p becomes
 unfoldable pub moved_at : Form → List ℕ → ℕ → List ℕ
 moved_at form s p = record_bytes (moved_kind form (kind_at s p)) (moved_body form (kind_at s p) (body_at s p))
-
--- what is measured: the first literal that 16 found, or the length
-unfoldable pub measured : Found → ℕ → Extent
-measured None n = Long n
-measured (Some p) n = Unfit p
 
 -- the head of a form's literal
 unfoldable pub head_of : Form → List ℕ

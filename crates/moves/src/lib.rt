@@ -6,25 +6,12 @@ ghost use Rattle.layout.specs.Forms.{literal_kind, moved, other, sign_byte};
 ghost use Rattle.layout.specs.Records.{◌!◌, size_at, kind_at, body_at, rec_at, records};
 ghost use Rattle.program.specs.Program.{number_in};
 ghost use Rattle.writer.specs.Text.{placed};
-ghost use Rattle.moves.specs.Moves.{asking, buffer_after, fits32, fitting32, from16, leaves, move_of, question16, question17};
-ghost use Rattle.moves.specs.Parts.{Ready, Stands, head_of, measured, moved_at, sign_of};
+ghost use Rattle.checker.specs.Verdicts.{ask};
+ghost use Rattle.moves.specs.Moves.{buffer_after, fits32, fitting32, from16, leaves, move_of, question16, question17};
+ghost use Rattle.moves.specs.Parts.{Ready, Stands, head_of, moved_at, sign_of};
 
-use checker::{Verdict, questions};
+use checker::{Refusal, questions};
 use layout::Form;
-
-/// What becomes of a move: the length of the image in the other form, which the buffer has from place 0 on; or a refusal, with the question's number and the offset.
-#[derive(Clone, Copy)]
-pub enum Moving {
-    Written(usize),
-    Refused(u8, usize),
-}
-
-/// How long the image is in the other form, or the offset of the first literal that does not fit 32 bits.
-#[derive(Clone, Copy)]
-pub enum Extent {
-    Long(usize),
-    Unfit(usize),
-}
 
 /// Where the body of a record begins.
 const BODY: usize = 4;
@@ -90,10 +77,10 @@ fn moved_length(image: &[u8], p: usize, form: Form) -> usize
     layout::size_at(image, p)
 }
 
-/// How long the image is in the other form, or the first literal that does not fit.
-fn measure(image: &[u8], form: Form) -> Extent
+/// How long the image is in the other form, where question 16 finds no literal that does not fit.
+fn measure(image: &[u8], form: Form) -> Result<usize, Refusal>
     requires { Ready form image.now }
-    ensures { result ≡ measured (question16 form (records image.now)) (length (moved form (records image.now))) }
+    ensures { result ≡ ask 16 (question16 form (records image.now)) (Ok (length (moved form (records image.now)))) }
 {
     let mut p: usize = 0;
     let mut total: usize = 0;
@@ -103,10 +90,13 @@ fn measure(image: &[u8], form: Form) -> Extent
             total += moved_length(image, p, form);
             p += n;
         } else {
-            return Extent::Unfit(p);
+            return Err(Refusal {
+                question: 16,
+                at: p,
+            });
         }
     }
-    Extent::Long(total)
+    Ok(total)
 }
 
 /// Puts the head of a form's literal at `at`, where it fits: its length and its kind.
@@ -182,51 +172,53 @@ fn put_records(image: &[u8], form: Form, out: &mut [u8])
 }
 
 /// Writes the image, which has `n` bytes in the other form, where neither an image's bound nor the buffer is too short.
-fn write_moved(image: &[u8], form: Form, out: &mut [u8], n: usize) -> Moving
+fn write_moved(image: &[u8], form: Form, out: &mut [u8], n: usize) -> Result<usize, Refusal>
     requires ready { Ready form image.now }
     requires n_value { n ≡ length (moved form (records image.now)) }
-    ensures { (result ≡ asking 17 (question17 n (length out.old)) (Moving.Written n)) × (out.new ≡ leaves result out.old (moved form (records image.now))) }
+    ensures { (result ≡ ask 17 (question17 n (length out.old)) (Ok n)) × (out.new ≡ leaves result out.old (moved form (records image.now))) }
 {
     if layout::bounds::IMAGE < n {
-        return Moving::Refused(17, 0);
+        return Err(Refusal {
+            question: 17,
+            at: 0,
+        });
     }
     if out.len() < n {
-        return Moving::Refused(17, 0);
+        return Err(Refusal {
+            question: 17,
+            at: 0,
+        });
     }
     put_records(image, form, out);
-    Moving::Written(n)
+    Ok(n)
 }
 
 /// Moves an image that passed its own questions.
-fn move_accepted(image: &[u8], form: Form, out: &mut [u8]) -> Moving
+fn move_accepted(image: &[u8], form: Form, out: &mut [u8]) -> Result<usize, Refusal>
     requires { Ready form image.now }
     ensures { (result ≡ from16 form image.now (length out.old)) × (out.new ≡ leaves result out.old (moved form (records image.now))) }
 {
-    match measure(image, form) {
-        Extent::Unfit(p) => Moving::Refused(16, p),
-        Extent::Long(n) => write_moved(image, form, out, n),
-    }
+    let n = measure(image, form)?;
+    write_moved(image, form, out, n)
 }
 
 /// Moves an image in a form to the other one, into the buffer from place 0 on, and gives its length there. A refusal leaves the buffer as it was.
-pub fn move_from(image: &[u8], form: Form, out: &mut [u8]) -> Moving
+pub fn move_from(image: &[u8], form: Form, out: &mut [u8]) -> Result<usize, Refusal>
     ensures { (result ≡ move_of form image.now (length out.old)) × (out.new ≡ buffer_after form image.now out.old) }
 {
-    match questions::verdict_in(image, form) {
-        Verdict::Accepted(_) => move_accepted(image, form, out),
-        Verdict::Refused(n, p) => Moving::Refused(n, p),
-    }
+    questions::verdict_in(image, form)?;
+    move_accepted(image, form, out)
 }
 
 /// Moves an image of the 32-bit form to the 64-bit form.
-pub fn widen(image: &[u8], out: &mut [u8]) -> Moving
+pub fn widen(image: &[u8], out: &mut [u8]) -> Result<usize, Refusal>
     ensures { (result ≡ move_of Form.Narrow image.now (length out.old)) × (out.new ≡ buffer_after Form.Narrow image.now out.old) }
 {
     move_from(image, Form::Narrow, out)
 }
 
 /// Moves an image of the 64-bit form to the 32-bit form.
-pub fn narrow(image: &[u8], out: &mut [u8]) -> Moving
+pub fn narrow(image: &[u8], out: &mut [u8]) -> Result<usize, Refusal>
     ensures { (result ≡ move_of Form.Wide image.now (length out.old)) × (out.new ≡ buffer_after Form.Wide image.now out.old) }
 {
     move_from(image, Form::Wide, out)

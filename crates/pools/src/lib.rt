@@ -30,14 +30,12 @@ fn wide(x: u8) -> u16
 }
 
 /// Do the reserves sum above 64?
-fn over_reserved(reserves: [u8; 8]) -> bool
-    ensures { result ≡ over_reserved reserves }
+fn over_reserved(reserves: &[u8; 8]) -> bool
+    ensures { result ≡ over_reserved reserves.now }
 {
     let mut total: u16 = 0;
-    let mut j: usize = 0;
-    while j < RUNS {
-        total += wide(reserves[j]);
-        j += 1;
+    for reserve in reserves {
+        total += wide(*reserve);
     }
     total > VECTORS
 }
@@ -46,7 +44,7 @@ fn over_reserved(reserves: [u8; 8]) -> bool
 pub fn refuses(reserves: &[u8; 8], i: usize) -> bool
     ensures { result ≡ (over_reserved reserves.now || leb RUNS i) }
 {
-    if over_reserved(*reserves) {
+    if over_reserved(reserves) {
         return true;
     }
     i >= RUNS
@@ -94,10 +92,8 @@ fn most(reserves: [u8; 8], has: [u8; 8], i: usize) -> u8
     ensures { result ≡ allowed (pool_of reserves has) i }
 {
     let mut against: u16 = 0;
-    let mut j: usize = 0;
-    while j < RUNS {
+    for j in 0..RUNS {
         against += share(j, i, reserves[j], has[j]);
-        j += 1;
     }
     greater(reserve(reserves, i), left(against))
 }
@@ -113,7 +109,7 @@ pub fn may_have(reserves: &[u8; 8], has: &[u8; 8], i: usize) -> u8
 pub fn make(given: &[u8; 8], reserves: &mut [u8; 8], has: &mut [u8; 8]) -> Made
     ensures { Makes result given.now reserves.old has.old reserves.new has.new }
 {
-    if over_reserved(*given) {
+    if over_reserved(given) {
         return Made::Refused(POOL, 0);
     }
     *reserves = *given;

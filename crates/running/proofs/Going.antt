@@ -343,3 +343,9 @@ pub going-apart : (s t : List ℕ) (most budget : ℕ) (b₀ : List ℕ) (n₀ :
     → Going s t most budget b₀ n₀ b n c x (record { frame = p.frame; block = p.block; next = p.next; last = p.last; most = most }) left
 going-apart s t most budget b₀ n₀ b n c x p left e G = subst (λ i. Going s t most budget b₀ n₀ b n c x
     (record { frame = p.frame; block = p.block; next = p.next; last = p.last; most = i }) left) e G
+
+-- the same spot, by its parts, and the same number of steps left
+pub going-same : (s t : List ℕ) (most budget : ℕ) (b₀ : List ℕ) (n₀ : List ℤ) (b : List ℕ) (n : List ℤ) (c x : List ℕ) (p : Spot) (left : ℕ) → Going s t most budget b₀ n₀ b n c x p left
+    → {f k i z l : ℕ} → f ≡ p.frame → k ≡ p.block → i ≡ p.next → z ≡ p.last → p.most ≡ most → l ≡ left
+    → Going s t most budget b₀ n₀ b n c x (record { frame = f; block = k; next = i; last = z; most = most }) l
+going-same s t most budget b₀ n₀ b n c x p left G ef ek ei ez em el = rw (ef, ek, ei, ez, el) (going-apart s t most budget b₀ n₀ b n c x p left em G)

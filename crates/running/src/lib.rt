@@ -83,8 +83,7 @@ fn go(
     let mut block = start.block;
     let mut next = start.next;
     let mut last = start.last;
-    let mut left = steps;
-    while left != 0 {
+    for taken in 0..steps {
         let spot = Spot {
             frame: frame,
             block: block,
@@ -93,33 +92,26 @@ fn go(
             most: most,
         };
         match turning::advance(image, table, bytes, numbers, counts, cache, spot) {
-            Turn::On => {
-                next += 1;
-                left -= 1;
-            }
-            Turn::Over(m) => {
-                next = next + 1 + m;
-                left -= 1;
-            }
+            Turn::On => next += 1,
+            Turn::Over(m) => next = next + 1 + m,
             Turn::Moved => {
                 let to = turning::locate(image, table, bytes, most);
                 frame = to.frame;
                 block = to.block;
                 next = to.next;
                 last = to.last;
-                left -= 1;
             }
             Turn::Done => {
                 return Counted {
                     pause: Pause::Ended,
-                    steps: steps - left + 1,
+                    steps: taken + 1,
                 };
             }
             Turn::Stuck => {
                 keep(bytes, spot);
                 return Counted {
                     pause: Pause::Stuck,
-                    steps: steps - left,
+                    steps: taken,
                 };
             }
             Turn::Stop(h) => {
@@ -127,13 +119,13 @@ fn go(
                 ending::stop_run(bytes, numbers, h);
                 return Counted {
                     pause: Pause::Ended,
-                    steps: steps - left + last_step(h),
+                    steps: taken + last_step(h),
                 };
             }
             Turn::Rest => {
                 return Counted {
                     pause: Pause::Stuck,
-                    steps: steps - left,
+                    steps: taken,
                 };
             }
         }

@@ -1,4 +1,5 @@
 -- What a step does to the live calls: only the entry of a call and the end of its body change how many there are.
+use Rattle.std.specs.Prelude.{Err, Ok}
 use mathlib.Core.Path.{◌≡◌, refl, sym, ap, ◌∙◌}
 use mathlib.Core.Logic.{◌≢◌, ◌⊎◌, inl, inr}
 use mathlib.Core.List.{List, [], ◌∷◌}
@@ -18,8 +19,7 @@ use Rattle.layout.proofs.Lists.{get_other, get-same}
 use Rattle.machine.proofs.Tries.{or-stuck, put-there}
 use Rattle.program.specs.Program.{Argument, Instr, LIT, MOVE, USE, DUP, VEC, LEN, GET, SET, ARITH, SELECT, CAST, NAMED, STORE, PROM, FORCE, PEEK, POKE, CALL, DISPATCH, SKIP, Version, Program, find_version, parameter_types}
 use Rattle.rules.specs.Types.{kind_of, within}
-use Rattle.checker.specs.Verdicts.{verdict_of}
-use Rattle.checker.specs.declared.Verdict.{Verdict}
+use Rattle.checker.specs.Verdicts.{verdict_of, Verdict}
 use Rattle.machine.specs.Try.{Try, got, stuck, stop, stuck_unless, or_stuck, at, put, each}
 use Rattle.machine.specs.States.{over, items_of, live_frames, an_integer, value, kind_in, with_stack, with_promise, with_end}
 use Rattle.machine.specs.Calls.{opened, passed, matching, emptied, frame_for, enter, dispatches, lowest, picked, closed, done, back, finish}
@@ -329,5 +329,5 @@ unfolding FirstCall begin_of begin_after refused
 first-enters image level f v words buffer = go (verdict_of image)
   where
     go : (a : Verdict) → (begin_after a (program_of image) level f v words buffer).entry ≡ Entry.Begun → First f v (begin_after a (program_of image) level f v words buffer).state
-    go (Verdict.Refused q p) h = absurd (refused-begun q p h)
-    go (Verdict.Accepted n) h = first-entered (program_of image) level f v words buffer h
+    go (Err why) h = absurd (refused-begun why.question why.at h)
+    go (Ok n) h = first-entered (program_of image) level f v words buffer h

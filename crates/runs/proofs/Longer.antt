@@ -1,5 +1,5 @@
 -- Two images whose records are those of both forms are asked alike: the one is accepted in its form exactly when the other is.
-use Rattle.std.specs.Prelude.{None, Some}
+use Rattle.std.specs.Prelude.{None, Some, Ok}
 use mathlib.Core.Path.{◌≡◌, refl, sym, ap, ap₂, ◌∙◌}
 use Rattle.layout.specs.Found.{Found}
 use mathlib.Core.Logic.{◌⊎◌, inl, inr}
@@ -24,7 +24,6 @@ use Rattle.program.specs.Program.{Program, program}
 use Rattle.program.specs.Skips.{Ends, ends_after, ends_within, no_ends, question14}
 use Rattle.rules.proofs.Shapes.{map-length, shape, quiet, shape-6, shape-7, shape-8, shape-18, shape-9, shape-10}
 use Rattle.checker.specs.Verdicts.{verdict_in}
-use Rattle.checker.specs.declared.Verdict.{Verdict}
 use Rattle.checker.proofs.Accepted.{Passed, passed, accept}
 use Rattle.layout.proofs.Bools.{and_both}
 use Rattle.runs.specs.Wider.{LongerAccepted}
@@ -174,7 +173,7 @@ Both f g = quiet f ≡ quiet g
 -- what an image passed, and the other one too, from what they say alike
 carried : {F : Form} {s : List ℕ} {n : ℕ} (G : Form) (t : List ℕ) → Passed F s n → question1 t ≡ None → question3 G (records t) ≡ None → map shape (program (records s)) ≡ map shape (program (records t))
     → Both (question2 (records s)) (question2 (records t)) → Both (question4 (length s) (records s)) (question4 (length t) (records t)) → Both (question5 (records s)) (question5 (records t)) → Both (question14 (records s)) (question14 (records t))
-    → verdict_in G t ≡ Verdict.Accepted n
+    → verdict_in G t ≡ Ok n
 carried {F} {s} {n} G t a one three e two four five fourteen =
     let P = program (records s) in
     let Q = program (records t) in
@@ -199,13 +198,13 @@ carried {F} {s} {n} G t a one three e two four five fourteen =
 
 -- THE LAWS: images in both forms are accepted alike, with as many versions, where neither is too long
 module _ (s t : List ℕ) (h : Widened (records s) (records t)) where
-  pub wide-accepted : (n : ℕ) → verdict_in Form.Narrow s ≡ Verdict.Accepted n → question1 t ≡ None → verdict_in Form.Wide t ≡ Verdict.Accepted n
+  pub wide-accepted : (n : ℕ) → verdict_in Form.Narrow s ≡ Ok n → question1 t ≡ None → verdict_in Form.Wide t ≡ Ok n
   wide-accepted n e one =
       let rs = records s in
       let qs = records t in
       carried Form.Wide t (passed s n e) one (both-3 rs qs h).1 (forms-shape rs qs h) (alike-2 rs qs h) (alike-4 rs qs h (length s) (length t)) (alike-5 rs qs h) (alike-14 rs qs h)
 
-  pub narrow-accepted : (n : ℕ) → verdict_in Form.Wide t ≡ Verdict.Accepted n → question1 s ≡ None → verdict_in Form.Narrow s ≡ Verdict.Accepted n
+  pub narrow-accepted : (n : ℕ) → verdict_in Form.Wide t ≡ Ok n → question1 s ≡ None → verdict_in Form.Narrow s ≡ Ok n
   narrow-accepted n e one =
       let rs = records s in
       let qs = records t in

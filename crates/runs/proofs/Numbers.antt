@@ -1,5 +1,5 @@
 -- The versions of an accepted image: those of a function have the numbers from 0 on, without a gap.
-use Rattle.std.specs.Prelude.{None, Some}
+use Rattle.std.specs.Prelude.{None, Some, Ok}
 use mathlib.Core.Path.{◌≡◌, refl, sym, ap, ◌∙◌}
 use Rattle.layout.specs.Found.{Found}
 use mathlib.Core.List.{List, [], ◌∷◌}
@@ -18,7 +18,6 @@ use Rattle.layout.specs.Scan.{scan}
 use Rattle.layout.specs.Tests.{◌and◌, count}
 use Rattle.layout.proofs.Bools.{and_both}
 use Rattle.checker.specs.Verdicts.{verdict_of}
-use Rattle.checker.specs.declared.Verdict.TheVariants.{Accepted}
 use Rattle.checker.proofs.Accepted.{passed as passed-all}
 use Rattle.machine.specs.Begin.{program_of}
 use Rattle.program.specs.Program.{Program, Version, View, find_version, put_by, view, view_by, nowhere, version_of, block_of, level_of, line_of}
@@ -186,6 +185,6 @@ first (W ∷ P) both g x =
     go false b ea eb f w m = among_same (from-other W.function W.version g (λ (q : g ≡ W.function). eqb-false _ _ ea (sym q))) (sym (zero-add _)) m
 
 -- THE LAW: the versions of each function are those from 0 on, as many as it has
-pub numbered : (s : List ℕ) (k : ℕ) → verdict_of s ≡ Accepted k → (f w : ℕ) → Among (find_version (program_of s) f w) 0 (of_function (program_of s) f) w
+pub numbered : (s : List ℕ) (k : ℕ) → verdict_of s ≡ Ok k → (f w : ℕ) → Among (find_version (program_of s) f w) 0 (of_function (program_of s) f) w
 unfolding question5
 numbered s k e f w = first (program_of s) (ordered none (records s) (passed-all s k e).q5) f w

@@ -1,4 +1,5 @@
 -- The count of a search in an accepted image: the picked version's number plus 1, or all of the function.
+use Rattle.std.specs.Prelude.{Ok}
 use mathlib.Core.Path.{◌≡◌, refl, sym, ap, ◌∙◌}
 use mathlib.Core.List.{List}
 use mathlib.Core.Option.{Option, none, some}
@@ -14,7 +15,6 @@ use Rattle.program.specs.Program.{Argument, Program, Version, find_version}
 use Rattle.program.proofs.Held.{find-numbers}
 use Rattle.program.proofs.Laid.{version_bounded}
 use Rattle.checker.specs.Verdicts.{verdict_of}
-use Rattle.checker.specs.declared.Verdict.TheVariants.{Accepted}
 use Rattle.checker.proofs.Accepted.{checked}
 use Rattle.machine.specs.Begin.{program_of}
 use Rattle.machine.specs.Calls.{dispatches, looked, lowest, picked, present, searched, versions_of}
@@ -24,7 +24,7 @@ use Rattle.runs.specs.Searches.{CountIs, SearchCounts, of_function}
 use Rattle.runs.proofs.Numbers.{Among, numbered, there, before, behind}
 
 -- the version after the last would have a number that question 4 refuses
-few : (s : List ℕ) (k : ℕ) → verdict_of s ≡ Accepted k → (f : ℕ) → of_function (program_of s) f ≤ VERSIONS
+few : (s : List ℕ) (k : ℕ) → verdict_of s ≡ Ok k → (f : ℕ) → of_function (program_of s) f ≤ VERSIONS
 unfolding version_bounded
 few s k e f = go (find_version (program_of s) f VERSIONS) refl (numbered s k e f VERSIONS)
   where

@@ -1,4 +1,5 @@
 -- 02, 5: an accepted image and its bytes with each literal of 64 bits have the same runs but where the old range ends in UNDEF.
+use Rattle.std.specs.Prelude.{Ok}
 use mathlib.Core.Path.{◌≡◌, refl, sym, ap, ◌∙◌, subst}
 use mathlib.Core.Logic.{◌≢◌}
 use mathlib.Core.List.{List}
@@ -11,7 +12,6 @@ use Rattle.layout.specs.Forms.{moved}
 use Rattle.layout.specs.declared.Form.{Form}
 use Rattle.program.specs.Program.{Program, program_by}
 use Rattle.checker.specs.Verdicts.{verdict_in}
-use Rattle.checker.specs.declared.Verdict.{Verdict}
 use Rattle.checker.proofs.Accepted.{passed}
 use Rattle.machine.specs.Values.{NARROW-RANGE, RANGE}
 use Rattle.machine.specs.Begin.{begin_after, begin_of, entered_of, program_of, run_after_to, run_of, run_of_to}
@@ -29,7 +29,7 @@ use Rattle.runs.proofs.WiderRuns.{wider-budget}
 use Rattle.runs.proofs.Widened.{Widened, forms-alike}
 
 -- the records of an accepted image in both forms
-pub new-records : (image : List ℕ) → ((i : ℕ) → image ! i < 256) → (n : ℕ) → verdict_in Form.Narrow image ≡ Verdict.Accepted n → Widened (records image) (records (moved Form.Narrow (records image)))
+pub new-records : (image : List ℕ) → ((i : ℕ) → image ! i < 256) → (n : ℕ) → verdict_in Form.Narrow image ≡ Ok n → Widened (records image) (records (moved Form.Narrow (records image)))
 new-records image bytes n old = let a = passed image n old in records-wider (records image) (all_known Form.Narrow image bytes a.q2 a.q3)
 
 -- ---- runs from the start

@@ -1,11 +1,10 @@
 -- 02, 5, of a run in several parts: lists of single steps and budgets over a program, in two ranges. The statements alone.
-use Rattle.std.specs.Prelude.{◌≡◌, List, [], ◌∷◌, ℕ, ◌≤◌, ◌<◌, ℤ}
+use Rattle.std.specs.Prelude.{◌≡◌, List, [], ◌∷◌, ℕ, ◌≤◌, ◌<◌, ℤ, Ok}
 use Rattle.layout.specs.Records.{◌!◌, records}
 use Rattle.layout.specs.Forms.{moved}
 use Rattle.layout.specs.declared.Form.{Form}
 use Rattle.program.specs.Program.{Program, program_by}
 use Rattle.checker.specs.Verdicts.{verdict_in, verdict_of}
-use Rattle.checker.specs.declared.Verdict.{Verdict}
 use Rattle.machine.specs.Values.{NARROW-RANGE, RANGE}
 use Rattle.machine.specs.Runs.{step_of_to, budget_of_to, buffer_of}
 use Rattle.machine.specs.Begin.{begin_after, begin_of, program_of}
@@ -49,8 +48,8 @@ WiderDrives =
 -- and leaves the same state once each literal is kind 36, where the longer image is accepted
 unfoldable pub SixtyFourWhole : Type 0
 SixtyFourWhole =
-    (image : List ℕ) → ((i : ℕ) → image ! i < 256) → (n m : ℕ) → verdict_in Form.Narrow image ≡ Verdict.Accepted n
-    → let new = moved Form.Narrow (records image) in verdict_of new ≡ Verdict.Accepted m
+    (image : List ℕ) → ((i : ℕ) → image ! i < 256) → (n m : ℕ) → verdict_in Form.Narrow image ≡ Ok n
+    → let new = moved Form.Narrow (records image) in verdict_of new ≡ Ok m
     → (level f v : ℕ) (words buffer : List ℤ)
     → let P = program_by Form.Narrow (records image) in let b = begin_after (verdict_in Form.Narrow image) P level f v words buffer in
     (begin_of new level f v words buffer ≡ b)

@@ -1,9 +1,8 @@
 -- Request 4 of paper 02: what the count of a search is, the statement alone.
-use Rattle.std.specs.Prelude.{◌≡◌, List, ℕ, ◌+◌, eqb}
+use Rattle.std.specs.Prelude.{◌≡◌, List, ℕ, ◌+◌, eqb, Ok}
 use Rattle.layout.specs.Tests.{count}
 use Rattle.program.specs.Program.{Argument, Program, Version}
 use Rattle.checker.specs.Verdicts.{verdict_of}
-use Rattle.checker.specs.declared.Verdict.{Verdict}
 use Rattle.machine.specs.Begin.{program_of}
 use Rattle.machine.specs.Calls.{picked, searched, versions_of}
 use Rattle.machine.specs.Try.{Try, got, stuck, stop}
@@ -21,5 +20,5 @@ CountIs P f (stop e) n = n ≡ of_function P f
 -- each search of an accepted image looks at exactly so many, and what it has is what the function has
 unfoldable pub SearchCounts : Type 0
 SearchCounts =
-    (s : List ℕ) (m : ℕ) → verdict_of s ≡ Verdict.Accepted m → (level f mark ret : ℕ) (pairs : List Argument) (ks : List ℕ)
+    (s : List ℕ) (m : ℕ) → verdict_of s ≡ Ok m → (level f mark ret : ℕ) (pairs : List Argument) (ks : List ℕ)
     → CountIs (program_of s) f (picked (program_of s) level f mark ret pairs ks) (searched (program_of s) level f mark ret pairs ks) × (versions_of (program_of s) f ≡ of_function (program_of s) f)

@@ -1,12 +1,11 @@
 -- 02, 5: a run that in the old range ends otherwise than in UNDEF has the same result and steps in the new one, once each literal of its image is kind 36: the statements alone.
-use Rattle.std.specs.Prelude.{◌≡◌, ◌≢◌, ◌⊎◌, List, [], ◌∷◌, ℕ, ◌≤◌, ◌<◌, ℤ, length}
+use Rattle.std.specs.Prelude.{◌≡◌, ◌≢◌, ◌⊎◌, List, [], ◌∷◌, ℕ, ◌≤◌, ◌<◌, ℤ, length, Ok}
 use Rattle.layout.specs.Bounds.{IMAGE}
 use Rattle.layout.specs.Records.{◌!◌, records}
 use Rattle.layout.specs.Forms.{moved}
 use Rattle.layout.specs.declared.Form.{Form}
 use Rattle.program.specs.Program.{Program, program_by}
 use Rattle.checker.specs.Verdicts.{verdict_in, verdict_of}
-use Rattle.checker.specs.declared.Verdict.{Verdict}
 use Rattle.machine.specs.Values.{NARROW-RANGE}
 use Rattle.machine.specs.Runs.{step_of_to, budget_of_to}
 use Rattle.machine.specs.Begin.{begin_after, run_after_to, run_of}
@@ -59,15 +58,15 @@ run_before image level f v words n buffer =
 -- its programs in both forms are the same but for offsets, so that `WiderStep` and `WiderBudget` speak of every later step and budget too
 unfoldable pub FormsAlike : Type 0
 FormsAlike =
-    (image : List ℕ) → ((i : ℕ) → image ! i < 256) → (n : ℕ) → verdict_in Form.Narrow image ≡ Verdict.Accepted n
+    (image : List ℕ) → ((i : ℕ) → image ! i < 256) → (n : ℕ) → verdict_in Form.Narrow image ≡ Ok n
     → AllAlike (program_by Form.Narrow (records image)) (program_by Form.Wide (records (moved Form.Narrow (records image))))
 
 -- A run that under the old range ended otherwise than in UNDEF, or did not end in its budget, has the same result and steps once each
 -- literal of its image is kind 36, where the longer image is accepted.
 unfoldable pub SixtyFour : Type 0
 SixtyFour =
-    (image : List ℕ) → ((i : ℕ) → image ! i < 256) → (n m : ℕ) → verdict_in Form.Narrow image ≡ Verdict.Accepted n
-    → let new = moved Form.Narrow (records image) in verdict_of new ≡ Verdict.Accepted m
+    (image : List ℕ) → ((i : ℕ) → image ! i < 256) → (n m : ℕ) → verdict_in Form.Narrow image ≡ Ok n
+    → let new = moved Form.Narrow (records image) in verdict_of new ≡ Ok m
     → (level f v : ℕ) (words : List ℤ) (budget : ℕ) (buffer : List ℤ)
     → (run_before image level f v words budget buffer).answer ≢ Answer.Ended End.Undef
     → run_of new level f v words budget buffer ≡ run_before image level f v words budget buffer
@@ -75,5 +74,5 @@ SixtyFour =
 -- It is accepted where it is not too long, with as many versions
 unfoldable pub LongerAccepted : Type 0
 LongerAccepted =
-    (image : List ℕ) → ((i : ℕ) → image ! i < 256) → (n : ℕ) → verdict_in Form.Narrow image ≡ Verdict.Accepted n
-    → let new = moved Form.Narrow (records image) in length new ≤ IMAGE → verdict_of new ≡ Verdict.Accepted n
+    (image : List ℕ) → ((i : ℕ) → image ! i < 256) → (n : ℕ) → verdict_in Form.Narrow image ≡ Ok n
+    → let new = moved Form.Narrow (records image) in length new ≤ IMAGE → verdict_of new ≡ Ok n

@@ -1,4 +1,5 @@
 -- A table of an image, and a start: what they say of the image's own program.
+use Rattle.std.specs.Prelude.{Err, Ok, Result}
 use mathlib.Core.Path.{◌≡◌, refl, sym, ap, ◌∙◌, subst}
 use mathlib.Core.Logic.{◌≢◌}
 use mathlib.Core.List.{List, [], ◌∷◌}
@@ -17,7 +18,6 @@ use Rattle.machine.specs.declared.Ran.{Ran}
 use Rattle.machine.specs.declared.State.{State}
 use Rattle.loaded.specs.Loaded.{program_in}
 use Rattle.loaded.specs.Loading.{Stands, load_of}
-use Rattle.loaded.specs.declared.Loaded.{Loaded}
 use Rattle.loaded.proofs.Runs.{loaded-begin, loaded-run}
 use Rattle.begin.specs.Asking.{Begins}
 use Rattle.soundness.specs.Claim.{begun}
@@ -30,6 +30,8 @@ use Rattle.abi.specs.declared.answers.FirLoaded.{FirLoaded}
 use Rattle.abi.specs.declared.state.FirState.{FirState}
 use Rattle.sessions.specs.Lent.{Starts, TableOf, by_begin, by_run, run_in}
 use Rattle.sessions.proofs.Numbers.{entered-numbered, zero-begun}
+use Rattle.loaded.specs.declared.LoadError.{LoadError}
+use Rattle.loaded.specs.declared.LoadError.TheVariants.{Short, Refused}
 
 -- ---- tables
 
@@ -37,17 +39,17 @@ use Rattle.sessions.proofs.Numbers.{entered-numbered, zero-begun}
 pub record Filled (image table : List ℕ) : Type 0 where
   pub size : ℕ
   pub count : ℕ
-  pub ready : load_of image size ≡ Loaded.Ready count
-  pub stands : Stands image table (Loaded.Ready count)
+  pub ready : load_of image size ≡ Ok count
+  pub stands : Stands image table (Ok count)
 
 pub filled : (image table : List ℕ) → TableOf image table → Filled image table
 unfolding loaded_numbers
 filled image table t = go (load_of image (length t.before)) refl t.load.1 (ap (λ (r : FirLoaded). r.code) (sym t.load.0) ∙ t.ready)
   where
-    go : (x : Loaded) → load_of image (length t.before) ≡ x → Stands image table x → (loaded_numbers x).code ≡ 0 → Filled image table
-    go (Loaded.Ready n) e s z = record { size = length t.before; count = n; ready = e; stands = s }
-    go (Loaded.Refused q p) e s z = absurd (omega (arith, z))
-    go (Loaded.Short n) e s z = absurd (omega (arith, z))
+    go : (x : Result ℕ LoadError) → load_of image (length t.before) ≡ x → Stands image table x → (loaded_numbers x).code ≡ 0 → Filled image table
+    go (Ok n) e s z = record { size = length t.before; count = n; ready = e; stands = s }
+    go (Err (Refused why)) e s z = absurd (omega (arith, z))
+    go (Err (Short n)) e s z = absurd (omega (arith, z))
 
 -- ---- what a budget leaves
 

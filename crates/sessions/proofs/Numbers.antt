@@ -1,5 +1,5 @@
 -- No refusal has the number 0, so that an answer in numbers says whether there was one.
-use Rattle.std.specs.Prelude.{None, Some}
+use Rattle.std.specs.Prelude.{None, Some, Err, Ok}
 use mathlib.Core.Path.{◌≡◌, refl}
 use Rattle.layout.specs.Found.{Found}
 use mathlib.Core.List.{List}
@@ -10,8 +10,7 @@ use native.Mathlib.Omega.{arith}
 use lib.Dec.{eqb, leb}
 use lib.IntN.{ℤ}
 use Rattle.program.specs.Program.{Program, Version, find_version, parameter_types}
-use Rattle.checker.specs.Verdicts.{ask, verdict_of, verdict_in}
-use Rattle.checker.specs.declared.Verdict.{Verdict}
+use Rattle.checker.specs.Verdicts.{ask, verdict_of, verdict_in, Verdict}
 use Rattle.machine.specs.Begin.{Given, arguments, entered_of, question11, question12, question13, question19, refused, run_level}
 use Rattle.machine.specs.Changes.{answer15, changed_by, change_after, change_of}
 use Rattle.machine.specs.Pools.{PoolBegun, pool_begun_as, pool_begun_by, pool_change, refuses21}
@@ -28,8 +27,8 @@ use Rattle.abi.specs.Answers.{answer_numbers, answer_with, end_numbers, entry_nu
 -- ---- the number of a refusal is not 0
 
 unfoldable Asked : Verdict → Type 0
-Asked (Verdict.Refused q p) = eqb q 0 ≡ false
-Asked (Verdict.Accepted n) = Unit {0}
+Asked (Err why) = eqb why.question 0 ≡ false
+Asked (Ok n) = Unit {0}
 
 unfoldable pub Enters : Entry → Type 0
 Enters (Entry.Refused q p) = eqb q 0 ≡ false
@@ -63,8 +62,8 @@ change-numbered old new s = go (verdict_of new) (verdict-asked new)
     by15 (Some p) = refl
 
     go : (a : Verdict) → Asked a → Changes (change_after a old new s)
-    go (Verdict.Refused q p) h = h
-    go (Verdict.Accepted n) h = by15 (answer15 old new s)
+    go (Err why) h = h
+    go (Ok n) h = by15 (answer15 old new s)
 
 pub pool-change-numbered : (p : Pool) (i : ℕ) (old new : List ℕ) (s : State) → Changes (pool_change p i old new s)
 unfolding pool_change Changes

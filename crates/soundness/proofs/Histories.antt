@@ -1,10 +1,10 @@
 -- Lists of steps, budgets and changes: the image in force is accepted and the state has the invariant, after each event and wherever a step was tried.
+use Rattle.std.specs.Prelude.{Err, Ok}
 use mathlib.Core.Path.{◌≡◌, refl}
 use mathlib.Core.List.{List}
 use Prim.Native.Nat.{ℕ}
 use lib.IntN.{ℤ}
-use Rattle.checker.specs.Verdicts.{verdict_of}
-use Rattle.checker.specs.declared.Verdict.{Verdict}
+use Rattle.checker.specs.Verdicts.{verdict_of, Verdict}
 use Rattle.checker.proofs.Accepted.{checked}
 use Rattle.machine.specs.Begin.{refused, begin_after, begin_of, program_of}
 use Rattle.machine.specs.Changes.{change_of}
@@ -25,7 +25,7 @@ use Rattle.soundness.proofs.Transfer.{transfer}
 -- a run whose image is accepted, and whose state has the invariant
 pub record Sound (r : Run) : Type 0 where
   pub versions : ℕ
-  pub verdict : verdict_of r.image ≡ Verdict.Accepted versions
+  pub verdict : verdict_of r.image ≡ Ok versions
   pub inv : Inv (program_in r) r.state
 
 pub sure-of : (r : Run) → Sound r → Sure (program_in r)
@@ -68,5 +68,5 @@ unfolding begin_of begin_after refused
 begun-sound image level f v words buffer h = go (verdict_of image) refl h
   where
     go : (a : Verdict) → verdict_of image ≡ a → (begin_after a (program_of image) level f v words buffer).entry ≡ Entry.Begun → Sound (record { image = image; state = (begin_after a (program_of image) level f v words buffer).state })
-    go (Verdict.Refused q p) e g = absurd (refused-begun q p g)
-    go (Verdict.Accepted n) e g = record { versions = n; verdict = e; inv = begun-inv (program_of image) (checked image n e) level f v words buffer g }
+    go (Err why) e g = absurd (refused-begun why.question why.at g)
+    go (Ok n) e g = record { versions = n; verdict = e; inv = begun-inv (program_of image) (checked image n e) level f v words buffer g }

@@ -1,4 +1,5 @@
 -- Levels of staff: no call is ever above the run's level, and a run begun at one level is the same at each higher one.
+use Rattle.std.specs.Prelude.{Err, Ok}
 use mathlib.Core.Path.{◌≡◌, refl, sym, ap, ap₂, ◌∙◌}
 use mathlib.Core.List.{List}
 use mathlib.Core.Option.{Option, none, some}
@@ -7,8 +8,7 @@ use native.Mathlib.Omega.{arith}
 use lib.IntN.{ℤ}
 use lib.ListN.{get_elem?}
 use Rattle.program.specs.Program.{Version, find_version}
-use Rattle.checker.specs.Verdicts.{verdict_of}
-use Rattle.checker.specs.declared.Verdict.{Verdict}
+use Rattle.checker.specs.Verdicts.{verdict_of, Verdict}
 use Rattle.checker.proofs.Accepted.{passed}
 use Rattle.machine.specs.Begin.{run_level, refused, begin_after, begin_of, program_of, run_after, run_of_to}
 use Rattle.machine.specs.Changes.{change_of}
@@ -79,8 +79,8 @@ unfolding begin_of begin_after refused
 begun-low image level f v words buffer e = go (verdict_of image) e
   where
     go : (a : Verdict) → (begin_after a (program_of image) level f v words buffer).entry ≡ Entry.Begun → NoneAbove (program_of image) (run_level level) (begin_after a (program_of image) level f v words buffer).state
-    go (Verdict.Refused q p) g = absurd (refused-begun q p g)
-    go (Verdict.Accepted n) g = entered-low (program_of image) level f v words buffer g
+    go (Err why) g = absurd (refused-begun why.question why.at g)
+    go (Ok n) g = entered-low (program_of image) level f v words buffer g
 
 -- THE LAW: no version above the run's level is ever entered
 pub never-above : NeverAbove
@@ -96,8 +96,8 @@ unfolding SameAbove begin_of begin_after refused
 same_above image l m f v words buffer h e = go (verdict_of image) e
   where
     go : (a : Verdict) → (begin_after a (program_of image) l f v words buffer).entry ≡ Entry.Begun → begin_after a (program_of image) m f v words buffer ≡ begin_after a (program_of image) l f v words buffer
-    go (Verdict.Refused q p) g = refl
-    go (Verdict.Accepted n) g = entered-above (program_of image) l m f v words buffer h g
+    go (Err why) g = refl
+    go (Ok n) g = entered-above (program_of image) l m f v words buffer h g
 
 -- THE LAW: and has the same result
 pub same-result : SameResult

@@ -1,5 +1,5 @@
 -- Every run from the start gives one of the results, and every event of a list one of its replies, from a safe step.
-use Rattle.std.specs.Prelude.{None, Some}
+use Rattle.std.specs.Prelude.{None, Some, Err, Ok}
 use mathlib.Core.Path.{◌≡◌, refl}
 use Rattle.layout.specs.Found.{Found}
 use mathlib.Core.Logic.{◌≢◌}
@@ -12,8 +12,7 @@ use lib.Dec.{leb}
 use lib.IntN.{ℤ}
 use Rattle.layout.specs.Tests.{any}
 use Rattle.program.specs.Program.{Version, Program, find_version, parameter_types}
-use Rattle.checker.specs.Verdicts.{ask, verdict_of, verdict_in}
-use Rattle.checker.specs.declared.Verdict.{Verdict}
+use Rattle.checker.specs.Verdicts.{ask, verdict_of, verdict_in, Verdict}
 use Rattle.machine.specs.States.{over}
 use Rattle.machine.specs.Runs.{step_of, last_step, continued, run_from, run_from_to, budget_in, budget_in_to, long_enough, budget_of, budget_of_to, written, buffer_of}
 use Rattle.machine.specs.Begin.{Given, arguments, refused, question11, question19, run_level, question12, question13, entered_of, begin_after, begin_of, program_of, run_after, run_after_to, run_of_to}
@@ -36,8 +35,8 @@ use Rattle.soundness.proofs.Histories.{Sound, safe-of, handle-sound, begun-sound
 
 -- of the questions to an image, by their numbers
 unfoldable Numbered : Verdict → Type 0
-Numbered (Verdict.Refused q p) = Among to_image q
-Numbered (Verdict.Accepted n) = Unit {0}
+Numbered (Err why) = Among to_image why.question
+Numbered (Ok n) = Unit {0}
 
 -- a question refuses by its own number
 ask-numbered : (n : ℕ) (x : Found) (more : Verdict) → Among to_image n → Numbered more → Numbered (ask n x more)
@@ -93,8 +92,8 @@ unfolding begin_of begin_after entered_of refused Entered Numbered
 begin-entered image level f v words buffer = go (verdict_of image) (verdict-numbered image)
   where
     go : (a : Verdict) → Numbered a → Entered (begin_after a (program_of image) level f v words buffer).entry
-    go (Verdict.Refused q p) m = of_image q p m
-    go (Verdict.Accepted n) m = eleventh level (find_version (program_of image) f v) words buffer
+    go (Err why) m = of_image why.question why.at m
+    go (Ok n) m = eleventh level (find_version (program_of image) f v) words buffer
 
 -- ---- runs
 
@@ -216,8 +215,8 @@ outcome old new s = go (verdict_of new) (verdict-numbered new)
     by15 (Some p) = is_refused15 p
 
     go : (a : Verdict) → Numbered a → Outcome (change_after a old new s)
-    go (Verdict.Refused q p) m = is_refused_image q p m
-    go (Verdict.Accepted n) m = by15 (answer15 old new s)
+    go (Err why) m = is_refused_image why.question why.at m
+    go (Ok n) m = by15 (answer15 old new s)
 
 pub listed : (e : Event) (r : Run) → Sound r → Listed e (handle e r).reply
 unfolding handle_to

@@ -1,5 +1,5 @@
 -- A change that is taken: the live versions are alike in both programs, so these agree on the live frames.
-use Rattle.std.specs.Prelude.{None, Some}
+use Rattle.std.specs.Prelude.{None, Some, Err, Ok}
 use mathlib.Core.Path.{◌≡◌, refl, sym, ap, ◌∙◌, subst}
 use Rattle.layout.specs.Found.{Found}
 use mathlib.Core.List.{List, [], ◌∷◌}
@@ -15,8 +15,7 @@ use Rattle.layout.proofs.Bools.{and_both}
 use Rattle.program.specs.Program.{Version, find_version}
 use Rattle.program.specs.Search.{first}
 use Rattle.program.proofs.Held.{holds, find-numbers}
-use Rattle.checker.specs.Verdicts.{verdict_of}
-use Rattle.checker.specs.declared.Verdict.{Verdict}
+use Rattle.checker.specs.Verdicts.{verdict_of, Verdict}
 use Rattle.checker.proofs.Accepted as accepted
 use Rattle.machine.specs.States.{ACTIVATIONS, live_frames}
 use Rattle.machine.specs.Begin.{program_of}
@@ -71,7 +70,7 @@ stays-both old new s f w x live e h =
 -- what a change that is taken has passed
 pub record Passed (old new : List ℕ) (s : State) : Type 0 where
   pub versions : ℕ
-  pub verdict : verdict_of new ≡ Verdict.Accepted versions
+  pub verdict : verdict_of new ≡ Ok versions
   pub changed : first (question15 old new s) (program_of new) ≡ None
   pub there : all_there (program_of new) s ≡ true
 
@@ -82,17 +81,17 @@ taken-passed old new s h = verdicts (verdict_of new) refl h
     refused-taken : (q p : ℕ) → Changed.Refused q p ≡ Changed.Taken → ⊥
     refused-taken q p e = let z : ◌≡◌ {A = ℕ} 0 1 = cc in omega arith
 
-    there_is : (n : ℕ) → verdict_of new ≡ Verdict.Accepted n → first (question15 old new s) (program_of new) ≡ None → (b : Bool) → all_there (program_of new) s ≡ b → changed_by (cond b None (Some (length new))) ≡ Changed.Taken → Passed old new s
+    there_is : (n : ℕ) → verdict_of new ≡ Ok n → first (question15 old new s) (program_of new) ≡ None → (b : Bool) → all_there (program_of new) s ≡ b → changed_by (cond b None (Some (length new))) ≡ Changed.Taken → Passed old new s
     there_is n v c true e g = record { versions = n; verdict = v; changed = c; there = e }
     there_is n v c false e g = absurd (refused-taken 15 (length new) g)
 
-    changes : (n : ℕ) → verdict_of new ≡ Verdict.Accepted n → (c : Found) → first (question15 old new s) (program_of new) ≡ c → changed_by (missing new s c) ≡ Changed.Taken → Passed old new s
+    changes : (n : ℕ) → verdict_of new ≡ Ok n → (c : Found) → first (question15 old new s) (program_of new) ≡ c → changed_by (missing new s c) ≡ Changed.Taken → Passed old new s
     changes n v None e g = there_is n v e (all_there (program_of new) s) refl g
     changes n v (Some p) e g = absurd (refused-taken 15 p g)
 
     verdicts : (a : Verdict) → verdict_of new ≡ a → change_after a old new s ≡ Changed.Taken → Passed old new s
-    verdicts (Verdict.Refused q p) e g = absurd (refused-taken q p g)
-    verdicts (Verdict.Accepted n) e g = changes n e (first (question15 old new s) (program_of new)) refl g
+    verdicts (Err why) e g = absurd (refused-taken why.question why.at g)
+    verdicts (Ok n) e g = changes n e (first (question15 old new s) (program_of new)) refl g
 
 -- ---- the live versions are alike
 
@@ -103,7 +102,7 @@ frame-live s sz b k h = get_take s.frames s.calls k h ∙ get-some s.frames k no
 eqb_same : (n : ℕ) → eqb n n ≡ true
 eqb_same n = eq-eqb n n refl
 
-module _ (old new : List ℕ) (n : ℕ) (was : verdict_of old ≡ Verdict.Accepted n) (s : State) (ok : Passed old new s) where
+module _ (old new : List ℕ) (n : ℕ) (was : verdict_of old ≡ Ok n) (s : State) (ok : Passed old new s) where
   -- a live call's version is in both, alike
   pub live_alike : (k : ℕ) (g : Frame) (v : Version) → Live s k g → find_version (program_of old) g.function g.version ≡ some v
       → (w : Version) × (find_version (program_of new) g.function g.version ≡ some w) × Alike v w

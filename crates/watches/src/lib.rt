@@ -135,10 +135,8 @@ fn items(bytes: &[u8; 2632], numbers: &[i64; 2129], v: usize) -> [i64; 16]
 {
     let n = layout::wide(heap::items(bytes, numbers, v));
     let mut items = [0i64; 16];
-    let mut j: usize = 0;
-    while j < n {
+    for j in 0..n {
         items[j] = heap::item(bytes, numbers, v, j);
-        j += 1;
     }
     items
 }
@@ -174,11 +172,8 @@ fn mark(image: &[u8], table: &[u8], bytes: &[u8; 2632], p: u8) -> u8
     let j = layout::wide(bytes[DELAYS + 4 * i]);
     let block = bytes[DELAYS + 4 * i + 1];
     if frames::is_live(bytes, j) {
-        let Some(k) = lookup::version(
-            table,
-            bytes[32 * j + FUNCTION],
-            bytes[32 * j + VERSION],
-        ) else {
+        let Some(k) = lookup::version(table, bytes[32 * j + FUNCTION], bytes[32 * j + VERSION])
+        else {
             return 0;
         };
         let Some(e) = lookup::block(image, table, k, block) else {
@@ -243,10 +238,8 @@ pub fn fill<'s>(
         × (rows.new ≡ rows_after (program_in image.now table.now) (state_in bytes.now numbers.now) rows.old) }
 {
     let k = fills(image, table, bytes, rows.len());
-    let mut i = 0;
-    while i < k {
+    for i in 0..k {
         rows[i] = row(image, table, bytes, numbers, i);
-        i += 1;
     }
     k
 }

@@ -35,14 +35,6 @@ returns-in_default c =
     let gone = rw (c.byte-function.ensures.0, c.byte-version.ensures.0) at (version-missing _ _ _ place) in
     sym (one-gone _ _ c.loop-k.k inside (found_none _ gone))
 
-pub overflow_add-k-in-loop-k-2 : goal.overflow_add-k-in-loop-k-2
-overflow_add-k-in-loop-k-2 c =
-    omega (arith, c.live_calls-live.ensures.1, c.loop-k-test.true)
-
-pub loop-k-smaller : goal.loop-k-smaller
-loop-k-smaller c =
-    omega (arith, c.loop-k-test.true)
-
 pub loop-k-preserved : goal.loop-k-preserved
 loop-k-preserved c =
     let right = listed-right _ _ _ _ c.requires in

@@ -1,5 +1,5 @@
 -- `changes::all_there`: the loop has found the versions of all frames below `k`.
-use Prim.Native.Nat.{ℕ, ◌-◌, ◌+◌, ◌*◌, ◌<◌, ◌≤◌}
+use Prim.Native.Nat.{ℕ, ◌+◌, ◌*◌, ◌<◌, ◌≤◌}
 use Rattle.layout.specs.Records.{◌!◌}
 use Rattle.layout.specs.Tests.{found}
 use Rattle.machine.specs.Begin.{program_of}
@@ -10,6 +10,3 @@ use Rattle.changes.proofs.all_there.Given as goal
 
 abbrev pub invariant-loop-k : goal.invariant-loop-k
 invariant-loop-k l = (l.k ≤ l.live) × ((j : ℕ) → j < l.k → found (find_version (program_of l.new) (l.bytes ! (32 * j + 24)) (l.bytes ! (32 * j + 25))) (λ (v : Version). true) ≡ true)
-
-abbrev pub decreases-loop-k : goal.decreases-loop-k
-decreases-loop-k l = l.live - l.k

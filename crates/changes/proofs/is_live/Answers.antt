@@ -30,14 +30,6 @@ returns-then-are c =
     let same = rw (c.byte-function.ensures.0, c.byte-version.ensures.0) at (sym c.are.ensures ∙ c.if-are.true) in
     sym (one-live _ _ _ c.loop-k.k inside same)
 
-pub overflow_add-k-in-loop-k-2 : goal.overflow_add-k-in-loop-k-2
-overflow_add-k-in-loop-k-2 c =
-    omega (arith, c.live_calls-live.ensures.1, c.loop-k-test.true)
-
-pub loop-k-smaller : goal.loop-k-smaller
-loop-k-smaller c =
-    omega arith
-
 pub loop-k-preserved : goal.loop-k-preserved
 loop-k-preserved c =
     let other = rw (c.byte-function.ensures.0, c.byte-version.ensures.0) at (sym c.are.ensures ∙ c.if-are.false) in

@@ -1,21 +1,19 @@
-use Rattle.listing.proofs.Gathering.{gather-begun, gather-done, gather-on, gather-stuck}
-use Rattle.acts.proofs.Answers.{whole_is, whole-stuck}
+use Rattle.listing.proofs.Gathering.{gather-begun, gather-done, gather-next, gather-ends}
+use mathlib.Core.Path.{◌∙◌}
 use Rattle.listing.proofs.all_integers.Goals as goal
 
-pub loop-i-init : goal.loop-i-init
-loop-i-init c =
+pub loop-r-init : goal.loop-r-init
+loop-r-init c =
     gather-begun _ _ _ _
 
-pub loop-i-preserved : goal.loop-i-preserved
-loop-i-preserved c =
-    gather-on _ _ _ _ _ c.loop-i.invariant c.loop-i-test.true
-    (whole_is c.integer.ensures c.in-Some.is)
+pub loop-r-preserved : goal.loop-r-preserved
+loop-r-preserved c =
+    gather-next _ _ _ _ _ c.loop-r.invariant c.loop-r-test.true _ c.integer.ensures c.if-is_none.ensures
 
-pub returns-in-None : goal.returns-in-None
-returns-in-None c =
-    gather-stuck _ _ _ _ _ c.loop-i.invariant c.loop-i-test.true
-    (whole-stuck c.integer.ensures c.in-None.is)
+pub returns-then-is_none : goal.returns-then-is_none
+returns-then-is_none c =
+    gather-ends _ _ _ _ _ c.loop-r.invariant c.loop-r-test.true _ c.integer.ensures c.if-is_none.ensures
 
 pub returns : goal.returns
 returns c =
-    gather-done _ _ _ _ _ c.loop-i.invariant c.loop-i-test.false
+    gather-done _ _ _ _ _ c.loop-r.invariant c.loop-r-test.false

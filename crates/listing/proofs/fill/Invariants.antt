@@ -1,9 +1,5 @@
 use Rattle.listing.proofs.Gathering.{Filled}
-use Prim.Native.Nat.{◌-◌}
 use Rattle.listing.proofs.fill.Given as goal
 
 abbrev pub invariant-loop-j : goal.invariant-loop-j
 invariant-loop-j l = Filled l.initial.numbers l.numbers l.k l.v l.rs l.j
-
-abbrev pub decreases-loop-j : goal.decreases-loop-j
-decreases-loop-j l = 16 - l.j

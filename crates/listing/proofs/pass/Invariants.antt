@@ -1,9 +1,5 @@
 use Rattle.listing.proofs.Opening.{Passed}
-use Prim.Native.Nat.{◌-◌}
 use Rattle.listing.proofs.pass.Given as goal
 
 abbrev pub invariant-loop-i : goal.invariant-loop-i
 invariant-loop-i l = Passed l.initial.bytes l.initial.numbers l.bytes l.numbers l.counts l.k l.to l.rs l.i
-
-abbrev pub decreases-loop-i : goal.decreases-loop-i
-decreases-loop-i l = 16 - l.i

@@ -3,6 +3,3 @@ use Rattle.matching.proofs.code_of.Given as goal
 
 abbrev pub invariant-loop-i : goal.invariant-loop-i
 invariant-loop-i l = Coding l.image l.table l.bytes l.k l.rs l.n l.i l.code
-
-abbrev pub decreases-loop-i : goal.decreases-loop-i
-decreases-loop-i l = l.i

@@ -1,9 +1,5 @@
 use Rattle.matching.proofs.Gathering.{Decoding}
-use Prim.Native.Nat.{◌-◌}
 use Rattle.matching.proofs.kinds_in.Given as goal
 
 abbrev pub invariant-loop-i : goal.invariant-loop-i
 invariant-loop-i l = Decoding l.code l.n l.kinds l.i l.c
-
-abbrev pub decreases-loop-i : goal.decreases-loop-i
-decreases-loop-i l = l.n - l.i

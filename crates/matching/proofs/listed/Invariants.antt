@@ -1,9 +1,5 @@
 use Rattle.matching.proofs.Gathering.{Listed}
-use Prim.Native.Nat.{◌-◌}
 use Rattle.matching.proofs.listed.Given as goal
 
 abbrev pub invariant-loop-i : goal.invariant-loop-i
 invariant-loop-i l = Listed l.image l.at l.step l.n l.rs l.i l.p
-
-abbrev pub decreases-loop-i : goal.decreases-loop-i
-decreases-loop-i l = l.n - l.i

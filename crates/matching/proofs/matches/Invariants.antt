@@ -4,6 +4,3 @@ use Rattle.matching.proofs.matches.Given as goal
 
 abbrev pub invariant-loop-i : goal.invariant-loop-i
 invariant-loop-i l = Fitting (version_in l.image l.table l.j) l.kinds l.n l.i l.owned
-
-abbrev pub decreases-loop-i : goal.decreases-loop-i
-decreases-loop-i l = l.i

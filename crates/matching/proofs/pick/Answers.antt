@@ -14,16 +14,16 @@ returns-in-Some-passes c =
     c.passes.ensures _ _ (first_of _ _
     c.requires.1) c.in-Some-passes.is
 
-pub loop-w-preserved-in-None-passes : goal.loop-w-preserved-in-None-passes
-loop-w-preserved-in-None-passes c =
-    left-past _ _ _ _ _ _ c.loop-w.invariant c.loop-w-test.true
-    c.byte-f.ensures _ (c.version.ensures _)
-    c.in-Some.is _ c.passes.ensures c.in-None-passes.is
-
 pub loop-w-preserved : goal.loop-w-preserved
 loop-w-preserved c =
+    left-past _ _ _ _ _ _ c.loop-w.invariant c.loop-w-test.true
+    c.byte-f.ensures _ (c.version.ensures _)
+    c.in-Some.is _ c.passes.ensures c.in_default-passes.is
+
+pub loop-w-preserved-in_default : goal.loop-w-preserved-in_default
+loop-w-preserved-in_default c =
     left-missing _ _ _ _ _ _ c.loop-w.invariant c.loop-w-test.true c.byte-f.ensures _
-    (c.version.ensures _) c.in-None.is
+    (c.version.ensures _) c.in_default.is
 
 pub returns : goal.returns
 returns c =

@@ -5,9 +5,9 @@ use Rattle.mends.specs.Parts.{Helps}
 use Rattle.mends.proofs.Parts.{place_inside, changed-back, still-table, helps-as}
 use Rattle.mends.proofs.may_help.Goals as goal
 
-pub returns-then-q-ne-FLOW : goal.returns-then-q-ne-FLOW
+pub returns-then-why-ne-FLOW : goal.returns-then-why-ne-FLOW
 unfolding Helps
-returns-then-q-ne-FLOW c = (tt, refl)
+returns-then-why-ne-FLOW c = (tt, refl)
 
 pub bounds-image-p : goal.bounds-image-p
 bounds-image-p c =
@@ -30,4 +30,4 @@ shape_of-image c = simp length-set
 
 pub returns : goal.returns
 returns c =
-    (helps-as c.requires.failing c.if-q-ne-FLOW.false c.args.p _ c.requires.among c.other_ownership-x.ensures _ c.passes-m.ensures, changed-back c.args.image.now c.args.p _ refl)
+    (helps-as c.requires.failing c.if-why-ne-FLOW.false c.args.p _ c.requires.among c.other_ownership-x.ensures _ c.passes-m.ensures, changed-back c.args.image.now c.args.p _ refl)

@@ -10,10 +10,10 @@ slice_bounds-copy-end c = omega (arith, refused-short c.requires)
 pub mend_in-requires : goal.mend_in-requires
 mend_in-requires c = record { refusal = c.requires; copy_len = simp (length-take, length-drop) (omega (arith, refused-short c.requires)) }
 
-pub returns-in-To : goal.returns-in-To
-returns-in-To c =
-    beside-change c.args.q c.args.r c.mend_in.ensures c.in-To.is
+pub returns-in-Some : goal.returns-in-Some
+returns-in-Some c =
+    beside-change c.args.why c.mend_in.ensures c.in-Some.is
 
-pub returns-in-Nowhere : goal.returns-in-Nowhere
-returns-in-Nowhere c =
-    beside-nowhere c.args.q c.args.r c.mend_in.ensures c.in-Nowhere.is
+pub returns-in-None : goal.returns-in-None
+returns-in-None c =
+    beside-nowhere c.args.why c.mend_in.ensures c.in-None.is

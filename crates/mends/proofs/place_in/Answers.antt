@@ -15,13 +15,13 @@ overflow_add-from c =
 pub value_at-requires : goal.value_at-requires
 value_at-requires c = record { failing = failing-as c.loop-i.invariant.same c.requires.failing; among = place-owned c.loop-i.invariant c.requires.owned c.loop-i-test.true }
 
-pub shape_of-image-in-To : goal.shape_of-image-in-To
-shape_of-image-in-To c =
+pub shape_of-image-in-Some : goal.shape_of-image-in-Some
+shape_of-image-in-Some c =
     ap length (c.value_at.ensures.1 ∙ c.loop-i.invariant.same)
 
-pub returns-in-To : goal.returns-in-To
-returns-in-To c =
-    place-hit c.loop-i.invariant c.loop-i-test.true c.value_at.ensures.0 c.in-To.is c.value_at.ensures.1
+pub returns-in-Some : goal.returns-in-Some
+returns-in-Some c =
+    place-hit c.loop-i.invariant c.loop-i-test.true c.value_at.ensures.0 c.in-Some.is c.value_at.ensures.1
 
 pub loop-i-preserved : goal.loop-i-preserved
 loop-i-preserved c =

@@ -29,14 +29,14 @@ place_in-requires c =
       owned = owned-as (c.loop-p.p + 10) c.registers-many.result c.loop-p.invariant.same (search-owned c.loop-p.invariant m.0 m.1 c.if-kind_at-eq-VERSION.true (search-types c.loop-p.invariant c.registers-many.ensures.0));
     }
 
-pub shape_of-image-in-To : goal.shape_of-image-in-To
-shape_of-image-in-To c =
+pub shape_of-image-in-Some : goal.shape_of-image-in-Some
+shape_of-image-in-Some c =
     ap length (c.place_in.ensures.1 ∙ c.loop-p.invariant.same)
 
-pub returns-in-To : goal.returns-in-To
-returns-in-To c =
+pub returns-in-Some : goal.returns-in-Some
+returns-in-Some c =
     let m = search-whole c.loop-p.invariant c.loop-p-test.true c.size_at-n.ensures c.if-n-eq0.false c.kind_at.ensures in
-    search-hit c.loop-p.invariant m.0 m.1 c.if-kind_at-eq-VERSION.true (search-types c.loop-p.invariant c.registers-many.ensures.0) c.place_in.ensures.0 c.in-To.is c.place_in.ensures.1
+    search-hit c.loop-p.invariant m.0 m.1 c.if-kind_at-eq-VERSION.true (search-types c.loop-p.invariant c.registers-many.ensures.0) c.place_in.ensures.0 c.in-Some.is c.place_in.ensures.1
 
 pub overflow_add-p-then-kind_at-eq-VERSION : goal.overflow_add-p-then-kind_at-eq-VERSION
 overflow_add-p-then-kind_at-eq-VERSION c =

@@ -7,10 +7,10 @@ pub loop-p-init : goal.loop-p-init
 loop-p-init c =
     walk_first _ _ _ c.requires.may c.requires.refused
 
-pub returns-then-p-r : goal.returns-then-p-r
+pub returns-then-p-why : goal.returns-then-p-why
 unfolding Told
-returns-then-p-r c =
-    walk-told c.loop-p.invariant c.loop-p-test.true c.if-p-r.true c.moved-here.ensures
+returns-then-p-why c =
+    walk-told c.loop-p.invariant c.loop-p-test.true c.if-p-why.true c.moved-here.ensures
 
 pub overflow_add-p : goal.overflow_add-p
 overflow_add-p c =
@@ -22,7 +22,7 @@ loop-p-smaller c =
 
 pub loop-p-preserved : goal.loop-p-preserved
 loop-p-preserved c =
-    walk-next c.loop-p.invariant c.loop-p-test.true c.if-p-r.false c.size_at-n.ensures c.moved-here.ensures
+    walk-next c.loop-p.invariant c.loop-p-test.true c.if-p-why.false c.size_at-n.ensures c.moved-here.ensures
 
 pub returns : goal.returns
 returns c =

@@ -1,5 +1,5 @@
 -- `watches::items`: after j turns the first j items stand over the zeros.
-use Prim.Native.Nat.{◌-◌, ◌≤◌}
+use Prim.Native.Nat.{◌≤◌}
 use mathlib.Core.Path.{◌≡◌}
 use lib.ListN.{take}
 use Rattle.machine.specs.States.{items_of, over}
@@ -9,6 +9,3 @@ use Rattle.watches.proofs.items.Given as goal
 
 abbrev pub invariant-loop-j : goal.invariant-loop-j
 invariant-loop-j l = (l.j ≤ l.n) × (l.items ≡ over (take l.j (items_of (vector_in l.bytes l.numbers l.v))) zeros)
-
-abbrev pub decreases-loop-j : goal.decreases-loop-j
-decreases-loop-j l = l.n - l.j

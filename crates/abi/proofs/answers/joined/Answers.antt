@@ -2,9 +2,9 @@
 use Rattle.abi.specs.Answers.{joined_numbers}
 use Rattle.abi.proofs.answers.joined.Goals as goal
 
-pub returns-in-Some : goal.returns-in-Some
+pub returns-in-Written : goal.returns-in-Written
 unfolding joined_numbers
-returns-in-Some c = rw c.in-Some.is
+returns-in-Written c = rw c.in-Written.is
 
 pub returns-in-First : goal.returns-in-First
 unfolding joined_numbers

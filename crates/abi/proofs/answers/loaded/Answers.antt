@@ -12,7 +12,7 @@ unfolding loaded_numbers
 returns-in-Refused c =
     rw c.in-Refused.is
 
-pub returns-in-None : goal.returns-in-None
+pub returns-in-Short : goal.returns-in-Short
 unfolding loaded_numbers
-returns-in-None c =
-    rw c.in-None.is
+returns-in-Short c =
+    rw c.in-Short.is

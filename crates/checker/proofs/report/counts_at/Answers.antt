@@ -4,12 +4,12 @@ use Rattle.checker.specs.Reports.{counts_of}
 use mathlib.Core.Path.{sym}
 use Rattle.checker.proofs.report.counts_at.Goals as goal
 
-pub returns-in-Some : goal.returns-in-Some
+pub returns-in_err-a : goal.returns-in_err-a
 unfolding counts_of
-returns-in-Some c =
-    simp (c.size-reads.ensures, c.size-assigns.ensures, c.size-empties.ensures, c.size-captures.ensures) (sym (counts-allowed _ _ _ _ c.action.ensures c.in-Some.is))
+returns-in_err-a c =
+    rw c.from_residual.ensures (sym (counts-refused _ _ _ c.action.ensures c.in_err-a.was))
 
-pub returns-in-None : goal.returns-in-None
+pub returns : goal.returns
 unfolding counts_of
-returns-in-None c =
-    sym (counts-refused _ _ _ c.action.ensures c.in-None.is)
+returns c =
+    simp (c.size.ensures, c.size-2.ensures, c.size-3.ensures, c.size-4.ensures) (sym (counts-allowed _ _ _ _ c.action.ensures c.in_ok-a.was))

@@ -1,8 +1,8 @@
 -- `checker::report::report_accepted`: four pieces, one after the other, where they fit.
+use Rattle.std.specs.Prelude.{Ok}
 use Prim.Native.Nat.{ℕ, ◌+◌}
 use Rattle.checker.proofs.Puts.{told-short, told-written, accepted-length, accepted-put}
 use Rattle.checker.specs.Reports.{answer}
-use Rattle.checker.specs.declared.Verdict.TheVariants.{Accepted}
 use Rattle.layout.specs.Records.{records}
 use Rattle.program.specs.Program.{program}
 use Rattle.writer.specs.Text.{text}
@@ -23,7 +23,7 @@ returns c =
     let P = program (records c.args.image.now) in
     let l = accepted-length P c.args.n in
     let e : c.lines_length.result + 9 + c.digits_of-size.result + 1
-    ≡ length (answer P (Accepted c.args.n)) = omega
+    ≡ length (answer P (Ok c.args.n)) = omega
     (arith, l, c.digits_of-size.ensures.0, c.lines_length.ensures.0) in
     told-written _ _ e c.if-out-total.false
     (accepted-put P c.args.n (omega (arith, e, c.if-out-total.false))

@@ -6,12 +6,12 @@ use Rattle.checker.proofs.report.report_in.Goals as goal
 
 pub report_accepted-requires : goal.report_accepted-requires
 report_accepted-requires c =
-    accepted-short _ _ _ (sym c.verdict_in.ensures ∙ c.in-Accepted.is)
+    accepted-short _ _ _ (sym c.verdict_in.ensures ∙ c.in-Ok.is)
 
-pub returns-in-Accepted : goal.returns-in-Accepted
-returns-in-Accepted c =
-    told-accepted _ _ _ (sym c.verdict_in.ensures ∙ c.in-Accepted.is) c.report_accepted.ensures
+pub returns-in-Ok : goal.returns-in-Ok
+returns-in-Ok c =
+    told-accepted _ _ _ (sym c.verdict_in.ensures ∙ c.in-Ok.is) c.report_accepted.ensures
 
-pub returns-in-Refused : goal.returns-in-Refused
-returns-in-Refused c =
-    told-refused _ _ _ _ (sym c.verdict_in.ensures ∙ c.in-Refused.is) c.report_refused.ensures
+pub returns-in-Err : goal.returns-in-Err
+returns-in-Err c =
+    told-refused _ _ _ _ (sym c.verdict_in.ensures ∙ c.in-Err.is) c.report_refused.ensures

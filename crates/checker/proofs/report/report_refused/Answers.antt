@@ -10,26 +10,26 @@ use Rattle.checker.proofs.report.report_refused.Goals as goal
 
 pub returns-then-out-total : goal.returns-then-out-total
 returns-then-out-total c =
-    let l = refusal-length c.args.n c.args.p in
+    let l = refusal-length c.args.why.question c.args.why.at in
     told-short _ _ _ (omega (arith, l, c.digits_of-size.ensures.0, c.digits_of-place.ensures.0)) c.if-out-total.true
 
 pub returns : goal.returns
 unfolding text
 returns c =
-    let l = refusal-length c.args.n
-    c.args.p in
+    let l = refusal-length c.args.why.question
+    c.args.why.at in
     let e : 8 + c.digits_of-size.result + 4 +
     c.digits_of-place.result + 1
-    ≡ length (refusal c.args.n
-    c.args.p) = omega (
+    ≡ length (refusal c.args.why.question
+    c.args.why.at) = omega (
       arith,
       l,
       c.digits_of-size.ensures.0,
       c.digits_of-place.ensures.0,
     ) in
     told-written _ _ e c.if-out-total.false
-    (refusal-put c.args.n
-    c.args.p
+    (refusal-put c.args.why.question
+    c.args.why.at
     (omega (arith, e, c.if-out-total.false))
     (record { writes = c.put_bytes.ensures; ends = refl })
     (record {

@@ -1,5 +1,5 @@
 -- `loaded::dispatch::same_ownerships`: place by place.
-use Prim.Native.Nat.{ℕ, ◌+◌, ◌-◌, ◌*◌, ◌/◌, ◌≤◌, ◌<◌}
+use Prim.Native.Nat.{ℕ, ◌+◌, ◌*◌, ◌/◌, ◌≤◌, ◌<◌}
 use mathlib.Core.Path.{◌≡◌}
 use Rattle.layout.specs.Records.{◌!◌}
 use Rattle.loaded.specs.Loaded.{version_in}
@@ -7,6 +7,3 @@ use Rattle.loaded.proofs.dispatch.same_ownerships.Given as goal
 
 abbrev pub invariant-loop-i : goal.invariant-loop-i
 invariant-loop-i l = (l.i ≤ l.n) × ((j : ℕ) → j < l.i → l.image ! (l.p + 7 + 2 * j) / 16 ≡ (version_in l.image l.table l.k).types ! j / 16)
-
-abbrev pub decreases-loop-i : goal.decreases-loop-i
-decreases-loop-i l = l.n - l.i
