@@ -3,7 +3,7 @@ use mathlib.Core.Path.{◌≡◌, refl, sym, ap, ◌∙◌}
 use mathlib.Core.Logic.{◌⊎◌, inl, inr}
 use mathlib.Core.List.{List, [], ◌∷◌}
 use mathlib.Core.Bool.{cond}
-use Prim.Native.Nat.{ℕ, suc, ◌+◌, ◌≤◌, ◌<◌}
+use Prim.Native.Nat.{ℕ, suc, min, max, ◌+◌, ◌≤◌, ◌<◌}
 use native.Mathlib.Decide.{dec_lt}
 use native.Mathlib.Omega.{arith}
 use lib.Dec.{ltb}
@@ -121,20 +121,22 @@ cap-reads n = go (capped n)
     go (whole x p) = rw p refl
     go (full x p) = rw (lt-ltb MOST (cap n) (omega (arith, p)), lt-ltb MOST n (omega (arith, x))) refl
 
--- ---- as the code tests
+-- ---- as the code makes them, by the library's lesser and greater
 
-pub below-cap : (n : ℕ) → n < LIMIT → n ≡ cap n
-unfolding cap
-below-cap n h = rw (lt-ltb n LIMIT h) refl
+pub min-cap : (n : ℕ) → min n LIMIT ≡ cap n
+min-cap n = go (capped n)
+  where
+    go : Capped n → min n LIMIT ≡ cap n
+    go (whole h e) = omega (arith, h, e)
+    go (full h e) = omega (arith, h, e)
 
-pub above-cap : (n : ℕ) → LIMIT ≤ n → LIMIT ≡ cap n
-unfolding cap
-above-cap n h = rw (le-ltb n LIMIT h) refl
-
-pub second-greater : (a b : ℕ) → a < b → b ≡ greater a b
+pub max-greater : (a b : ℕ) → max a b ≡ greater a b
 unfolding greater
-second-greater a b h = rw (lt-ltb a b h) refl
+max-greater a b = go (dec_lt a b)
+  where
+    go : Dec (a < b) → max a b ≡ cond (ltb a b) b a
+    go (yes h) = rw (lt-ltb a b h) (omega (arith, h))
+    go (no h) = let l : b ≤ a = omega arith in rw (le-ltb a b l) (omega (arith, l))
 
-pub first-greater : (a b : ℕ) → b ≤ a → a ≡ greater a b
-unfolding greater
-first-greater a b h = rw (le-ltb a b h) refl
+pub max-back : (a b : ℕ) → max b a ≡ greater a b
+max-back a b = let e : max b a ≡ max a b = omega arith in e ∙ max-greater a b

@@ -1,12 +1,12 @@
 -- The pairs of a DISPATCH against the parameters of a version, and its other tests, as the code goes along them.
-use mathlib.Core.Path.{◌≡◌, refl, sym, ap, ◌∙◌}
+use mathlib.Core.Path.{◌≡◌, refl, sym, ◌∙◌}
 use mathlib.Core.List.{List, [], ◌∷◌}
 use mathlib.Core.Bool.{Bool, true, false}
 use Prim.Native.Nat.{ℕ, zero, suc, ◌+◌, ◌-◌, ◌*◌, ◌/◌, ◌%◌, ◌≤◌, ◌<◌}
 use native.Mathlib.Numerals.{add-one}
 use native.Mathlib.Omega.{arith}
 use lib.ListN.{length, take, drop}
-use lib.Seq.{length-take-le, take_all, drop-cons, get_or-take}
+use lib.Seq.{drop-cons, get_or-take}
 use lib.Dec.{eqb, leb}
 use borrow.Author.Tests.{eq-eqb, ne_eqb}
 use Rattle.layout.proofs.Bools.{and-on, and-off}
@@ -31,12 +31,6 @@ taken_in (suc n) (suc i) (t ∷ ts) h = omega (arith, taken_in n i ts (omega ari
 module _ (s : List ℕ) (v : ℕ) where
   abbrev X : Version
   X = version_at s v
-
-  pub parameters-few : {p r : ℕ} → p ≡ (version_at s v).parameters → r ≡ length (version_at s v).types → p < r → p ≡ length (parameter_types (version_at s v))
-  parameters-few e f h = e ∙ sym (length-take-le X.parameters X.types (omega (arith, e, f, h)))
-
-  pub parameters-all : {p r : ℕ} → p ≡ (version_at s v).parameters → r ≡ length (version_at s v).types → r ≤ p → r ≡ length (parameter_types (version_at s v))
-  parameters-all e f h = f ∙ sym (ap (λ (l : List ℕ). length l) (take_all X.parameters X.types (omega (arith, e, f, h))))
 
   pub parameter-at : (i : ℕ) → i < length (parameter_types (version_at s v)) → parameter_types (version_at s v) ! i ≡ (version_at s v).types ! i
   parameter-at i h = get_or-take X.parameters X.types i 0 (taken_in X.parameters i X.types h)

@@ -9,13 +9,14 @@ use native.Mathlib.Decide.{dec_lt, ℕ_discrete}
 use native.Mathlib.Omega.{arith}
 use lib.ListN.{length, get_elem?, take, length-append}
 use lib.Dec.{eqb, ltb}
-use borrow.Author.Tests.{eq-eqb, ne_eqb, eqb-true, eqb-false, not-true}
+use borrow.Author.Tests.{eqb-true, not-true}
 use Rattle.layout.specs.Tests.{◌and◌, count}
 use Rattle.layout.proofs.Bools.{and_both, and-off}
 use Rattle.layout.proofs.Lists.{get_none}
 use Rattle.program.specs.Program.{Version, Program, find_version}
 use Rattle.program.proofs.Held.{find-numbers, find-own}
 use Rattle.checker.proofs.Accepted.{checked}
+use Rattle.machine.proofs.Places.{eqb-back}
 use Rattle.machine.specs.Begin.{program_of}
 use Rattle.machine.specs.Calls.{present}
 use Rattle.bounds.specs.Bounds.{steps_of, Row, same, is_listed, bound_in, is_free, first_of, by_number, row_of, listed_from, bounded, MOST, bound_of, unlisted, Entry, entry_of, none_of, report}
@@ -101,13 +102,6 @@ tells-version P e m = let t = tells P e m in (t.0, t.1)
 -- the version has these numbers
 abbrev is : ℕ → ℕ → Version → Bool
 is f w v = eqb v.function f and eqb v.version w
-
-eqb-back : (a b : ℕ) → eqb a b ≡ eqb b a
-eqb-back a b = go (eqb a b) refl
-  where
-    go : (t : Bool) → eqb a b ≡ t → eqb a b ≡ eqb b a
-    go true e = e ∙ sym (eq-eqb b a (sym (eqb-true a b e)))
-    go false e = e ∙ sym (ne_eqb b a (λ q. eqb-false a b e (sym q)))
 
 is_same : (f w : ℕ) (v x : Version) → v.function ≡ f → v.version ≡ w → is f w x ≡ same v x
 unfolding same

@@ -4,7 +4,7 @@ ghost use Rattle.layout.specs.Records.{◌!◌, body_at};
 ghost use Rattle.program.specs.Places.{instr_at, table_of, version_at};
 ghost use Rattle.program.specs.Program.{arguments, find_version};
 ghost use Rattle.machine.specs.Begin.{program_of};
-ghost use Rattle.bounds.specs.Bounds.{allows, fitting, greater, passing, reaches};
+ghost use Rattle.bounds.specs.Bounds.{allows, fitting, passing, reaches};
 ghost use Rattle.bounds.specs.Counts.{Goes, kept, kept_at, most};
 ghost use Rattle.bounds.specs.Sums.{cap};
 
@@ -16,21 +16,7 @@ use program::lookup;
 pub fn add(a: u64, b: u64) -> u64
     ensures { (result ≡ cap (a + b)) × (result ≤ 4294967296) }
 {
-    if LIMIT <= a {
-        return LIMIT;
-    }
-    if LIMIT <= b {
-        return LIMIT;
-    }
-    let n = a + b;
-    if n < LIMIT { n } else { LIMIT }
-}
-
-/// The greater of two numbers.
-pub fn larger(a: u64, b: u64) -> u64
-    ensures { result ≡ greater a b }
-{
-    if a < b { b } else { a }
+    a.saturating_add(b).min(LIMIT)
 }
 
 /// The number that is kept of the version `w` of the function `f`: 0 where it is not listed, else one more than its bound.
@@ -58,7 +44,7 @@ fn called(image: &[u8], table: &[usize; 128], known: &[u64; 128], at: usize) -> 
         return 1;
     };
     let n = kept(known, f, w);
-    if n == 0 { 0 } else { larger(1, n) }
+    if n == 0 { 0 } else { n.max(1) }
 }
 
 /// The greatest number that is kept of the versions that the DISPATCH at `at`, in the version at `own`, allows, at least 1; 0 where one of them is not listed.
@@ -71,23 +57,18 @@ fn dispatched(image: &[u8], table: &[usize; 128], known: &[u64; 128], own: usize
 {
     let f = layout::field(image, at, 1);
     let mut greatest: u64 = 1;
-    let mut w: usize = 0;
-    while w < bounds::VERSIONS {
-        match lookup::listed(image, table, f, w) {
-            Some(v) => {
-                if signatures::allows(image, own, at, v) {
-                    let n = kept(known, f, w);
-                    if n == 0 {
-                        return 0;
-                    }
-                    greatest = larger(greatest, n);
-                    w += 1;
-                } else {
-                    w += 1;
-                }
-            }
-            None => w += 1,
+    for w in 0..bounds::VERSIONS {
+        let Some(v) = lookup::listed(image, table, f, w) else {
+            continue;
+        };
+        if !signatures::allows(image, own, at, v) {
+            continue;
         }
+        let n = kept(known, f, w);
+        if n == 0 {
+            return 0;
+        }
+        greatest = greatest.max(n);
     }
     greatest
 }

@@ -29,10 +29,8 @@ fn starts(image: &[u8], table: &[usize; 128]) -> [usize; 128]
     ensures { Begins image.now result 128 }
 {
     let mut places = [0usize; 128];
-    let mut k: usize = 0;
-    while k < lookup::TABLE {
+    for k in 0..lookup::TABLE {
         places[k] = start(image, table[k]);
-        k += 1;
     }
     places
 }
@@ -42,11 +40,7 @@ fn is_open(image: &[u8], table: &[usize; 128], known: &[u64; 128], k: usize) -> 
     requires { (table.now ≡ table_of image.now) × (k < 128) }
     ensures { result ≡ open_at image.now known.now k }
 {
-    if table[k] < image.len() {
-        known[k] == 0
-    } else {
-        false
-    }
+    table[k] < image.len() && known[k] == 0
 }
 
 /// The place of the first version in order of number that is free to be listed. The counts go on from where they stand.
@@ -62,18 +56,15 @@ fn next_free(
     ensures { (result ≡ first_place (free_at image.now known.now) 128 0) × Ready image.now known.now places.new sums.new
         × Worth image.now known.now sums.new result }
 {
-    let mut k: usize = 0;
-    while k < lookup::TABLE {
-        if is_open(image, table, known, k) {
-            let c = counts::count(image, table, known, table[k], places[k], sums[k]);
-            places[k] = c.at;
-            sums[k] = c.steps;
-            if c.whole {
-                return Some(k);
-            }
-            k += 1;
-        } else {
-            k += 1;
+    for k in 0..lookup::TABLE {
+        if !is_open(image, table, known, k) {
+            continue;
+        }
+        let c = counts::count(image, table, known, table[k], places[k], sums[k]);
+        places[k] = c.at;
+        sums[k] = c.steps;
+        if c.whole {
+            return Some(k);
         }
     }
     None
@@ -104,17 +95,15 @@ fn list_bounded(
 {
     let mut places = starts(image, table);
     let mut sums = [0u64; 128];
-    let mut row: usize = 0;
-    while row < layout::bounds::ALL_VERSIONS {
+    for row in 0..layout::bounds::ALL_VERSIONS {
         let Some(k) = next_free(image, table, known, &mut places, &mut sums) else {
             return row;
         };
         let n = sums[k];
         put_row(numbers, steps, row, k, n);
         known[k] = n + 1;
-        row += 1;
     }
-    row
+    layout::bounds::ALL_VERSIONS
 }
 
 /// Lists the versions that are not listed from the row `from` on, in order of number, with no bound.
@@ -132,15 +121,12 @@ fn list_rest(
         × (steps.new ≡ steps_after steps.old from (rest_from image.now known.now 128 0)) }
 {
     let mut row = from;
-    let mut k: usize = 0;
-    while k < lookup::TABLE {
-        if is_open(image, table, known, k) {
-            put_row(numbers, steps, row, k, NONE);
-            row += 1;
-            k += 1;
-        } else {
-            k += 1;
+    for k in 0..lookup::TABLE {
+        if !is_open(image, table, known, k) {
+            continue;
         }
+        put_row(numbers, steps, row, k, NONE);
+        row += 1;
     }
     row
 }

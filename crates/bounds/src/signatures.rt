@@ -13,13 +13,7 @@ use typing::types;
 fn parameters_of(image: &[u8], v: usize) -> usize
     ensures { result ≡ length (parameter_types (version_at image.now v)) }
 {
-    let parameters = lookup::parameters(image, v);
-    let registers = lookup::registers(image, v);
-    if parameters < registers {
-        parameters
-    } else {
-        registers
-    }
+    lookup::parameters(image, v).min(lookup::registers(image, v))
 }
 
 /// Has the version at `v` as many parameters as the DISPATCH at `at` has pairs, with the same ownerships?
@@ -30,11 +24,8 @@ fn same_ownerships(image: &[u8], at: usize, v: usize) -> bool
     if n != parameters_of(image, v) {
         return false;
     }
-    let mut i: usize = 0;
-    while i < n {
-        if layout::field(image, at, 5 + 2 * i) / 16 == lookup::type_of(image, v, i) / 16 {
-            i += 1;
-        } else {
+    for i in 0..n {
+        if layout::field(image, at, 5 + 2 * i) / 16 != lookup::type_of(image, v, i) / 16 {
             return false;
         }
     }

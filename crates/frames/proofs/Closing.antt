@@ -1,8 +1,8 @@
 -- A call or a force that ends.
 use mathlib.Core.Path.{◌≡◌, refl, sym, ap, ◌∙◌}
-use mathlib.Core.List.{List, [], ◌∷◌}
+use mathlib.Core.List.{List}
 use mathlib.Core.Bool.{Bool, true, false, cond}
-use Prim.Native.Nat.{ℕ, zero, suc, ◌+◌, ◌-◌, ◌*◌, ◌≤◌, ◌<◌}
+use Prim.Native.Nat.{ℕ, zero, suc, ◌+◌, ◌-◌, ◌≤◌, ◌<◌}
 use native.Mathlib.Omega.{arith}
 use lib.IntN.{ℤ}
 use lib.ListN.{get_elem?, length, length-set, set, take}
@@ -11,18 +11,17 @@ use borrow.Author.Tests.{eq-eqb, eqb-true, eqb-false, ltb-true, ltb-false}
 use lib.Dec.{eqb, ltb}
 use Rattle.layout.specs.Records.{◌!◌}
 use Rattle.layout.proofs.Lists.{get_take, take_none}
-use Rattle.machine.specs.Try.{at, or_stuck, stuck}
+use Rattle.machine.specs.Try.{at, or_stuck}
 use Rattle.machine.specs.States.{is_force, live_activations, live_frames, with_stack}
 use Rattle.machine.specs.declared.Activation.{Activation}
 use Rattle.machine.specs.declared.Frame.{Frame}
 use Rattle.machine.specs.declared.Opener.{Opener}
-use Rattle.machine.specs.declared.State.{State}
 use Rattle.machine.specs.declared.Value.{Value}
 use Rattle.store.specs.Lists.{up_to}
 use Rattle.store.proofs.Lists.{missing-up_to}
 use Rattle.layout.proofs.Lists.{none-taken}
 use Rattle.store.specs.Store.{CALLS, DEPTH, activation_in, forced_by, frame_in, state_in, Live}
-use Rattle.store.specs.Counts.{one, in_frame, in_frames, holding, forcers, forcing, is_reference, references, referring, refers_to, counts_at, repend, fewer, Counted, Ready}
+use Rattle.store.specs.Counts.{one, in_frame, in_frames, holding, forcers, forcing, is_reference, references, referring, refers_to, counts_at, repend, fewer, Ready}
 use Rattle.store.proofs.Kept.{new-stack}
 use Rattle.store.proofs.Counting.{frames-some}
 use Rattle.store.proofs.Recounting.{at-frame, at-holders, elsewhere, live-frame, referring-live}

@@ -1,13 +1,16 @@
 -- A frame that is opened.
-use mathlib.Core.Path.{◌≡◌, refl, sym, ap, ◌∙◌}
+use mathlib.Core.Path.{◌≡◌, refl, sym, ap, ◌∙◌, subst}
 use mathlib.Core.List.{List, [], ◌∷◌, ◌++◌}
 use mathlib.Core.Bool.{Bool, true, false, cond}
 use native.Mathlib.Numerals.{add-one}
 use Prim.Native.Nat.{ℕ, zero, suc, ◌+◌, ◌-◌, ◌*◌, ◌≤◌, ◌<◌}
 use native.Mathlib.Omega.{arith}
 use lib.IntN.{ℤ}
-use lib.ListN.{get_elem?, length, length-set, replicate, set, take}
-use lib.Seq.{get_or-set_same, get_or-set_other, take-suc-set}
+use lib.ListN.{get_elem?, get_or, length, length-set, replicate, set, take}
+use Rattle.std.proofs.lemmas.List.{get_or-replicate, length-replicate}
+use Rattle.std.proofs.lemmas.Slice.{put_mid-paste}
+use borrow.Rule.Slice.PartMut.{put_mid}
+use lib.Seq.{get_or-set_same, get_or-set_other, take-suc-set, paste, paste-zero, paste-suc}
 use lib.Dec.{eqb, ltb}
 use borrow.Author.Tests.{eqb-true, eqb-false, ltb-true, ltb-false}
 use Rattle.layout.specs.Records.{◌!◌}
@@ -18,16 +21,16 @@ use Rattle.machine.specs.declared.State.{State}
 use Rattle.machine.specs.declared.Value.{Value}
 use Rattle.store.specs.Lists.{up_to}
 use Rattle.store.proofs.Lists.{length-up_to, up_to-same}
-use Rattle.store.specs.Store.{◌#◌, CALLS, DEPTH, value_of, cell_in, frame_in, state_in, Cleared}
+use Rattle.store.specs.Store.{CALLS, DEPTH, value_of, cell_in, frame_in, state_in, Cleared}
 use Rattle.store.specs.Counts.{one, holders, in_frame, in_frames, holding, forcing, is_reference, references, refers_to, Counted, Ready}
 use Rattle.store.specs.Acts.{with_open}
 use Rattle.store.proofs.Kept.{new-frame, new-stack}
 
 module _ (b : List ℕ) (k : ℕ) (h : k < 32) where
-  pub clear-begun : length b ≡ 2632 → Cleared b b k 0
+  clear-begun : length b ≡ 2632 → Cleared b b k 0
   clear-begun l = record { within = omega arith; empty = λ c a. absurd (omega arith); kept = λ i q. refl; long = l }
 
-  pub clear-one : (c : List ℕ) (j : ℕ) → Cleared b c k j → j < 24 → Cleared b (set c (32 * k + j) 0) k (j + 1)
+  clear-one : (c : List ℕ) (j : ℕ) → Cleared b c k j → j < 24 → Cleared b (set c (32 * k + j) 0) k (j + 1)
   clear-one c j C a =
       let l = C.long in
       record {
@@ -41,8 +44,21 @@ module _ (b : List ℕ) (k : ℕ) (h : k < 32) where
       one t true q d = let z = eqb-true t j q in let l = C.long in rw z (get_or-set_same c (32 * k + j) 0 0 (omega arith))
       one t false q d = let z = eqb-false t j q in get_or-set_other c (32 * k + j) (32 * k + t) 0 0 (λ y. z (omega arith)) ∙ C.empty t (let w : t ≡ j → ⊥ = z in omega arith)
 
-  pub clear-done : (c : List ℕ) (j : ℕ) → Cleared b c k j → 24 ≤ j → Cleared b c k 24
-  clear-done c j C a = let w = C.within in record { within = omega arith; empty = λ t d. C.empty t (omega arith); kept = C.kept; long = C.long }
+  -- the first m tags of the frame, of 24 zeros written over them
+  filled : length b ≡ 2632 → (m : ℕ) → m ≤ 24 → Cleared b (paste b (32 * k) (replicate 24 0) m) k m
+  filled l zero a = subst (λ (c : List ℕ). Cleared b c k 0) (paste-zero b (32 * k) (replicate 24 0)) (clear-begun l)
+  filled l (suc m) a =
+      let zeros : List ℕ = replicate 24 0 in
+      let C = rw add-one at (clear-one (paste b (32 * k) zeros m) m (filled l m (omega arith)) (omega arith)) in
+      let zero-there : 0 ≡ get_or zeros m 0 = sym (get_or-replicate 24 m 0 0 (omega arith)) in
+      subst (λ (c : List ℕ). Cleared b c k (suc m))
+      (ap (set (paste b (32 * k) zeros m) (32 * k + m)) zero-there ∙ paste-suc b (32 * k) zeros m 0 (omega arith) (omega (arith, length-replicate {A = ℕ} 24 0))) C
+
+  pub cleared-by : (size m : ℕ) (u : List ℕ) → length b ≡ 2632 → u ≡ replicate m 0 → size ≡ 24 → m ≡ 24 → Cleared b (put_mid (32 * k) size b u) k 24
+  cleared-by size m u l e n q =
+      subst (λ (c : List ℕ). Cleared b c k 24)
+      (sym (put_mid-paste (32 * k) size b u (replicate 24 0) 24 (e ∙ ap (λ (i : ℕ). replicate i 0) q) (sym n) refl))
+      (filled l 24 (omega arith))
 
 -- ---- a frame of empty cells counts for nothing
 

@@ -1,6 +1,6 @@
 -- The counts at the start of a budget.
 use mathlib.Core.Path.{◌≡◌, refl, sym, ap, ◌∙◌}
-use mathlib.Core.List.{List, [], ◌∷◌}
+use mathlib.Core.List.{List}
 use mathlib.Core.Bool.{Bool, true, false, cond}
 use Prim.Native.Nat.{ℕ, zero, suc, ◌+◌, ◌-◌, ◌*◌, ◌≤◌, ◌<◌}
 use native.Mathlib.Numerals.{add-one}
@@ -13,12 +13,11 @@ use Rattle.layout.specs.Records.{◌!◌}
 use Rattle.machine.specs.States.{is_force, live_activations, live_frames}
 use Rattle.machine.specs.declared.Activation.{Activation}
 use Rattle.machine.specs.declared.Frame.{Frame}
-use Rattle.machine.specs.declared.Opener.{Opener}
 use Rattle.machine.specs.declared.Value.{Value}
 use Rattle.store.specs.Lists.{up_to}
 use Rattle.store.proofs.Lists.{get_elem?-up_to, missing-up_to, take-all-up_to, take-up_to}
 use Rattle.store.specs.Store.{CALLS, DEPTH, activation_in, cell_in, frame_in, state_in, Sized}
-use Rattle.store.specs.Counts.{one, in_frame, in_frames, holding, forcers, forcing, is_reference, references, refers_to, counts_at, repend, more, Calm, Few, Pends, Ready, Recounts}
+use Rattle.store.specs.Counts.{one, in_frame, in_frames, holding, forcers, forcing, is_reference, references, refers_to, counts_at, more, Calm, Few, Pends, Ready, Recounts}
 use Rattle.store.proofs.Counting.{one-most}
 use Rattle.store.proofs.Recounting.{at-frame, at-holders, elsewhere, frame-most, hits}
 use Rattle.store.proofs.Pushing.{length-repend, repend-forced, repend-frames, repend-held}

@@ -61,9 +61,7 @@ fn clear(bytes: &mut [u8; 2632], k: usize)
     requires { (k < 32) × (length bytes.old ≡ 2632) }
     ensures { Cleared bytes.old bytes.new k 24 }
 {
-    for c in 0..24 {
-        bytes[32 * k + c] = 0;
-    }
+    bytes[32 * k..32 * k + 24].fill(0);
 }
 
 /// Opens a frame of the version, as `Frame::new` makes it, behind those of the live calls.

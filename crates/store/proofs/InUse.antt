@@ -1,16 +1,13 @@
 -- How many vectors are in use, and a place for one more.
-use Rattle.std.specs.Prelude.{None, Some, count_by}
-use mathlib.Core.Path.{◌≡◌, refl, sym, ap, ◌∙◌}
+use Rattle.std.specs.Prelude.{None, Some}
+use mathlib.Core.Path.{◌≡◌, refl, sym, ap, ◌∙◌, subst}
 use Rattle.layout.specs.Found.{Found}
 use mathlib.Core.List.{List}
-use mathlib.Core.Bool.{Bool, true, false, cond, not, ◌||◌}
-use Rattle.std.proofs.lemmas.List.Sums.{sum_by-cons}
-use Prim.Native.Nat.{ℕ, zero, suc, ◌+◌, ◌≤◌, ◌<◌}
+use mathlib.Core.Bool.{Bool, true, false, ◌||◌}
+use Prim.Native.Nat.{ℕ, suc, ◌+◌, ◌-◌, ◌≤◌, ◌<◌}
 use native.Mathlib.Omega.{arith}
 use native.Mathlib.Decide.{dec_lt}
-use lib.Dec.{eqb, leb}
-use lib.ListN.{length, take, drop}
-use lib.Seq.{drop-cons}
+use lib.Dec.{leb}
 use borrow.Author.Tests.{le-leb, lt-leb}
 use Rattle.layout.specs.Records.{◌!◌}
 use Rattle.machine.specs.Allowed.{counting, free_within, vectors_in}
@@ -19,22 +16,47 @@ use Rattle.machine.specs.Try.{stop}
 use Rattle.machine.specs.declared.End.{End}
 use Rattle.machine.specs.declared.State.{State}
 use Rattle.machine.proofs.Counting.{all-count, counting-same}
-use Rattle.store.specs.Counts.{Counted, Frees, FreesVector, free_by, in_use, is_held, taken}
+use Rattle.store.specs.Counts.{Counted, Frees, FreesVector, free_by, in_use, is_held, one, taken}
 use Rattle.store.proofs.Counting.{free_vector_lem, vector-counts}
 use Rattle.store.proofs.Free.{free-same}
 
--- ---- a count of those that are not 0
+-- ---- the loop that counts
 
-from-place : (c : List ℕ) (n i : ℕ) → i + n ≤ length c → count_by (λ (x : ℕ). not (eqb x 0)) (take n (drop i c)) ≡ counting (λ j. is_held (c ! j)) n i
-unfolding counting is_held
-from-place c zero i h = refl
-from-place c (suc n) i h =
-    let l : i < length c = omega arith in
-    rw (drop-cons c i 0) (sum_by-cons (λ (x : ℕ). cond (not (eqb x 0)) 1 0) (c ! i) (take n (drop (suc i) c)) ∙ ap (λ (m : ℕ). cond (not (eqb (c ! i) 0)) 1 0 + m) (from-place c n (suc i) (omega arith)))
+-- n of the first v places are in use: with those from v on they are all
+pub record Upto (c : List ℕ) (v n : ℕ) : Type 0 where
+  pub most : v ≤ 64
+  pub few : n ≤ v
+  pub counted : n + counting (λ j. is_held (c ! j)) (64 - v) v ≡ in_use c
 
-pub counted-in_use : (c : List ℕ) → length c ≡ 800 → count_by (λ (x : ℕ). not (eqb x 0)) (take 64 c) ≡ in_use c
+pub upto-none : (c : List ℕ) → Upto c 0 0
 unfolding in_use
-counted-in_use c l = from-place c 64 0 (omega arith)
+upto-none c = record { most = omega arith; few = omega arith; counted = none_yet _ _ (ap (λ k. counting (λ j. is_held (c ! j)) k 0) all) }
+  where
+    all : 64 - 0 ≡ 64
+    all = omega arith
+
+    none_yet : (x y : ℕ) → x ≡ y → 0 + x ≡ y
+    none_yet x y e = omega (arith, e)
+
+pub upto-on : (c : List ℕ) (v n h : ℕ) → v < 64 → Upto c v n → h ≡ one (is_held (c ! v)) → h ≤ 1 → Upto c (v + 1) (n + h)
+unfolding counting
+upto-on c v n h l U e b =
+    let a = U.few in
+    let p : 64 - v ≡ suc (64 - (v + 1)) = omega arith in
+    let q = rw p at U.counted in
+    let r : suc v ≡ v + 1 = omega arith in
+    record { most = omega arith; few = omega arith; counted = subst (λ k. n + h + counting (λ j. is_held (c ! j)) (64 - (v + 1)) k ≡ in_use c) r (moved n h _ _ _ q e) }
+  where
+    moved : (n h x y z : ℕ) → n + (x + y) ≡ z → h ≡ x → n + h + y ≡ z
+    moved n h x y z a b = omega (arith, a, b)
+
+pub upto_all : (c : List ℕ) (v n : ℕ) → 64 ≤ v → Upto c v n → n ≡ in_use c
+unfolding counting
+upto_all c v n h U =
+    let a = U.most in
+    let z : 64 - v ≡ 0 = omega arith in
+    let q = rw z at U.counted in
+    omega (arith, q)
 
 -- ---- a place
 

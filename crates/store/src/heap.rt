@@ -67,7 +67,11 @@ const VECTORS: u8 = 64;
 pub fn in_use(counts: &[u16; 800]) -> u8
     ensures { result ≡ in_use counts.now }
 {
-    counts[..64].iter().filter(|count| **count != 0).count() as u8
+    let mut n: u16 = 0;
+    for v in 0..64 {
+        n += u16::from(counts[v] != 0);
+    }
+    n as u8
 }
 
 /// A free place for a vector, where fewer than `most` are in use.

@@ -1,9 +1,5 @@
-use Prim.Native.Nat.{◌-◌}
 use Rattle.frames.specs.Frames.{Added}
 use Rattle.frames.proofs.add_frame.Given as goal
 
 abbrev pub invariant-loop-e : goal.invariant-loop-e
 invariant-loop-e l = Added l.bytes l.numbers l.initial.counts l.counts l.k l.e
-
-abbrev pub decreases-loop-e : goal.decreases-loop-e
-decreases-loop-e l = 24 - l.e

@@ -1,16 +1,11 @@
--- `bounds::counts::add`: by the tests.
+-- `bounds::counts::add`: the capped sum.
+use mathlib.Core.Path.{◌≡◌, ◌∙◌}
+use Prim.Native.Nat.{◌+◌, min}
 use native.Mathlib.Omega.{arith}
-use Rattle.bounds.proofs.Caps.{below-cap, above-cap}
+use Rattle.bounds.proofs.Caps.{min-cap}
 use Rattle.bounds.proofs.counts.add.Goals as goal
 
-pub returns-then-a-ge-LIMIT : goal.returns-then-a-ge-LIMIT
-returns-then-a-ge-LIMIT c = (above-cap _ (omega (arith, c.if-a-ge-LIMIT.true)), omega arith)
-
-pub returns-then-b-ge-LIMIT : goal.returns-then-b-ge-LIMIT
-returns-then-b-ge-LIMIT c = (above-cap _ (omega (arith, c.if-b-ge-LIMIT.true)), omega arith)
-
-pub returns-then-n-lt-LIMIT : goal.returns-then-n-lt-LIMIT
-returns-then-n-lt-LIMIT c = (below-cap _ c.if-n-lt-LIMIT.true, omega (arith, c.if-n-lt-LIMIT.true))
-
-pub returns-else-n-lt-LIMIT : goal.returns-else-n-lt-LIMIT
-returns-else-n-lt-LIMIT c = (above-cap _ c.if-n-lt-LIMIT.false, omega arith)
+pub returns : goal.returns
+returns c =
+    let both : c.min.result ≡ min (c.args.a + c.args.b) 4294967296 = omega (arith, c.min.ensures, c.saturating_add.ensures) in
+    (both ∙ min-cap (c.args.a + c.args.b), omega (arith, both))

@@ -6,14 +6,10 @@ use Rattle.layout.specs.Records.{◌!◌, body_at}
 use Rattle.machine.specs.Begin.{program_of}
 use Rattle.program.specs.Places.{version_at}
 use Rattle.program.specs.Program.{arguments}
-use Prim.Native.Nat.{◌-◌, ◌≤◌}
 use mathlib.Core.Path.{◌≡◌}
 use Rattle.bounds.proofs.counts.dispatched.Given as goal
 
 abbrev pub invariant-loop-w : goal.invariant-loop-w
-invariant-loop-w l = (l.w ≤ 4) × (l.f ≡ body_at l.image l.at ! 1)
+invariant-loop-w l = (l.f ≡ body_at l.image l.at ! 1)
     × (most (kept l.known) 1 (fitting (program_of l.image) (body_at l.image l.at ! 1) (allows (version_at l.image l.own).level (body_at l.image l.at ! 2) (body_at l.image l.at ! 3) (arguments (body_at l.image l.at) 5 (body_at l.image l.at ! 4))) 4 0)
     ≡ from (program_of l.image) l.known l.f (allows (version_at l.image l.own).level (body_at l.image l.at ! 2) (body_at l.image l.at ! 3) (arguments (body_at l.image l.at) 5 (body_at l.image l.at ! 4))) l.greatest l.w l.greatest l.w)
-
-abbrev pub decreases-loop-w : goal.decreases-loop-w
-decreases-loop-w l = 4 - l.w

@@ -1,7 +1,7 @@
 use Rattle.bounds.proofs.Filling.{filled-first, full-end, full-none, row-place, row-steps, filled_more}
 use Prim.Native.Nat.{ℕ}
 use lib.ListN.{length-replicate, get_or-replicate}
-use mathlib.Core.Path.{refl}
+use mathlib.Core.Path.{◌≡◌, refl, ◌∙◌}
 use native.Mathlib.Omega.{arith}
 use Rattle.bounds.proofs.order.list_bounded.Goals as goal
 
@@ -66,4 +66,6 @@ loop-row-preserved c =
 
 pub returns : goal.returns
 returns c =
-    full-end c.loop-row.invariant c.loop-row-test.false
+    let all = full-end c.loop-row.invariant c.loop-row-test.false in
+    let end : 64 ≡ c.loop-row.row = omega (arith, c.loop-row.auto.row-end, c.loop-row-test.false) in
+    (end ∙ all.0, all.1, all.2, all.3)

@@ -9,19 +9,19 @@ loop-k-init c =
 
 pub put_row-requires : goal.put_row-requires
 put_row-requires c =
-    (rest-room _ _ _ _ _ _ _ _ _ c.loop-k.invariant c.loop-k-test.true (sym c.is_open.ensures ∙ c.if-is_open.true) c.requires.1, c.loop-k-test.true)
+    (rest-room _ _ _ _ _ _ _ _ _ c.loop-k.invariant c.loop-k-test.true (sym c.is_open.ensures ∙ c.if-not-is_open.false) c.requires.1, c.loop-k-test.true)
 
 pub overflow_add-row : goal.overflow_add-row
 overflow_add-row c =
-    omega (arith, rest-room _ _ _ _ _ _ _ _ _ c.loop-k.invariant c.loop-k-test.true (sym c.is_open.ensures ∙ c.if-is_open.true) c.requires.1)
-
-pub loop-k-preserved-then-is_open : goal.loop-k-preserved-then-is_open
-loop-k-preserved-then-is_open c =
-    rest-next _ _ _ _ _ _ _ _ _ c.loop-k.invariant c.loop-k-test.true (sym c.is_open.ensures ∙ c.if-is_open.true) c.put_row.ensures
+    omega (arith, rest-room _ _ _ _ _ _ _ _ _ c.loop-k.invariant c.loop-k-test.true (sym c.is_open.ensures ∙ c.if-not-is_open.false) c.requires.1)
 
 pub loop-k-preserved : goal.loop-k-preserved
 loop-k-preserved c =
-    rest-past _ _ _ _ _ _ _ _ _ c.loop-k.invariant c.loop-k-test.true (sym c.is_open.ensures ∙ c.if-is_open.false)
+    rest-next _ _ _ _ _ _ _ _ _ c.loop-k.invariant c.loop-k-test.true (sym c.is_open.ensures ∙ c.if-not-is_open.false) c.put_row.ensures
+
+pub loop-k-preserved-then-not-is_open : goal.loop-k-preserved-then-not-is_open
+loop-k-preserved-then-not-is_open c =
+    rest-past _ _ _ _ _ _ _ _ _ c.loop-k.invariant c.loop-k-test.true (sym c.is_open.ensures ∙ c.if-not-is_open.true)
 
 pub returns : goal.returns
 returns c =

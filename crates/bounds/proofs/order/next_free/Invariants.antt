@@ -1,11 +1,8 @@
 -- `bounds::order::next_free`: what is left of the search is put to the places from k on.
 use Rattle.bounds.specs.Counts.{Ready, first_place, free_at}
-use Prim.Native.Nat.{◌-◌, ◌≤◌}
+use Prim.Native.Nat.{◌-◌}
 use mathlib.Core.Path.{◌≡◌}
 use Rattle.bounds.proofs.order.next_free.Given as goal
 
 abbrev pub invariant-loop-k : goal.invariant-loop-k
-invariant-loop-k l = (l.k ≤ 128) × Ready l.image l.known l.places l.sums × (first_place (free_at l.image l.known) 128 0 ≡ first_place (free_at l.image l.known) (128 - l.k) l.k)
-
-abbrev pub decreases-loop-k : goal.decreases-loop-k
-decreases-loop-k l = 128 - l.k
+invariant-loop-k l = Ready l.image l.known l.places l.sums × (first_place (free_at l.image l.known) 128 0 ≡ first_place (free_at l.image l.known) (128 - l.k) l.k)

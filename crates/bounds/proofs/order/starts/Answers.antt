@@ -7,16 +7,16 @@ use Rattle.bounds.proofs.order.starts.Goals as goal
 
 pub loop-k-init : goal.loop-k-init
 loop-k-init c =
-    (omega arith, begins-none _ _ (length-replicate {A = ℕ} 128 0))
+    begins-none _ _ (length-replicate {A = ℕ} 128 0)
 
 pub bounds-places-k : goal.bounds-places-k
 bounds-places-k c =
-    omega (arith, c.loop-k-test.true, c.loop-k.invariant.1.placed)
+    omega (arith, c.loop-k-test.true, c.loop-k.invariant.placed)
 
 pub loop-k-preserved : goal.loop-k-preserved
 loop-k-preserved c =
-    (omega (arith, c.loop-k-test.true), begins-more _ _ _ c.loop-k-test.true c.loop-k.invariant.1 (entry-is c.requires _) c.start.ensures)
+    begins-more _ _ _ c.loop-k-test.true c.loop-k.invariant (entry-is c.requires _) c.start.ensures
 
 pub returns : goal.returns
 returns c =
-    begins-all _ _ _ c.loop-k.invariant.1 c.loop-k-test.false
+    begins-all _ _ _ c.loop-k.invariant c.loop-k-test.false

@@ -9,7 +9,7 @@ returns-then-n-parameters_of c =
 
 pub loop-i-init : goal.loop-i-init
 loop-i-init c =
-    (omega arith, c.field-n.ensures.0, c.if-n-parameters_of.false ∙ c.parameters_of.ensures, rw (← c.field-n.ensures.0) (pairs_first _ _ _))
+    (c.field-n.ensures.0, c.if-n-parameters_of.false ∙ c.parameters_of.ensures, rw (← c.field-n.ensures.0) (pairs_first _ _ _))
 
 pub overflow_mul-i : goal.overflow_mul-i
 overflow_mul-i c =
@@ -21,18 +21,17 @@ overflow_add-i c =
 
 pub loop-i-preserved : goal.loop-i-preserved
 loop-i-preserved c = (
-  omega (arith, c.loop-i-test.true),
+  c.loop-i.invariant.0,
   c.loop-i.invariant.1,
-  c.loop-i.invariant.2,
-  c.loop-i.invariant.3
-      ∙ pairs-alike _ _ _ c.loop-i.invariant.2 _ c.loop-i-test.true c.field.ensures.0 (c.type_of.ensures.0 ∙ sym (parameter-at _ _ _ (omega (arith, c.loop-i-test.true, c.loop-i.invariant.2)))) c.if-field-type_of.true,
+  c.loop-i.invariant.2
+      ∙ pairs-alike _ _ _ c.loop-i.invariant.1 _ c.loop-i-test.true c.field.ensures.0 (c.type_of.ensures.0 ∙ sym (parameter-at _ _ _ (omega (arith, c.loop-i-test.true, c.loop-i.invariant.1)))) c.if-field-type_of.false,
 )
 
-pub returns-else-field-type_of : goal.returns-else-field-type_of
-returns-else-field-type_of c =
-    sym (c.loop-i.invariant.3
-    ∙ pairs-unlike _ _ _ c.loop-i.invariant.2 _ c.loop-i-test.true c.field.ensures.0 (c.type_of.ensures.0 ∙ sym (parameter-at _ _ _ (omega (arith, c.loop-i-test.true, c.loop-i.invariant.2)))) c.if-field-type_of.false)
+pub returns-then-field-type_of : goal.returns-then-field-type_of
+returns-then-field-type_of c =
+    sym (c.loop-i.invariant.2
+    ∙ pairs-unlike _ _ _ c.loop-i.invariant.1 _ c.loop-i-test.true c.field.ensures.0 (c.type_of.ensures.0 ∙ sym (parameter-at _ _ _ (omega (arith, c.loop-i-test.true, c.loop-i.invariant.1)))) c.if-field-type_of.true)
 
 pub returns : goal.returns
 returns c =
-    sym (c.loop-i.invariant.3 ∙ pairs-last _ _ _ c.loop-i.invariant.2 _ c.loop-i-test.false)
+    sym (c.loop-i.invariant.2 ∙ pairs-last _ _ _ c.loop-i.invariant.1 _ c.loop-i-test.false)
