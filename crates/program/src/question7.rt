@@ -26,11 +26,8 @@ fn vec_exists(image: &[u8], v: usize, b: usize, p: usize) -> bool
     ensures { result ≡ exists (program (records image.now)) (version_at image.now v) b (instr_of kind.VEC (body_at image.now p)) }
 {
     let registers = lookup::registers(image, v);
-    if layout::field(image, p, 0) < registers {
-        all_exist(image, p, 2, 1, layout::field(image, p, 1), registers)
-    } else {
-        false
-    }
+    layout::field(image, p, 0) < registers
+        && all_exist(image, p, 2, 1, layout::field(image, p, 1), registers)
 }
 
 /// ARITH: do its registers exist?
@@ -38,33 +35,23 @@ fn arith_exists(image: &[u8], v: usize, b: usize, p: usize) -> bool
     ensures { result ≡ exists (program (records image.now)) (version_at image.now v) b (instr_of kind.ARITH (body_at image.now p)) }
 {
     let registers = lookup::registers(image, v);
-    if layout::field(image, p, 0) < registers {
-        all_exist(image, p, 2, 1, 2, registers)
-    } else {
-        false
-    }
+    layout::field(image, p, 0) < registers && all_exist(image, p, 2, 1, 2, registers)
 }
 
 /// NAMED: do its register and name exist?
 fn named_exists(image: &[u8], v: usize, b: usize, p: usize) -> bool
     ensures { result ≡ exists (program (records image.now)) (version_at image.now v) b (instr_of kind.NAMED (body_at image.now p)) }
 {
-    if layout::field(image, p, 0) < lookup::registers(image, v) {
-        layout::field(image, p, 1) < bounds::NAMES
-    } else {
-        false
-    }
+    layout::field(image, p, 0) < lookup::registers(image, v)
+        && layout::field(image, p, 1) < bounds::NAMES
 }
 
 /// STORE: do its name and register exist?
 fn store_exists(image: &[u8], v: usize, b: usize, p: usize) -> bool
     ensures { result ≡ exists (program (records image.now)) (version_at image.now v) b (instr_of kind.STORE (body_at image.now p)) }
 {
-    if layout::field(image, p, 0) < bounds::NAMES {
-        layout::field(image, p, 1) < lookup::registers(image, v)
-    } else {
-        false
-    }
+    layout::field(image, p, 0) < bounds::NAMES
+        && layout::field(image, p, 1) < lookup::registers(image, v)
 }
 
 /// PROM: does its register exist, and its block above the block `b`?
@@ -92,11 +79,7 @@ fn peek_exists(image: &[u8], v: usize, b: usize, p: usize) -> bool
     if registers <= layout::field(image, p, 0) {
         return false;
     }
-    if layout::field(image, p, 1) < registers {
-        layout::field(image, p, 2) < bounds::NAMES
-    } else {
-        false
-    }
+    layout::field(image, p, 1) < registers && layout::field(image, p, 2) < bounds::NAMES
 }
 
 /// POKE: do its registers and its name exist?
@@ -107,11 +90,7 @@ fn poke_exists(image: &[u8], v: usize, b: usize, p: usize) -> bool
     if registers <= layout::field(image, p, 0) {
         return false;
     }
-    if layout::field(image, p, 1) < bounds::NAMES {
-        layout::field(image, p, 2) < registers
-    } else {
-        false
-    }
+    layout::field(image, p, 1) < bounds::NAMES && layout::field(image, p, 2) < registers
 }
 
 /// CALL: do its registers and its version exist, and is n the version's parameter count?
@@ -145,11 +124,8 @@ fn dispatch_exists(tabled: Tabled, v: usize, b: usize, p: usize) -> bool
     if registers <= layout::field(image, p, 0) {
         return false;
     }
-    if all_exist(image, p, 6, 2, layout::field(image, p, 4), registers) {
-        tabled.has_function(layout::field(image, p, 1))
-    } else {
-        false
-    }
+    all_exist(image, p, 6, 2, layout::field(image, p, 4), registers)
+        && tabled.has_function(layout::field(image, p, 1))
 }
 
 /// Does all exist that the instruction at `p`, in the block `b` of the version at `v`, names?
@@ -186,11 +162,7 @@ fn instruction_exists(tabled: Tabled, v: usize, b: usize, p: usize) -> bool
 fn names_block(image: &[u8], p: usize, b: usize) -> bool
     ensures { result ≡ names_block b (instr_at image.now p) }
 {
-    if layout::kind_at(image, p) == kinds::PROM {
-        layout::field(image, p, 1) == b
-    } else {
-        false
-    }
+    layout::kind_at(image, p) == kinds::PROM && layout::field(image, p, 1) == b
 }
 
 /// How many PROMs of the version at `v` name the block `b`.

@@ -66,19 +66,13 @@ fn argument_fits(image: &[u8], v: usize, p: usize, call: Call, k: usize, l: usiz
     let t = layout::field(image, place, k);
     match t / 16 {
         ownerships::OWNED => {
-            if registers::is_owned(image, v, p, l) {
-                occurrences(image, p, call, layout::field(image, p, l)) == 1
-            } else {
-                false
-            }
+            registers::is_owned(image, v, p, l)
+                && occurrences(image, p, call, layout::field(image, p, l)) == 1
         }
         ownerships::BORROWED => registers::is_vector(image, v, p, l),
         _ => {
-            if registers::is_shared(image, v, p, l) {
-                types::is_within(registers::kind_in(image, v, p, l), t % 16)
-            } else {
-                false
-            }
+            registers::is_shared(image, v, p, l)
+                && types::is_within(registers::kind_in(image, v, p, l), t % 16)
         }
     }
 }

@@ -25,11 +25,8 @@ fn all_integers(image: &[u8], v: usize, p: usize, n: usize) -> bool
 fn move_fits(image: &[u8], v: usize, b: usize, p: usize) -> bool
     ensures { result ≡ fits (program (records image.now)) (version_at image.now v) b (instr_of kind.MOVE (body_at image.now p)) }
 {
-    if registers::is_shared(image, v, p, 1) {
-        registers::takes_plain(image, v, p, 0, registers::kind_in(image, v, p, 1))
-    } else {
-        false
-    }
+    registers::is_shared(image, v, p, 1)
+        && registers::takes_plain(image, v, p, 0, registers::kind_in(image, v, p, 1))
 }
 
 /// USE: an owned vector, not in a promise block, into a d for a fresh vector.
@@ -37,11 +34,7 @@ fn use_fits(image: &[u8], v: usize, b: usize, p: usize) -> bool
     ensures { result ≡ fits (program (records image.now)) (version_at image.now v) b (instr_of kind.USE (body_at image.now p)) }
 {
     if b == 0 {
-        if registers::is_owned(image, v, p, 1) {
-            registers::takes_fresh(image, v, p, 0)
-        } else {
-            false
-        }
+        registers::is_owned(image, v, p, 1) && registers::takes_fresh(image, v, p, 0)
     } else {
         false
     }
@@ -51,33 +44,21 @@ fn use_fits(image: &[u8], v: usize, b: usize, p: usize) -> bool
 fn dup_fits(image: &[u8], v: usize, b: usize, p: usize) -> bool
     ensures { result ≡ fits (program (records image.now)) (version_at image.now v) b (instr_of kind.DUP (body_at image.now p)) }
 {
-    if registers::is_vector(image, v, p, 1) {
-        registers::takes_fresh(image, v, p, 0)
-    } else {
-        false
-    }
+    registers::is_vector(image, v, p, 1) && registers::takes_fresh(image, v, p, 0)
 }
 
 /// VEC: integers, into a d for a fresh vector.
 fn vec_fits(image: &[u8], v: usize, b: usize, p: usize) -> bool
     ensures { result ≡ fits (program (records image.now)) (version_at image.now v) b (instr_of kind.VEC (body_at image.now p)) }
 {
-    if all_integers(image, v, p, layout::field(image, p, 1)) {
-        registers::takes_fresh(image, v, p, 0)
-    } else {
-        false
-    }
+    all_integers(image, v, p, layout::field(image, p, 1)) && registers::takes_fresh(image, v, p, 0)
 }
 
 /// LEN: any vector, into a d for an integer.
 fn len_fits(image: &[u8], v: usize, b: usize, p: usize) -> bool
     ensures { result ≡ fits (program (records image.now)) (version_at image.now v) b (instr_of kind.LEN (body_at image.now p)) }
 {
-    if registers::is_vector(image, v, p, 1) {
-        registers::takes_plain(image, v, p, 0, types::INTEGER)
-    } else {
-        false
-    }
+    registers::is_vector(image, v, p, 1) && registers::takes_plain(image, v, p, 0, types::INTEGER)
 }
 
 /// GET: any vector and an index, into a d for an integer.
@@ -85,11 +66,8 @@ fn get_fits(image: &[u8], v: usize, b: usize, p: usize) -> bool
     ensures { result ≡ fits (program (records image.now)) (version_at image.now v) b (instr_of kind.GET (body_at image.now p)) }
 {
     if registers::is_vector(image, v, p, 1) {
-        if registers::is_integer(image, v, p, 2) {
-            registers::takes_plain(image, v, p, 0, types::INTEGER)
-        } else {
-            false
-        }
+        registers::is_integer(image, v, p, 2)
+            && registers::takes_plain(image, v, p, 0, types::INTEGER)
     } else {
         false
     }
@@ -101,11 +79,7 @@ fn set_fits(image: &[u8], v: usize, b: usize, p: usize) -> bool
 {
     if b == 0 {
         if registers::is_owned(image, v, p, 0) {
-            if registers::is_integer(image, v, p, 1) {
-                registers::is_integer(image, v, p, 2)
-            } else {
-                false
-            }
+            registers::is_integer(image, v, p, 1) && registers::is_integer(image, v, p, 2)
         } else {
             false
         }
@@ -119,11 +93,8 @@ fn arith_fits(image: &[u8], v: usize, b: usize, p: usize) -> bool
     ensures { result ≡ fits (program (records image.now)) (version_at image.now v) b (instr_of kind.ARITH (body_at image.now p)) }
 {
     if registers::is_integer(image, v, p, 2) {
-        if registers::is_integer(image, v, p, 3) {
-            registers::takes_plain(image, v, p, 0, types::INTEGER)
-        } else {
-            false
-        }
+        registers::is_integer(image, v, p, 3)
+            && registers::takes_plain(image, v, p, 0, types::INTEGER)
     } else {
         false
     }
@@ -135,11 +106,8 @@ fn select_fits(image: &[u8], v: usize, b: usize, p: usize) -> bool
 {
     if registers::is_integer(image, v, p, 1) {
         if registers::is_integer(image, v, p, 2) {
-            if registers::is_integer(image, v, p, 3) {
-                registers::takes_plain(image, v, p, 0, types::INTEGER)
-            } else {
-                false
-            }
+            registers::is_integer(image, v, p, 3)
+                && registers::takes_plain(image, v, p, 0, types::INTEGER)
         } else {
             false
         }
@@ -152,44 +120,28 @@ fn select_fits(image: &[u8], v: usize, b: usize, p: usize) -> bool
 fn cast_fits(image: &[u8], v: usize, b: usize, p: usize) -> bool
     ensures { result ≡ fits (program (records image.now)) (version_at image.now v) b (instr_of kind.CAST (body_at image.now p)) }
 {
-    if registers::is_shared(image, v, p, 1) {
-        registers::is_shared(image, v, p, 0)
-    } else {
-        false
-    }
+    registers::is_shared(image, v, p, 1) && registers::is_shared(image, v, p, 0)
 }
 
 /// FORCE: a promise, into a d for an integer.
 fn force_fits(image: &[u8], v: usize, b: usize, p: usize) -> bool
     ensures { result ≡ fits (program (records image.now)) (version_at image.now v) b (instr_of kind.FORCE (body_at image.now p)) }
 {
-    if registers::is_promise(image, v, p, 1) {
-        registers::takes_plain(image, v, p, 0, types::INTEGER)
-    } else {
-        false
-    }
+    registers::is_promise(image, v, p, 1) && registers::takes_plain(image, v, p, 0, types::INTEGER)
 }
 
 /// PEEK: a promise, into a d for a value.
 fn peek_fits(image: &[u8], v: usize, b: usize, p: usize) -> bool
     ensures { result ≡ fits (program (records image.now)) (version_at image.now v) b (instr_of kind.PEEK (body_at image.now p)) }
 {
-    if registers::is_promise(image, v, p, 1) {
-        registers::takes_plain(image, v, p, 0, types::VALUE)
-    } else {
-        false
-    }
+    registers::is_promise(image, v, p, 1) && registers::takes_plain(image, v, p, 0, types::VALUE)
 }
 
 /// POKE: a promise and a value.
 fn poke_fits(image: &[u8], v: usize, b: usize, p: usize) -> bool
     ensures { result ≡ fits (program (records image.now)) (version_at image.now v) b (instr_of kind.POKE (body_at image.now p)) }
 {
-    if registers::is_promise(image, v, p, 0) {
-        registers::is_value(image, v, p, 2)
-    } else {
-        false
-    }
+    registers::is_promise(image, v, p, 0) && registers::is_value(image, v, p, 2)
 }
 
 /// PROM: a d for a promise of its block's mark.

@@ -47,11 +47,8 @@ fn version_types(image: &[u8], p: usize) -> bool
 {
     let parameters = layout::field(image, p, 2);
     let registers = layout::field(image, p, 3);
-    if all_allowed(image, p, 6, 1, registers, parameters) {
-        types::return_type(layout::field(image, p, 4))
-    } else {
-        false
-    }
+    all_allowed(image, p, 6, 1, registers, parameters)
+        && types::return_type(layout::field(image, p, 4))
 }
 
 /// Are the type bytes of the DISPATCH at `p` allowed?
@@ -59,11 +56,7 @@ fn dispatch_types(image: &[u8], p: usize) -> bool
     ensures { result ≡ types_allowed (instr_of kind.DISPATCH (body_at image.now p)) }
 {
     let n = layout::field(image, p, 4);
-    if types::return_type(layout::field(image, p, 3)) {
-        all_allowed(image, p, 5, 2, n, n)
-    } else {
-        false
-    }
+    types::return_type(layout::field(image, p, 3)) && all_allowed(image, p, 5, 2, n, n)
 }
 
 /// Are the type bytes of the record at `p` allowed, where the pass stands at `here`?

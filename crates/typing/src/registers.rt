@@ -69,22 +69,14 @@ pub fn is_promise(image: &[u8], v: usize, p: usize, k: usize) -> bool
 pub fn is_value(image: &[u8], v: usize, p: usize, k: usize) -> bool
     ensures { result ≡ value (version_at image.now v) (body_at image.now p ! k) }
 {
-    if is_shared(image, v, p, k) {
-        types::is_within(kind_in(image, v, p, k), types::VALUE)
-    } else {
-        false
-    }
+    is_shared(image, v, p, k) && types::is_within(kind_in(image, v, p, k), types::VALUE)
 }
 
 /// Does a plain result of this kind go into it?
 pub fn takes_plain(image: &[u8], v: usize, p: usize, k: usize, kind: usize) -> bool
     ensures { result ≡ plain (version_at image.now v) (body_at image.now p ! k) kind }
 {
-    if is_shared(image, v, p, k) {
-        types::is_within(kind, kind_in(image, v, p, k))
-    } else {
-        false
-    }
+    is_shared(image, v, p, k) && types::is_within(kind, kind_in(image, v, p, k))
 }
 
 /// Does a fresh vector go into it?

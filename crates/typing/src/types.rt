@@ -41,22 +41,14 @@ pub fn parameter_type(t: usize) -> bool
     if ownership == ownerships::SHARED {
         return true;
     }
-    if ownership < OWNERSHIPS {
-        kind == VECTOR
-    } else {
-        false
-    }
+    ownership < OWNERSHIPS && kind == VECTOR
 }
 
 /// May the type byte `t` stand at a register that is no parameter?
 pub fn register_type(t: usize) -> bool
     ensures { result ≡ register_type t }
 {
-    if parameter_type(t) {
-        t / 16 != ownerships::BORROWED
-    } else {
-        false
-    }
+    parameter_type(t) && t / 16 != ownerships::BORROWED
 }
 
 /// May the type byte `t` stand at a return?

@@ -23,5 +23,5 @@ returns-then-all_exist c =
 pub returns-else-all_exist : goal.returns-else-all_exist
 unfolding exists instr_by choose
 returns-else-all_exist c =
-    sym (and-on _ (is_below c.field.ensures.0 c.registers-registers.ensures.0 c.if-registers-field.false)
-    ∙ and-off _ (pairs-exist _ _ 5 _ ∙ sym (all_same _ 6 2 c.registers-registers.ensures.0 c.field-2.ensures.0) ∙ sym c.all_exist.ensures ∙ c.if-all_exist.false))
+    c.if-all_exist.false ∙ (sym (and-on _ (is_below c.field.ensures.0 c.registers-registers.ensures.0 c.if-registers-field.false)
+    ∙ and-off _ (pairs-exist _ _ 5 _ ∙ sym (all_same _ 6 2 c.registers-registers.ensures.0 c.field-2.ensures.0) ∙ sym c.all_exist.ensures ∙ c.if-all_exist.false)))

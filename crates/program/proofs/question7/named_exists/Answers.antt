@@ -4,6 +4,7 @@ use Rattle.layout.specs.Tests.{◌and◌}
 use Rattle.program.specs.Program.{instr_by}
 use Rattle.program.specs.Questions.{exists}
 use borrow.Author.Tests.{lt-ltb, le-ltb}
+use mathlib.Core.Path.{◌∙◌}
 use Rattle.program.proofs.question7.named_exists.Goals as goal
 
 pub returns-then-field-registers : goal.returns-then-field-registers
@@ -14,4 +15,4 @@ returns-then-field-registers c =
 pub returns-else-field-registers : goal.returns-else-field-registers
 unfolding exists instr_by choose ◌and◌
 returns-else-field-registers c =
-    simp (← c.registers.ensures.0, ← c.field.ensures.0, le-ltb _ _ c.if-field-registers.false)
+    le-ltb _ _ c.if-field-registers.false ∙ (simp (← c.registers.ensures.0, ← c.field.ensures.0, le-ltb _ _ c.if-field-registers.false))

@@ -5,6 +5,7 @@ use Rattle.program.specs.Places.{instr_at}
 use Rattle.program.specs.Program.{instr_by}
 use Rattle.program.specs.Questions.{names_block}
 use mathlib.Core.Path.{sym, ◌∙◌}
+use borrow.Author.Tests.{ne_eqb}
 use Rattle.program.proofs.question7.names_block.Goals as goal
 
 pub returns-then-kind_at-eq-PROM : goal.returns-then-kind_at-eq-PROM
@@ -15,4 +16,4 @@ returns-then-kind_at-eq-PROM c =
 pub returns-else-kind_at-eq-PROM : goal.returns-else-kind_at-eq-PROM
 unfolding instr_at
 returns-else-kind_at-eq-PROM c =
-    sym (names-none _ _ _ (λ e. c.if-kind_at-eq-PROM.false (c.kind_at.ensures ∙ e)))
+    ne_eqb _ _ c.if-kind_at-eq-PROM.false ∙ (sym (names-none _ _ _ (λ e. c.if-kind_at-eq-PROM.false (c.kind_at.ensures ∙ e))))

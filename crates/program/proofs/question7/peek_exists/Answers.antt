@@ -4,6 +4,7 @@ use Rattle.layout.specs.Tests.{◌and◌}
 use Rattle.program.specs.Program.{instr_by}
 use Rattle.program.specs.Questions.{exists}
 use borrow.Author.Tests.{lt-ltb, le-ltb}
+use mathlib.Core.Path.{◌∙◌}
 use Rattle.program.proofs.question7.peek_exists.Goals as goal
 
 pub returns-then-registers-field : goal.returns-then-registers-field
@@ -19,4 +20,4 @@ returns-then-field-registers c =
 pub returns-else-field-registers : goal.returns-else-field-registers
 unfolding exists instr_by choose ◌and◌
 returns-else-field-registers c =
-    simp (← c.registers-registers.ensures.0, ← c.field.ensures.0, lt-ltb _ _ c.if-registers-field.false, ← c.field-2.ensures.0, le-ltb _ _ c.if-field-registers.false)
+    le-ltb _ _ c.if-field-registers.false ∙ (simp (← c.registers-registers.ensures.0, ← c.field.ensures.0, lt-ltb _ _ c.if-registers-field.false, ← c.field-2.ensures.0, le-ltb _ _ c.if-field-registers.false))

@@ -5,6 +5,7 @@ use Rattle.program.proofs.Existence.{all_same}
 use Rattle.program.specs.Program.{instr_by}
 use Rattle.program.specs.Questions.{exists}
 use mathlib.Core.Path.{sym, ◌∙◌}
+use borrow.Author.Tests.{le-ltb}
 use Rattle.program.proofs.question7.vec_exists.Goals as goal
 
 pub returns-then-field-registers : goal.returns-then-field-registers
@@ -15,4 +16,4 @@ returns-then-field-registers c =
 pub returns-else-field-registers : goal.returns-else-field-registers
 unfolding exists instr_by choose
 returns-else-field-registers c =
-    sym (and-off _ (is-above c.field.ensures.0 c.registers-registers.ensures.0 c.if-field-registers.false))
+    le-ltb _ _ c.if-field-registers.false ∙ (sym (and-off _ (is-above c.field.ensures.0 c.registers-registers.ensures.0 c.if-field-registers.false)))

@@ -12,7 +12,7 @@ returns-then-is_owned c =
 
 pub returns-else-is_owned : goal.returns-else-is_owned
 returns-else-is_owned c =
-    sym (fits-owned _ _ _ c.field-t.ensures.0 c.in-1.is ∙ and-off _ (sym c.is_owned.ensures ∙ c.if-is_owned.false))
+    c.if-is_owned.false ∙ (sym (fits-owned _ _ _ c.field-t.ensures.0 c.in-1.is ∙ and-off _ (sym c.is_owned.ensures ∙ c.if-is_owned.false)))
 
 pub returns-in-2 : goal.returns-in-2
 returns-in-2 c =
@@ -24,4 +24,4 @@ returns-then-is_shared c =
 
 pub returns-else-is_shared : goal.returns-else-is_shared
 returns-else-is_shared c =
-    sym (fits-shared _ _ _ c.field-t.ensures.0 c.in_default.in_default-own.rest.0.1 c.in_default.in_default-own.rest.1 ∙ and-off _ (sym c.is_shared.ensures ∙ c.if-is_shared.false))
+    c.if-is_shared.false ∙ (sym (fits-shared _ _ _ c.field-t.ensures.0 c.in_default.in_default-own.rest.0.1 c.in_default.in_default-own.rest.1 ∙ and-off _ (sym c.is_shared.ensures ∙ c.if-is_shared.false)))

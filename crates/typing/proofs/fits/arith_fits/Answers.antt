@@ -14,7 +14,7 @@ returns-then-is_integer-2 c =
 pub returns-else-is_integer-2 : goal.returns-else-is_integer-2
 unfolding fits instr_by choose
 returns-else-is_integer-2 c =
-    sym (and-on _ (sym c.is_integer.ensures ∙ c.if-is_integer.true) ∙ and-off _ (sym c.is_integer-then-is_integer.ensures ∙ c.if-is_integer-2.false))
+    c.if-is_integer-2.false ∙ (sym (and-on _ (sym c.is_integer.ensures ∙ c.if-is_integer.true) ∙ and-off _ (sym c.is_integer-then-is_integer.ensures ∙ c.if-is_integer-2.false)))
 
 pub returns-else-is_integer : goal.returns-else-is_integer
 unfolding fits instr_by choose

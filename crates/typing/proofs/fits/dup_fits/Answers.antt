@@ -14,4 +14,4 @@ returns-then-is_vector c =
 pub returns-else-is_vector : goal.returns-else-is_vector
 unfolding fits instr_by choose
 returns-else-is_vector c =
-    sym (and-off _ (sym c.is_vector.ensures ∙ c.if-is_vector.false))
+    c.if-is_vector.false ∙ (sym (and-off _ (sym c.is_vector.ensures ∙ c.if-is_vector.false)))

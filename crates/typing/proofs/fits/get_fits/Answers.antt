@@ -14,7 +14,7 @@ returns-then-is_integer c =
 pub returns-else-is_integer : goal.returns-else-is_integer
 unfolding fits instr_by choose
 returns-else-is_integer c =
-    sym (and-on _ (sym c.is_vector.ensures ∙ c.if-is_vector.true) ∙ and-off _ (sym c.is_integer.ensures ∙ c.if-is_integer.false))
+    c.if-is_integer.false ∙ (sym (and-on _ (sym c.is_vector.ensures ∙ c.if-is_vector.true) ∙ and-off _ (sym c.is_integer.ensures ∙ c.if-is_integer.false)))
 
 pub returns-else-is_vector : goal.returns-else-is_vector
 unfolding fits instr_by choose

@@ -14,4 +14,4 @@ returns-then-is_promise c =
 pub returns-else-is_promise : goal.returns-else-is_promise
 unfolding fits instr_by choose
 returns-else-is_promise c =
-    sym (and-off _ (sym c.is_promise.ensures ∙ c.if-is_promise.false))
+    c.if-is_promise.false ∙ (sym (and-off _ (sym c.is_promise.ensures ∙ c.if-is_promise.false)))

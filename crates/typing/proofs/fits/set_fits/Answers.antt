@@ -15,7 +15,7 @@ returns-then-is_integer c =
 pub returns-else-is_integer : goal.returns-else-is_integer
 unfolding fits instr_by choose
 returns-else-is_integer c =
-    sym (and-on _ (eq-eqb _ _ c.if-b-eq0.true) ∙ and-on _ (sym c.is_owned.ensures ∙ c.if-is_owned.true) ∙ and-off _ (sym c.is_integer.ensures ∙ c.if-is_integer.false))
+    c.if-is_integer.false ∙ (sym (and-on _ (eq-eqb _ _ c.if-b-eq0.true) ∙ and-on _ (sym c.is_owned.ensures ∙ c.if-is_owned.true) ∙ and-off _ (sym c.is_integer.ensures ∙ c.if-is_integer.false)))
 
 pub returns-else-is_owned : goal.returns-else-is_owned
 unfolding fits instr_by choose

@@ -15,7 +15,7 @@ returns-then-is_owned c =
 pub returns-else-is_owned : goal.returns-else-is_owned
 unfolding fits instr_by choose
 returns-else-is_owned c =
-    sym (and-on _ (eq-eqb _ _ c.if-b-eq0.true) ∙ and-off _ (sym c.is_owned.ensures ∙ c.if-is_owned.false))
+    c.if-is_owned.false ∙ (sym (and-on _ (eq-eqb _ _ c.if-b-eq0.true) ∙ and-off _ (sym c.is_owned.ensures ∙ c.if-is_owned.false)))
 
 pub returns-else-b-eq0 : goal.returns-else-b-eq0
 unfolding fits instr_by choose

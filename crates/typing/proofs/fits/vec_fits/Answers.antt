@@ -14,4 +14,4 @@ returns-then-all_integers c =
 pub returns-else-all_integers : goal.returns-else-all_integers
 unfolding fits instr_by choose
 returns-else-all_integers c =
-    sym (and-off _ (rw c.field.ensures.0 at (sym c.all_integers.ensures ∙ c.if-all_integers.false)))
+    c.if-all_integers.false ∙ (sym (and-off _ (rw c.field.ensures.0 at (sym c.all_integers.ensures ∙ c.if-all_integers.false))))

@@ -15,4 +15,4 @@ returns-then-return_type c =
 pub returns-else-return_type : goal.returns-else-return_type
 unfolding types_allowed instr_by choose
 returns-else-return_type c =
-    sym (and-off _ (rw c.field.ensures.0 at (sym c.return_type.ensures ∙ c.if-return_type.false)))
+    c.if-return_type.false ∙ (sym (and-off _ (rw c.field.ensures.0 at (sym c.return_type.ensures ∙ c.if-return_type.false))))

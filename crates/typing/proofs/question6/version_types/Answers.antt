@@ -14,4 +14,4 @@ returns-then-all_allowed c =
 pub returns-else-all_allowed : goal.returns-else-all_allowed
 unfolding version_types version_at
 returns-else-all_allowed c =
-    sym (and-off _ (rw (c.field-parameters.ensures.0, c.field-registers.ensures.0) at (sym c.all_allowed.ensures ∙ c.if-all_allowed.false)))
+    c.if-all_allowed.false ∙ (sym (and-off _ (rw (c.field-parameters.ensures.0, c.field-registers.ensures.0) at (sym c.all_allowed.ensures ∙ c.if-all_allowed.false))))

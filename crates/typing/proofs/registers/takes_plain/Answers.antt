@@ -9,4 +9,4 @@ returns-then-is_shared c =
 
 pub returns-else-is_shared : goal.returns-else-is_shared
 returns-else-is_shared c =
-    sym (and-off _ (sym c.is_shared.ensures ∙ c.if-is_shared.false))
+    c.if-is_shared.false ∙ (sym (and-off _ (sym c.is_shared.ensures ∙ c.if-is_shared.false)))

@@ -3,6 +3,7 @@ use Rattle.layout.specs.Tests.{◌and◌}
 use Rattle.typing.proofs.Owners.{not-shared, no-ownership}
 use Rattle.rules.specs.Types.{kind_of, ownership_of, is_shared, is_vector, parameter_type}
 use borrow.Author.Tests.{lt-ltb, le-ltb, eq-eqb, ne_eqb}
+use mathlib.Core.Path.{◌∙◌}
 use Rattle.typing.proofs.types.parameter_type.Goals as goal
 
 pub returns-then-kind-ge-KINDS : goal.returns-then-kind-ge-KINDS
@@ -23,4 +24,4 @@ returns-then-ownership-lt-OWNERSHIPS c =
 pub returns-else-ownership-lt-OWNERSHIPS : goal.returns-else-ownership-lt-OWNERSHIPS
 unfolding parameter_type kind_of is_shared is_vector ownership_of ◌and◌
 returns-else-ownership-lt-OWNERSHIPS c =
-    simp (lt-ltb _ _ c.if-kind-ge-KINDS.false, ne_eqb _ _ c.if-ownership-eq-SHARED.false, no-ownership _ c.if-ownership-lt-OWNERSHIPS.false)
+    le-ltb _ _ c.if-ownership-lt-OWNERSHIPS.false ∙ (simp (lt-ltb _ _ c.if-kind-ge-KINDS.false, ne_eqb _ _ c.if-ownership-eq-SHARED.false, no-ownership _ c.if-ownership-lt-OWNERSHIPS.false))

@@ -12,4 +12,4 @@ returns-then-parameter_type c =
 pub returns-else-parameter_type : goal.returns-else-parameter_type
 unfolding register_type is_borrowed ownership_of ◌and◌
 returns-else-parameter_type c =
-    simp (sym c.parameter_type.ensures ∙ c.if-parameter_type.false)
+    c.if-parameter_type.false ∙ (simp (sym c.parameter_type.ensures ∙ c.if-parameter_type.false))
