@@ -1,5 +1,5 @@
 -- The operations on integers end a run by UNDEF alone.
-use Rattle.std.specs.Prelude.{None, Some}
+use Rattle.std.specs.Prelude.{None, Some, Ok, Err}
 use mathlib.Core.Path.{◌≡◌, refl}
 use mathlib.Core.Bool.{Bool, true, false, cond, not}
 use Prim.Native.Nat.{ℕ}
@@ -11,11 +11,11 @@ use Rattle.machine.specs.Try.{Try, got, stuck, stop, ◌>>◌, end_unless}
 use Rattle.machine.specs.Values.{RANGE, ranged, ranged_to, floored, divided, divided_to, is_zero, arith, arith_to, index}
 use Rattle.machine.specs.declared.End.{End}
 use Rattle.integers.specs.Computed.{computed_of, indexed_of}
-use Rattle.integers.specs.declared.Computed.{Computed}
+use Rattle.integers.specs.declared.Fault.{Fault}
 
 -- UNDEF is the only stop that it may come to
 Only : Try ℤ → Type 0
-Only t = computed_of t ≡ Computed.Undef → t ≡ stop End.Undef
+Only t = computed_of t ≡ Err Fault.Undef → t ≡ stop End.Undef
 
 only-cond : (b : Bool) (t u : Try ℤ) → Only t → Only u → Only (cond b t u)
 only-cond true t u p q = p
@@ -42,7 +42,7 @@ only-divided : (x y : ℤ) → Only (divided x y)
 unfolding divided_to
 only-divided x y = ends (not (is_zero y)) (ranged (floored x y)) (only-ranged (floored x y))
 
-pub arith-undef : (op : ℕ) (x y : ℤ) → computed_of (arith op x y) ≡ Computed.Undef → arith op x y ≡ stop End.Undef
+pub arith-undef : (op : ℕ) (x y : ℤ) → computed_of (arith op x y) ≡ Err Fault.Undef → arith op x y ≡ stop End.Undef
 unfolding arith_to choose Only
 arith-undef op x y =
     only-cond (eqb op 0) _ _ (only-ranged (x +ℤ y))
@@ -52,13 +52,13 @@ arith-undef op x y =
     (only-cond (eqb op 4) _ _ (only-got (cond (lt_z x y) (pos 1) (pos 0))) only-stuck))))
 
 -- what an answer says of an operation
-pub computed-got : (t : Try ℤ) (z : ℤ) → computed_of t ≡ Computed.Integer z → t ≡ got z
+pub computed-got : (t : Try ℤ) (z : ℤ) → computed_of t ≡ Ok z → t ≡ got z
 unfolding computed_of
 computed-got (got x) z h = cc
 computed-got stuck z h = cc
 computed-got (stop e) z h = cc
 
-pub computed-stuck : (t : Try ℤ) → computed_of t ≡ Computed.Stuck → t ≡ stuck
+pub computed-stuck : (t : Try ℤ) → computed_of t ≡ Err Fault.Stuck → t ≡ stuck
 unfolding computed_of
 computed-stuck (got x) h = cc
 computed-stuck stuck h = refl

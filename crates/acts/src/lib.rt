@@ -9,7 +9,7 @@ ghost use Rattle.store.specs.Counts.{Ready};
 ghost use Rattle.store.specs.Acts.{Executes, ExecutesWith};
 ghost use Rattle.acts.specs.Typed.{ExecutesIf, ExecutesTyped};
 
-use integers::Computed;
+use integers::Fault;
 use machine::{Activation, Cache, Opener};
 use store::{Did, Halt, cells, heap, stack};
 
@@ -196,9 +196,9 @@ pub fn arith(
         return Did::Stuck;
     };
     match integers::arith(op, x, y) {
-        Computed::Integer(z) => cells::assign_integer(bytes, numbers, counts, k, d, z),
-        Computed::Undef => Did::Stop(Halt::Undef),
-        Computed::Stuck => Did::Stuck,
+        Ok(z) => cells::assign_integer(bytes, numbers, counts, k, d, z),
+        Err(Fault::Undef) => Did::Stop(Halt::Undef),
+        Err(Fault::Stuck) => Did::Stuck,
     }
 }
 

@@ -1,5 +1,5 @@
 -- What the tests of the code make of the definitions.
-use Rattle.std.specs.Prelude.{None, Some}
+use Rattle.std.specs.Prelude.{None, Some, Ok, Err}
 use Prim.Native.Nat.{ℕ, ◌≤◌, ◌<◌}
 use mathlib.Core.Path.{◌≡◌, refl}
 use mathlib.Core.Bool.{Bool, true, false, cond}
@@ -11,17 +11,17 @@ use borrow.Author.Tests.{ltb-true, lt-ltb, le-ltb}
 use Rattle.machine.specs.Try.{got, ◌>>◌, end_unless}
 use Rattle.machine.specs.Values.{RANGE, ranged, ranged_to, is_zero, floored, divided, divided_to, index}
 use Rattle.integers.specs.Computed.{computed_of, indexed_of}
-use Rattle.integers.specs.declared.Computed.{Computed}
+use Rattle.integers.specs.declared.Fault.{Fault}
 
-pub in-range : (z : ℤ) → ltb (mag z) RANGE ≡ true → Computed.Integer z ≡ computed_of (ranged z)
+pub in-range : (z : ℤ) → ltb (mag z) RANGE ≡ true → Ok z ≡ computed_of (ranged z)
 unfolding computed_of ranged_to end_unless ◌>>◌
 in-range z e = rw e
 
-pub out_of_range : (z : ℤ) → ltb (mag z) RANGE ≡ false → Computed.Undef ≡ computed_of (ranged z)
+pub out_of_range : (z : ℤ) → ltb (mag z) RANGE ≡ false → Err Fault.Undef ≡ computed_of (ranged z)
 unfolding computed_of ranged_to end_unless ◌>>◌
 out_of_range z e = rw e
 
-pub by_zero : (x y : ℤ) → is_zero y ≡ true → Computed.Undef ≡ computed_of (divided x y)
+pub by_zero : (x y : ℤ) → is_zero y ≡ true → Err Fault.Undef ≡ computed_of (divided x y)
 unfolding computed_of divided_to end_unless ◌>>◌
 by_zero x y e = rw e
 
@@ -29,11 +29,11 @@ pub not-by-zero : (x y : ℤ) → is_zero y ≡ false → ranged (floored x y) �
 unfolding divided_to end_unless ◌>>◌
 not-by-zero x y e = rw e
 
-pub is-less : {t : Bool} → t ≡ true → Computed.Integer (pos 1) ≡ computed_of (got (cond t (pos 1) (pos 0)))
+pub is-less : {t : Bool} → t ≡ true → Ok (pos 1) ≡ computed_of (got (cond t (pos 1) (pos 0)))
 unfolding computed_of
 is-less e = rw e
 
-pub not-less : {t : Bool} → t ≡ false → Computed.Integer (pos 0) ≡ computed_of (got (cond t (pos 1) (pos 0)))
+pub not-less : {t : Bool} → t ≡ false → Ok (pos 0) ≡ computed_of (got (cond t (pos 1) (pos 0)))
 unfolding computed_of
 not-less e = rw e
 

@@ -1,14 +1,14 @@
 -- What the operations on integers answer.
-use Rattle.std.specs.Prelude.{Bool, true, false, ℕ, zero, suc, ◌-◌, ℤ, pos, negsuc, None, Option, Some}
+use Rattle.std.specs.Prelude.{Bool, true, false, ℕ, zero, suc, ◌-◌, ℤ, pos, negsuc, None, Option, Some, Result, Ok, Err}
 use Rattle.machine.specs.Values.{RANGE}
 use Rattle.machine.specs.Try.{Try, got, stuck, stop}
-use Rattle.integers.specs.declared.Computed.{Computed}
+use Rattle.integers.specs.declared.Fault.{Fault}
 
 -- the result of an operation; integers end a run by UNDEF alone
-unfoldable pub computed_of : Try ℤ → Computed
-computed_of (got z) = Computed.Integer z
-computed_of stuck = Computed.Stuck
-computed_of (stop e) = Computed.Undef
+unfoldable pub computed_of : Try ℤ → Result ℤ Fault
+computed_of (got z) = Ok z
+computed_of stuck = Err Fault.Stuck
+computed_of (stop e) = Err Fault.Undef
 
 -- the place of an item; no index is stuck
 unfoldable pub indexed_of : Try ℕ → Option ℕ

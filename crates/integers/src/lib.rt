@@ -8,10 +8,9 @@ ghost use Rattle.machine.specs.Try.{got};
 ghost use Rattle.machine.specs.Values.{RANGE, NARROW-RANGE, ranged, is_zero, floored, divided, arith, index};
 ghost use Rattle.integers.specs.Computed.{computed_of, indexed_of, is_minus_one, limit_of};
 
-/// What an operation on integers comes to: an integer, UNDEF, or stuck where there is no such operation.
+/// Why something gives no value: UNDEF, or stuck.
 #[derive(Clone, Copy)]
-pub enum Computed {
-    Integer(i64),
+pub enum Fault {
     Undef,
     Stuck,
 }
@@ -121,33 +120,33 @@ fn product_in_range(x: i64, y: i64) -> bool
 }
 
 /// The sum, or UNDEF where it is out of range.
-fn add(x: i64, y: i64) -> Computed
+fn add(x: i64, y: i64) -> Result<i64, Fault>
     ensures { result ≡ computed_of (ranged (x +ℤ y)) }
 {
     if sum_in_range(x, y) {
-        return Computed::Integer(x + y);
+        return Ok(x + y);
     }
-    Computed::Undef
+    Err(Fault::Undef)
 }
 
 /// The difference, or UNDEF where it is out of range.
-fn subtract(x: i64, y: i64) -> Computed
+fn subtract(x: i64, y: i64) -> Result<i64, Fault>
     ensures { result ≡ computed_of (ranged (x -ℤ y)) }
 {
     if difference_in_range(x, y) {
-        return Computed::Integer(x - y);
+        return Ok(x - y);
     }
-    Computed::Undef
+    Err(Fault::Undef)
 }
 
 /// The product, or UNDEF where it is out of range.
-fn multiply(x: i64, y: i64) -> Computed
+fn multiply(x: i64, y: i64) -> Result<i64, Fault>
     ensures { result ≡ computed_of (ranged (x *ℤ y)) }
 {
     if product_in_range(x, y) {
-        return Computed::Integer(x * y);
+        return Ok(x * y);
     }
-    Computed::Undef
+    Err(Fault::Undef)
 }
 
 /// The quotient by a divisor that is neither 0 nor −1, rounded toward minus infinity: where the signs differ, one below that of
@@ -172,30 +171,30 @@ fn floor(x: i64, y: i64) -> i64
 }
 
 /// The quotient, or UNDEF where `y` is 0, or is −1 and `x` the least integer.
-fn divide(x: i64, y: i64) -> Computed
+fn divide(x: i64, y: i64) -> Result<i64, Fault>
     ensures { result ≡ computed_of (divided x y) }
 {
     if is_zero(y) {
-        return Computed::Undef;
+        return Err(Fault::Undef);
     }
     if is_minus_one(y) {
         return subtract(0, x);
     }
-    Computed::Integer(floor(x, y))
+    Ok(floor(x, y))
 }
 
 /// 1 where `x` is less than `y`, else 0.
-fn less(x: i64, y: i64) -> Computed
+fn less(x: i64, y: i64) -> Result<i64, Fault>
     ensures { result ≡ computed_of (got (cond (lt_z x y) (pos 1) (pos 0))) }
 {
     if x < y {
-        return Computed::Integer(1);
+        return Ok(1);
     }
-    Computed::Integer(0)
+    Ok(0)
 }
 
-/// The operation `op` on `x` and `y`: 0 add, 1 subtract, 2 multiply, 3 divide, 4 less.
-pub fn arith(op: u8, x: i64, y: i64) -> Computed
+/// The operation `op` on `x` and `y`: 0 add, 1 subtract, 2 multiply, 3 divide, 4 less; stuck where there is no such operation.
+pub fn arith(op: u8, x: i64, y: i64) -> Result<i64, Fault>
     ensures { result ≡ computed_of (arith op x y) }
 {
     match op {
@@ -204,7 +203,7 @@ pub fn arith(op: u8, x: i64, y: i64) -> Computed
         2 => multiply(x, y),
         3 => divide(x, y),
         4 => less(x, y),
-        _ => Computed::Stuck,
+        _ => Err(Fault::Stuck),
     }
 }
 

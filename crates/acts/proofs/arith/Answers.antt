@@ -1,10 +1,11 @@
+use Rattle.std.specs.Prelude.{Err}
 use Rattle.acts.proofs.Answers.{stays, stops, by, whole_is, whole-stuck}
 use Rattle.acts.proofs.Undef.{arith-undef, computed-got, computed-stuck}
 use Rattle.machine.specs.Steps.{execute_to}
 use Rattle.machine.specs.Try.{◌>>=◌}
 use Rattle.store.specs.Answers.{end_of}
 use Rattle.store.specs.declared.Halt.{Halt}
-use mathlib.Core.Path.{refl, sym, ◌∙◌}
+use mathlib.Core.Path.{refl, sym, ap, ◌∙◌}
 use mir.Val.{SFits}
 use mir.Syntax.{w64}
 use mir.Facts.{to_z-of_z}
@@ -31,12 +32,12 @@ pub assign_integer-requires : goal.assign_integer-requires
 assign_integer-requires c =
     c.requires
 
-pub returns-in-Integer : goal.returns-in-Integer
+pub returns-in-Ok : goal.returns-in-Ok
 unfolding execute_to ◌>>=◌
-returns-in-Integer c =
+returns-in-Ok c =
     let sx : SFits w64 c.in-Some.x = search rules in
     let sy : SFits w64 c.in-Some-integer.y = search rules in
-    let sz : SFits w64 c.in-Integer.z = search rules in
+    let sz : SFits w64 c.in-Ok.z = search rules in
     let e = rw (to_z-of_z sx, to_z-of_z sy) at c.arith.ensures in
     let g = rw (to_z-of_z sz) at c.assign_integer.ensures in (
       λ P W. by _ _ _ _ _
@@ -47,14 +48,14 @@ returns-in-Integer c =
                 c.integer-2.ensures
                 c.in-Some-integer.is,
             computed-got _ _
-                (sym e ∙ c.in-Integer.is),
+                (sym e ∙ c.in-Ok.is),
           ) refl) g.0,
       g.1,
     )
 
-pub returns-in-Undef : goal.returns-in-Undef
+pub returns-in-Err-Undef : goal.returns-in-Err-Undef
 unfolding execute_to ◌>>=◌ end_of
-returns-in-Undef c =
+returns-in-Err-Undef c =
     let sx : SFits w64 c.in-Some.x = search rules in
     let sy : SFits w64 c.in-Some-integer.y = search rules in
     let e = rw (to_z-of_z sx, to_z-of_z sy) at c.arith.ensures in (
@@ -63,14 +64,14 @@ returns-in-Undef c =
             c.in-Some.is,
         whole_is c.integer-2.ensures
             c.in-Some-integer.is,
-        arith-undef _ _ _ (sym e ∙ c.in-Undef.is),
+        arith-undef _ _ _ (sym e ∙ c.in-Err-Undef.is ∙ ap Err c.in-Err-Undef.field-0-is),
       ) refl),
       c.requires.0,
     )
 
-pub returns-in-Stuck : goal.returns-in-Stuck
+pub returns-in-Err-Stuck : goal.returns-in-Err-Stuck
 unfolding execute_to ◌>>=◌
-returns-in-Stuck c =
+returns-in-Err-Stuck c =
     let sx : SFits w64 c.in-Some.x = search rules in
     let sy : SFits w64 c.in-Some-integer.y = search rules in
     let e = rw (to_z-of_z sx, to_z-of_z sy) at c.arith.ensures in (
@@ -79,7 +80,7 @@ returns-in-Stuck c =
             c.in-Some.is,
         whole_is c.integer-2.ensures
             c.in-Some-integer.is,
-        computed-stuck _ (sym e ∙ c.in-Stuck.is),
+        computed-stuck _ (sym e ∙ c.in-Err-Stuck.is ∙ ap Err c.in-Err-Stuck.field-0-is),
       ) refl),
       c.requires.0,
     )
