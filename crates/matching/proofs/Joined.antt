@@ -238,7 +238,7 @@ module _ (s t b : List ℕ) (n : List ℤ) (x : Site) (rs : List ℕ) (S : Sited
 
     comes : (r : Result Choice Fault) → Decides r s t x.n (decided_at s t x.own x.place x.kind ks) → Choosing.Comes r s t b n x i ls
     unfolding Decides Choosing.Comes version_in
-    comes (Ok (record { version = j; owned = m })) D = record {
+    comes (Ok v) D = record {
       low = D.1;
       enters = by-kinds ∙ calls-it (state_in b n) x.frame F (s ! (x.place + 2)) ls D.0;
       marks = λ k l. D.2 k (omega (arith, long));

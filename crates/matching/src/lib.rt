@@ -292,10 +292,10 @@ fn called(image: &[u8], table: &[u8], p: u16, kinds: &[u8; 8], n: usize) -> Resu
     let Some(j) = lookup::version(table, f, w) else {
         return Err(Fault::Stuck);
     };
-    match matches(image, table, j, kinds, n) {
-        Some(owned) => Ok(Choice { version: j, owned: owned }),
-        None => Err(Fault::Stuck),
-    }
+    let Some(owned) = matches(image, table, j, kinds, n) else {
+        return Err(Fault::Stuck);
+    };
+    Ok(Choice { version: j, owned: owned })
 }
 
 /// What the CALL or DISPATCH calls, by the code of the kinds of its arguments.

@@ -245,7 +245,7 @@ module _ (s t b : List ℕ) (n : List ℤ) (p : Spot) (S : Stands s t b n p) (c 
     to-enter = go r comes
       where
         go : (y : Result Choice Fault) → Comes y s t b₁ n x p.next rs → Chosen y b₁ n p.frame rs
-        go (Ok (record { version = j; owned = m })) E = subst (λ k. AllFull b₁ n k rs) at-frame E.full
+        go (Ok v) E = subst (λ k. AllFull b₁ n k rs) at-frame E.full
         go (Err Fault.Undef) E = omega arith
         go (Err Fault.Stuck) E = omega arith
 
@@ -256,9 +256,9 @@ module _ (s t b : List ℕ) (n : List ℤ) (p : Spot) (S : Stands s t b n p) (c 
       call-answers = go r refl O
         where
           go : (z : Result Choice Fault) → r ≡ z → Opens y z b₁ n b' n' c' p.frame d rs → Answers y s t b n b' n' c' p
-          go (Ok (record { version = j; owned = m })) e E = (
+          go (Ok v) e E = (
             subst (λ w. Went w s t b n b' n' c' p) (sym E.turn)
-                (call-went s t b n p S.here c R S.line b₁ st x own_is at-frame rs b' n' c' calling r comes j m e E.did d d-is E.enters),
+                (call-went s t b n p S.here c R S.line b₁ st x own_is at-frame rs b' n' c' calling r comes v.version v.owned e E.did d d-is E.enters),
             λ q. moved-rest E.did
                 (sym E.turn ∙ q),
           )
