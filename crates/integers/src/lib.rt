@@ -215,11 +215,7 @@ pub fn index(z: i64, n: u8) -> Option<u8>
         return None;
     }
     let i = z as u64;
-    if i < n as u64 {
-        Some(i as u8)
-    } else {
-        None
-    }
+    if i < n as u64 { Some(i as u8) } else { None }
 }
 
 /// Is `z` 0?

@@ -265,7 +265,14 @@ fn passes(
 }
 
 /// What the DISPATCH at the place `p`, in the version `own`, calls with arguments of these kinds: the lowest version that it passes.
-fn pick(image: &[u8], table: &[u8], own: u8, p: u16, kinds: &[u8; 8], n: usize) -> Result<Choice, Fault>
+fn pick(
+    image: &[u8],
+    table: &[u8],
+    own: u8,
+    p: u16,
+    kinds: &[u8; 8],
+    n: usize,
+) -> Result<Choice, Fault>
     requires { (n ≤ 8) × (n ≤ length kinds.now) }
     ensures { Decides result image.now table.now n (picked_at image.now table.now own p (take n kinds.now)) }
 {
@@ -275,7 +282,10 @@ fn pick(image: &[u8], table: &[u8], own: u8, p: u16, kinds: &[u8; 8], n: usize) 
             continue;
         };
         if let Some(owned) = passes(image, table, own, p, j, kinds, n) {
-            return Ok(Choice { version: j, owned: owned });
+            return Ok(Choice {
+                version: j,
+                owned: owned,
+            });
         }
     }
     Err(Fault::Undef)
@@ -295,7 +305,10 @@ fn called(image: &[u8], table: &[u8], p: u16, kinds: &[u8; 8], n: usize) -> Resu
     let Some(owned) = matches(image, table, j, kinds, n) else {
         return Err(Fault::Stuck);
     };
-    Ok(Choice { version: j, owned: owned })
+    Ok(Choice {
+        version: j,
+        owned: owned,
+    })
 }
 
 /// What the CALL or DISPATCH calls, by the code of the kinds of its arguments.
@@ -333,7 +346,10 @@ fn holds(cache: &[u16; 256], i: usize, place: u16, key: u16, code: u16) -> bool
 fn kept(to: u16) -> Choice
     ensures { result ≡ choice (to / 256) (to % 256) }
 {
-    Choice { version: (to / 256) as u8, owned: (to % 256) as u8 }
+    Choice {
+        version: (to / 256) as u8,
+        owned: (to % 256) as u8,
+    }
 }
 
 /// Keeps the choice in the row whose four numbers begin at `i` of the cache.

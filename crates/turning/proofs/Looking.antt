@@ -194,13 +194,13 @@ pub opens-version : (r : Result Choice Fault) (x : Turn) (b : List ℕ) (n : Lis
 unfolding Opens
 opens-version r x b n b' n' c' k d rs j m y e q E = subst (λ z. Opens x z b n b' n' c' k d rs) (sym e) (record { did = y; turn = q; enters = E })
 
-pub opens-undef : (r : Result Choice Fault) (b : List ℕ) (n : List ℤ) (c' : List ℕ) (k d : ℕ) (rs : List ℕ) → r ≡ Err Fault.Undef → Opens (Turn.Stop Halt.Undef) r b n b n c' k d rs
+pub opens-undef : (r : Result Choice Fault) (b : List ℕ) (n : List ℤ) (c' : List ℕ) (k d : ℕ) (rs : List ℕ) (x : Fault) → r ≡ Err x → x ≡ Fault.Undef → Opens (Turn.Stop Halt.Undef) r b n b n c' k d rs
 unfolding Opens
-opens-undef r b n c' k d rs e = subst (λ z. Opens (Turn.Stop Halt.Undef) z b n b n c' k d rs) (sym e) (refl, refl, refl)
+opens-undef r b n c' k d rs x e f = subst (λ z. Opens (Turn.Stop Halt.Undef) z b n b n c' k d rs) (sym (e ∙ ap Err f)) (refl, refl, refl)
 
-pub opens-stuck : (r : Result Choice Fault) (b : List ℕ) (n : List ℤ) (c' : List ℕ) (k d : ℕ) (rs : List ℕ) → r ≡ Err Fault.Stuck → Opens Turn.Stuck r b n b n c' k d rs
+pub opens-stuck : (r : Result Choice Fault) (b : List ℕ) (n : List ℤ) (c' : List ℕ) (k d : ℕ) (rs : List ℕ) (x : Fault) → r ≡ Err x → x ≡ Fault.Stuck → Opens Turn.Stuck r b n b n c' k d rs
 unfolding Opens
-opens-stuck r b n c' k d rs e = subst (λ z. Opens Turn.Stuck z b n b n c' k d rs) (sym e) (refl, refl, refl)
+opens-stuck r b n c' k d rs x e f = subst (λ z. Opens Turn.Stuck z b n b n c' k d rs) (sym (e ∙ ap Err f)) (refl, refl, refl)
 
 -- the registers that are listed
 module _ (s : List ℕ) (q e : ℕ) (rs : List ℕ) {n x : ℕ} (f : n ≡ few x) (low : n ≤ 8) (long : length rs ≡ 8) where

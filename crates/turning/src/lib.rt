@@ -18,10 +18,10 @@ ghost use Rattle.turning.specs.Turning.{Answers, Chosen, Fit, Kept, Left, Looks,
 
 use acts::Pair;
 use ending::Ended;
+use integers::Fault;
 use listing::Callee;
 use loaded::{RECORDS, decode, lookup};
 use machine::Activation;
-use integers::Fault;
 use matching::{Choice, Site};
 use store::{Did, Halt, cells, stack};
 

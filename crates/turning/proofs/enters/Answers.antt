@@ -1,5 +1,3 @@
-use Rattle.std.specs.Prelude.{Err}
-use mathlib.Core.Path.{ap, ◌∙◌}
 use Rattle.turning.proofs.Looking.{chosen-full, opens-stuck, opens-undef, opens-version}
 use Rattle.turning.proofs.enters.Goals as goal
 
@@ -17,8 +15,8 @@ returns-in-Ok c =
 
 pub returns-in-Err-Undef : goal.returns-in-Err-Undef
 returns-in-Err-Undef c =
-    opens-undef _ _ _ _ _ _ _ (c.in-Err-Undef.is ∙ ap Err c.in-Err-Undef.field-0-is)
+    opens-undef _ _ _ _ _ _ _ _ c.in-Err-Undef.is (rw c.in-Err-Undef.is at c.in-Err-Undef.field-0-is)
 
 pub returns-in-Err-Stuck : goal.returns-in-Err-Stuck
 returns-in-Err-Stuck c =
-    opens-stuck _ _ _ _ _ _ _ (c.in-Err-Stuck.is ∙ ap Err c.in-Err-Stuck.field-0-is)
+    opens-stuck _ _ _ _ _ _ _ _ c.in-Err-Stuck.is (rw c.in-Err-Stuck.is at c.in-Err-Stuck.field-0-is)
