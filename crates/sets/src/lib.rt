@@ -39,7 +39,7 @@ pub fn meets(a: u16, b: u16) -> bool
 pub fn below(a: u16, n: usize) -> bool
     ensures { result ≡ below n (set_of 16 a) }
 {
-    if n < WIDTH { a >> n == 0 } else { true }
+    WIDTH <= n || a >> n == 0
 }
 
 /// The register `r` alone; the empty set where `r` is 16 or more.
@@ -53,12 +53,12 @@ pub fn only(r: usize) -> u16
 pub fn has(a: u16, r: usize) -> bool
     ensures { result ≡ has (set_of 16 a) r }
 {
-    if r < WIDTH { (a >> r) % 2 == 1 } else { false }
+    r < WIDTH && (a >> r) % 2 == 1
 }
 
 /// How many registers are in `a`.
 pub fn size(a: u16) -> u32
     ensures { result ≡ size (set_of 16 a) }
 {
-    u16::count_ones(a)
+    a.count_ones()
 }
