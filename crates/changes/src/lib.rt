@@ -13,6 +13,7 @@ ghost use Rattle.changes.specs.Parts.{end_at, part_at};
 
 use checker::questions;
 use layout::kinds;
+use layout::records::Records;
 use machine::Changed;
 use program::{Here, lookup, pass};
 
@@ -32,16 +33,13 @@ fn version_end(image: &[u8], v: usize) -> usize
     requires { v ≤ length image.now }
     ensures { (result ≡ end_at image.now v) × (v ≤ result) × (result ≤ length image.now) }
 {
-    let mut p = v + layout::size_at(image, v);
-    while p < image.len() {
-        let n = layout::size_at(image, p);
-        if n == 0 {
+    for record in Records::behind(image, v) {
+        if record.size == 0 {
             return image.len();
         }
-        if layout::kind_at(image, p) == kinds::VERSION {
-            return p;
+        if layout::kind_at(image, record.at) == kinds::VERSION {
+            return record.at;
         }
-        p += n;
     }
     image.len()
 }
@@ -153,24 +151,10 @@ fn question_15(
     requires { (before.now ≡ table_of old.now) × (after.now ≡ table_of new.now) }
     ensures { result ≡ first (question15 old.now new.now (owned_by bytes.now)) (program_of new.now) }
 {
-    let mut p: usize = 0;
-    let mut here = Here {
-        version: new.len(),
-        blocks: 0,
-    };
-    while p < new.len() {
-        let n = layout::size_at(new, p);
-        if n == 0 {
-            return None;
-        }
-        here = pass::moved(new, here, p);
-        if kept_at(old, before, new, after, bytes, here, p) {
-            p += n;
-        } else {
-            return Some(p);
-        }
-    }
-    None
+    pass::first_failing(
+        new,
+        |here, p| kept_at(old, before, new, after, bytes, here, p),
+    )
 }
 
 /// Is the version of each live call one of the new image?

@@ -12,6 +12,7 @@ ghost use Rattle.joins.specs.Parts.{Ready, Stands, function_place, raised_at};
 
 use checker::{Refusal, questions};
 use layout::kinds;
+use layout::records::Records;
 
 /// Why nothing is joined: a refusal of the first image or of the second, or one of both together.
 #[derive(Clone, Copy, Debug, PartialEq, Eq)]
@@ -25,18 +26,13 @@ pub enum JoinError {
 pub fn functions(image: &[u8]) -> usize
     ensures { (result ≡ functions_in image.now) × (result ≤ 256) }
 {
-    let mut p: usize = 0;
     let mut count: usize = 0;
-    while p < image.len() {
-        let n = layout::size_at(image, p);
-        if n == 0 {
+    for record in Records::of(image) {
+        if record.size == 0 {
             return count;
         }
-        if layout::kind_at(image, p) == kinds::VERSION {
-            count = layout::field(image, p, 0) + 1;
-            p += n;
-        } else {
-            p += n;
+        if layout::kind_at(image, record.at) == kinds::VERSION {
+            count = layout::field(image, record.at, 0) + 1;
         }
     }
     count
@@ -76,12 +72,9 @@ fn put_records(image: &[u8], k: u8, out: &mut [u8], from: usize)
     requires image_in_bounds { from + length image.now ≤ length out.old }
     ensures { out.new ≡ placed out.old from (printed (map (raise_rec k) (records image.now))) }
 {
-    let mut p: usize = 0;
     let mut at = from;
-    while p < image.len() {
-        let n = layout::size_at(image, p);
-        at = put_record(image, p, k, out, at);
-        p += n;
+    for record in Records::of(image) {
+        at = put_record(image, record.at, k, out, at);
     }
 }
 

@@ -12,6 +12,7 @@ ghost use Rattle.loaded.specs.declared.Cursor.{Cursor};
 ghost use Rattle.loaded.specs.declared.LoadError.TheVariants.{Refused};
 
 use checker::{Refusal, questions};
+use layout::records::Records;
 use layout::{bounds, kinds};
 
 pub mod decode;
@@ -167,14 +168,11 @@ fn fill(image: &[u8], table: &mut [u8])
         block: BLOCK_ENTRIES,
         next: 0,
     };
-    let mut p: usize = 0;
-    while p < image.len() {
-        let n = layout::size_at(image, p);
-        if n == 0 {
+    for record in Records::of(image) {
+        if record.size == 0 {
             return;
         }
-        at = enter(image, p, at, table);
-        p += n;
+        at = enter(image, record.at, at, table);
     }
 }
 

@@ -12,6 +12,7 @@ ghost use Rattle.moves.specs.Parts.{Ready, Stands, head_of, moved_at, sign_of};
 
 use checker::{Refusal, questions};
 use layout::Form;
+use layout::records::Records;
 
 /// Where the body of a record begins.
 const BODY: usize = 4;
@@ -82,19 +83,15 @@ fn measure(image: &[u8], form: Form) -> Result<usize, Refusal>
     requires { Ready form image.now }
     ensures { result ≡ ask 16 (question16 form (records image.now)) (Ok (length (moved form (records image.now)))) }
 {
-    let mut p: usize = 0;
     let mut total: usize = 0;
-    while p < image.len() {
-        let n = layout::size_at(image, p);
-        if passes(image, p, form) {
-            total += moved_length(image, p, form);
-            p += n;
-        } else {
+    for record in Records::of(image) {
+        if !passes(image, record.at, form) {
             return Err(Refusal {
                 question: 16,
-                at: p,
+                at: record.at,
             });
         }
+        total += moved_length(image, record.at, form);
     }
     Ok(total)
 }
@@ -162,12 +159,9 @@ fn put_records(image: &[u8], form: Form, out: &mut [u8])
     requires image_in_bounds { length (moved form (records image.now)) ≤ length out.old }
     ensures { out.new ≡ placed out.old 0 (moved form (records image.now)) }
 {
-    let mut p: usize = 0;
     let mut at: usize = 0;
-    while p < image.len() {
-        let n = layout::size_at(image, p);
-        at = put_record(image, p, form, out, at);
-        p += n;
+    for record in Records::of(image) {
+        at = put_record(image, record.at, form, out, at);
     }
 }
 

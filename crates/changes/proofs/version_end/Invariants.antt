@@ -3,10 +3,13 @@ use Prim.Native.Nat.{◌-◌, ◌≤◌}
 use Rattle.changes.specs.Parts.{end_from, end_at}
 use lib.ListN.{length}
 use mathlib.Core.Path.{◌≡◌}
+use Rattle.layout.specs.Left.{left, spots}
+use Prim.Native.Nat.{ℕ}
 use Rattle.changes.proofs.version_end.Given as goal
 
-abbrev pub invariant-loop-p : goal.invariant-loop-p
-invariant-loop-p l = (l.v ≤ l.p) × (l.p ≤ length l.image) × (end_at l.image l.v ≡ end_from l.image l.p)
-
-abbrev pub decreases-loop-p : goal.decreases-loop-p
-decreases-loop-p l = length l.image - l.p
+abbrev pub invariant-loop-record : goal.invariant-loop-record
+invariant-loop-record l =
+    goal.iterator-loop-record.can_next l.record-iterator
+    × goal.iterator-loop-record.is_finite l.record-iterator
+    × ((p : ℕ) × (left l.record-iterator ≡ spots l.image p)
+    × (l.v ≤ p) × (p ≤ length l.image) × (end_at l.image l.v ≡ end_from l.image p))

@@ -1,42 +1,51 @@
 use native.Mathlib.Omega.{arith}
-use mathlib.Core.Path.{sym, ◌∙◌}
+use mathlib.Core.Path.{sym, ◌∙◌, ap}
 use Rattle.layout.proofs.Walk.{size_in}
 use Rattle.moves.proofs.Parts.{measure-first, measure-next, measured-end, measured-unfit, measuring-stands}
+use Rattle.layout.proofs.Left.{given, exhausted}
+use Rattle.layout.specs.Left.{left}
 use Rattle.moves.proofs.measure.Goals as goal
 
-pub loop-p-init : goal.loop-p-init
-loop-p-init c =
-    measure-first _ _ c.requires
+pub loop-record-init : goal.loop-record-init
+loop-record-init c =
+    (tt, tt, (0, ap left c.into_iter-record-iterator.ensures.into_iter_gives ∙ c.of-record-items.ensures, measure-first _ _ c.requires))
 
 pub moved_length-total-requires : goal.moved_length-total-requires
 moved_length-total-requires c =
-    measuring-stands c.requires c.loop-p.invariant c.loop-p-test.true
+    let i = c.loop-record.invariant.2 in
+    let x = given _ _ (sym i.1 ∙ c.in-Some.ensures.steps) in
+    measuring-stands c.requires (rw x.at at i.2) x.inside
 
 pub overflow_add-total : goal.overflow_add-total
 overflow_add-total c =
-    let st = measuring-stands c.requires c.loop-p.invariant c.loop-p-test.true in
-    let i = size_in _ _ c.size_at-n.ensures (λ z. st.whole (sym c.size_at-n.ensures ∙ z)) in
-    omega (arith, c.requires.short, c.loop-p.invariant.small, c.moved_length-total.ensures.1, c.size_at-n.ensures, i)
+    let i = c.loop-record.invariant.2 in
+    let x = given _ _ (sym i.1 ∙ c.in-Some.ensures.steps) in
+    let st = measuring-stands c.requires (rw x.at at i.2) x.inside in
+    let small = (rw x.at at i.2).small in
+    let room = size_in _ _ x.size (λ z. st.whole (sym x.size ∙ z)) in
+    omega (arith, c.requires.short, small, c.moved_length-total.ensures.1, x.size, room)
 
-pub overflow_add-p : goal.overflow_add-p
-overflow_add-p c =
-    let st = measuring-stands c.requires c.loop-p.invariant c.loop-p-test.true in
-    omega (arith, size_in _ _ c.size_at-n.ensures (λ z. st.whole (sym c.size_at-n.ensures ∙ z)))
+pub loop-record-preserved : goal.loop-record-preserved
+loop-record-preserved c =
+    let i = c.loop-record.invariant.2 in
+    let x = given _ _ (sym i.1 ∙ c.in-Some.ensures.steps) in (
+      tt,
+      tt,
+      (
+        _,
+        x.whole (λ z. (measuring-stands c.requires (rw x.at at i.2) x.inside).whole (sym x.size ∙ z)),
+        measure-next c.requires (rw x.at at i.2) x.inside x.size (sym c.passes.ensures ∙ c.if-not-passes.false) c.moved_length-total.ensures.0
+            c.moved_length-total.ensures.1,
+      ),
+    )
 
-pub loop-p-smaller : goal.loop-p-smaller
-loop-p-smaller c =
-    let st = measuring-stands c.requires c.loop-p.invariant c.loop-p-test.true in
-    omega (arith, c.loop-p-test.true, size_in _ _ c.size_at-n.ensures (λ z. st.whole (sym c.size_at-n.ensures ∙ z)))
-
-pub loop-p-preserved : goal.loop-p-preserved
-loop-p-preserved c =
-    measure-next c.requires c.loop-p.invariant c.loop-p-test.true c.size_at-n.ensures (sym c.passes.ensures ∙ c.if-passes.true) c.moved_length-total.ensures.0
-    c.moved_length-total.ensures.1
-
-pub returns-else-passes : goal.returns-else-passes
-returns-else-passes c =
-    measured-unfit c.requires c.loop-p.invariant c.loop-p-test.true (sym c.passes.ensures ∙ c.if-passes.false)
+pub returns-then-not-passes : goal.returns-then-not-passes
+returns-then-not-passes c =
+    let i = c.loop-record.invariant.2 in
+    let x = given _ _ (sym i.1 ∙ c.in-Some.ensures.steps) in
+    measured-unfit c.requires (rw x.at at i.2) x.inside (sym c.passes.ensures ∙ c.if-not-passes.true)
 
 pub returns : goal.returns
 returns c =
-    measured-end c.requires c.loop-p.invariant c.loop-p-test.false
+    let i = c.loop-record.invariant.2 in
+    measured-end c.requires i.2 (exhausted _ _ (sym i.1 ∙ c.in-None.ensures.steps.0))

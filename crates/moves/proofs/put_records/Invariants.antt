@@ -2,10 +2,14 @@
 use Prim.Native.Nat.{◌-◌}
 use lib.ListN.{length}
 use Rattle.moves.proofs.Parts.{Moved}
+use Rattle.layout.specs.Left.{left, spots}
+use Prim.Native.Nat.{ℕ}
+use mathlib.Core.Path.{◌≡◌}
 use Rattle.moves.proofs.put_records.Given as goal
 
-abbrev pub invariant-loop-p : goal.invariant-loop-p
-invariant-loop-p l = Moved l.form l.image l.initial.out l.out l.p l.at
-
-abbrev pub decreases-loop-p : goal.decreases-loop-p
-decreases-loop-p l = length l.image - l.p
+abbrev pub invariant-loop-record : goal.invariant-loop-record
+invariant-loop-record l =
+    goal.iterator-loop-record.can_next l.record-iterator
+    × goal.iterator-loop-record.is_finite l.record-iterator
+    × ((p : ℕ) × (left l.record-iterator ≡ spots l.image p)
+    × Moved l.form l.image l.initial.out l.out p l.at)
