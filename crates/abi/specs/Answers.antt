@@ -1,5 +1,5 @@
 -- Answers as numbers, field by field as include/fir.h has them.
-use Rattle.std.specs.Prelude.{cond, List, ℕ, ◌+◌, ◌*◌, eqb, ℤ, pos, Err, Ok, Result}
+use Rattle.std.specs.Prelude.{cond, List, ℕ, ◌+◌, ◌*◌, eqb, ℤ, pos, Option, None, Some, Err, Ok, Result}
 use Rattle.layout.specs.declared.Form.{Form}
 use Rattle.machine.specs.Runs.{saying}
 use Rattle.machine.specs.declared.Answer.{Answer}
@@ -83,10 +83,10 @@ search_numbers Search.Elsewhere = record { dispatch = 0; looked = 0; versions = 
 search_numbers (Search.Looked looked versions) = record { dispatch = 1; looked = looked; versions = versions }
 
 -- where a state stands: 0 nowhere, 1 at an instruction, 2 at a block end; all else 0 where it stands nowhere
-unfoldable pub where_numbers : Where → FirWhere
-where_numbers Where.Nowhere = record { offset = 0; kind = 0; function = 0; version = 0; block = 0; instruction = 0 }
-where_numbers (Where.Instruction f v b n p) = record { offset = p; kind = 1; function = f; version = v; block = b; instruction = n }
-where_numbers (Where.BlockEnd f v b n p) = record { offset = p; kind = 2; function = f; version = v; block = b; instruction = n }
+unfoldable pub where_numbers : Option Where → FirWhere
+where_numbers None = record { offset = 0; kind = 0; function = 0; version = 0; block = 0; instruction = 0 }
+where_numbers (Some (Where.Instruction f v b n p)) = record { offset = p; kind = 1; function = f; version = v; block = b; instruction = n }
+where_numbers (Some (Where.BlockEnd f v b n p)) = record { offset = p; kind = 2; function = f; version = v; block = b; instruction = n }
 
 -- watching: how many records were filled, or the number of a refusal, whose offset is always 0
 unfoldable pub watched_numbers : Watch → FirWatched

@@ -479,18 +479,20 @@ pub fn searched(search: Search) -> FirSearched
 }
 
 /// The numbers of a place in an image.
-pub fn place(place: Where) -> FirWhere
+pub fn place(place: Option<Where>) -> FirWhere
     ensures { result ≡ where_numbers place }
 {
-    match place {
-        Where::Nowhere => FirWhere {
+    let Some(spot) = place else {
+        return FirWhere {
             offset: 0,
             kind: 0,
             function: 0,
             version: 0,
             block: 0,
             instruction: 0,
-        },
+        };
+    };
+    match spot {
         Where::Instruction(f, v, b, n, p) => FirWhere {
             offset: p,
             kind: 1,

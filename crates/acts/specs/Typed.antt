@@ -1,5 +1,5 @@
 -- What an instruction does in a version of a program, as far as its code is told of them.
-use Rattle.std.specs.Prelude.{List, ◌≡◌, Bool, true, false, ℕ, ℤ}
+use Rattle.std.specs.Prelude.{List, ◌≡◌, Bool, true, false, ℕ, ℤ, Option, Some, None}
 use Rattle.program.specs.Program.{Instr, Program, Version}
 use Rattle.rules.specs.Types.{kind_of, within}
 use Rattle.machine.specs.States.{kind_in, value}
@@ -11,7 +11,6 @@ use Rattle.store.specs.declared.Did.{Did}
 use Rattle.store.specs.Store.{state_in, frame_in}
 use Rattle.store.specs.Counts.{Ready}
 use Rattle.store.specs.Acts.{Does}
-use Rattle.acts.specs.declared.Typed.{Typed}
 
 -- the instruction i in the frame k, in each program and version of which T holds
 abbrev pub ExecutesIf : (Program → Version → Type 0) → Did → List ℕ → List ℤ → List ℕ → List ℤ → List ℕ → ℕ → Instr → Type 0
@@ -26,11 +25,10 @@ typed_in P W s f d a = do
   got (within m (kind_of t))
 
 -- what the code is told of it
-unfoldable pub typed_of : Typed → Try Bool
-typed_of Typed.Fits = got true
-typed_of Typed.Clashes = got false
-typed_of Typed.Stuck = stuck
+unfoldable pub typed_of : Option Bool → Try Bool
+typed_of (Some fits) = got fits
+typed_of None = stuck
 
 -- the instruction i in the frame k, where the code is told whether its register a fits its register d
-abbrev pub ExecutesTyped : Typed → Did → List ℕ → List ℤ → List ℕ → List ℤ → List ℕ → ℕ → ℕ → ℕ → Instr → Type 0
+abbrev pub ExecutesTyped : Option Bool → Did → List ℕ → List ℤ → List ℕ → List ℤ → List ℕ → ℕ → ℕ → ℕ → Instr → Type 0
 ExecutesTyped t r b n b' n' c' k d a i = ExecutesIf (λ P W. typed_in P W (state_in b n) (frame_in b n k) d a ≡ typed_of t) r b n b' n' c' k i

@@ -295,15 +295,7 @@ pub fn force(
     }
 }
 
-/// Whether what a register holds is of a kind within that of another, or stuck.
-#[derive(Clone, Copy)]
-pub enum Typed {
-    Fits,
-    Clashes,
-    Stuck,
-}
-
-/// MOVE d a, where the types are told.
+/// MOVE d a, where `typed` tells whether what the register holds is of a kind within that of the other; nothing where it is stuck.
 pub fn move_typed(
     bytes: &mut [u8; 2632],
     numbers: &mut [i64; 2129],
@@ -311,19 +303,22 @@ pub fn move_typed(
     k: usize,
     d: u8,
     a: u8,
-    typed: Typed,
+    typed: Option<bool>,
 ) -> Did
     requires { Ready bytes.old numbers.old counts.old × Live bytes.old k }
     ensures { ExecutesTyped typed result bytes.old numbers.old bytes.new numbers.new counts.new k d a (MOVE d a) }
 {
-    match typed {
-        Typed::Fits => cells::assign_register(bytes, numbers, counts, k, d, a),
-        Typed::Clashes => Did::Stuck,
-        Typed::Stuck => Did::Stuck,
+    let Some(fits) = typed else {
+        return Did::Stuck;
+    };
+    if fits {
+        cells::assign_register(bytes, numbers, counts, k, d, a)
+    } else {
+        Did::Stuck
     }
 }
 
-/// CAST d a, where the types are told.
+/// CAST d a, where `typed` tells as of a MOVE.
 pub fn cast_typed(
     bytes: &mut [u8; 2632],
     numbers: &mut [i64; 2129],
@@ -331,15 +326,18 @@ pub fn cast_typed(
     k: usize,
     d: u8,
     a: u8,
-    typed: Typed,
+    typed: Option<bool>,
 ) -> Did
     requires { Ready bytes.old numbers.old counts.old × Live bytes.old k }
     ensures { ExecutesTyped typed result bytes.old numbers.old bytes.new numbers.new counts.new k d a (CAST d a) }
 {
-    match typed {
-        Typed::Fits => cells::assign_register(bytes, numbers, counts, k, d, a),
-        Typed::Clashes => Did::Stop(Halt::Undef),
-        Typed::Stuck => Did::Stuck,
+    let Some(fits) = typed else {
+        return Did::Stuck;
+    };
+    if fits {
+        cells::assign_register(bytes, numbers, counts, k, d, a)
+    } else {
+        Did::Stop(Halt::Undef)
     }
 }
 

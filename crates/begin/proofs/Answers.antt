@@ -1,5 +1,5 @@
 -- What the questions to a run come to.
-use Rattle.std.specs.Prelude.{None, Some}
+use Rattle.std.specs.Prelude.{None, Some, Ok, Err, Result}
 use mathlib.Core.Path.{◌≡◌, refl, sym, ap, ◌∙◌}
 use Rattle.loaded.specs.Answers.{Number}
 use mathlib.Core.List.{List}
@@ -11,7 +11,7 @@ use lib.IntN.{ℤ}
 use lib.ListN.{length}
 use lib.Dec.{eqb, leb}
 use borrow.Author.Tests.{le-leb, lt-leb}
-use Rattle.program.specs.Program.{Program, Version, find_version, parameter_types}
+use Rattle.program.specs.Program.{Version, find_version, parameter_types}
 use Rattle.machine.specs.States.{ITEMS}
 use Rattle.machine.specs.Runs.{long_enough}
 use Rattle.machine.specs.Begin.{Given, arguments, entered_of, refused, run_level, question11, question12, question13, question19}
@@ -21,9 +21,8 @@ use Rattle.machine.specs.declared.State.{State}
 use Rattle.loaded.specs.Loaded.{entry_in, numbered_in, program_in, version_in}
 use Rattle.loaded.specs.Answers.{version_of}
 use Rattle.loaded.proofs.Finding.{within}
-use Rattle.begin.specs.Arguments.{arguments_in, given_by, given_to, is_given, those}
-use Rattle.begin.specs.Asking.{Allows, Asks, Begins, Fitting, begun_with, entered_at}
-use Rattle.begin.specs.declared.Asked.{Asked}
+use Rattle.begin.specs.Arguments.{given_to, is_given, those}
+use Rattle.begin.specs.Asking.{Allows, Asks, begun_with}
 use Rattle.begin.specs.declared.Entrance.{Entrance}
 
 -- ---- question 13
@@ -51,7 +50,7 @@ none-given (some xs) e = absurd (true≢false e)
 -- ---- question 19, then 12 and 13
 
 module _ (k level : ℕ) (W : Version) (words buffer : List ℤ) {a : Bool} (e : a ≡ leb W.level (run_level level)) where
-  pub above : a ≡ false → Allows (Asked.Refused 19) k level W words buffer
+  pub above : a ≡ false → Allows (Err 19) k level W words buffer
   unfolding Allows question19
   above h = rw (← e, h, question19) refl
 
@@ -60,7 +59,7 @@ module _ (k level : ℕ) (W : Version) (words buffer : List ℤ) {a : Bool} (e :
     unfolding question19
     within_level = rw (← e, l, question19) refl
 
-    pub not-given : g ≡ false → Allows (Asked.Refused 12) k level W words buffer
+    pub not-given : g ≡ false → Allows (Err 12) k level W words buffer
     unfolding Allows question12
     not-given h = within_level ∙ rw (none-given (arguments (parameter_types W) words) (sym d ∙ h)) refl
 
@@ -69,23 +68,23 @@ module _ (k level : ℕ) (W : Version) (words buffer : List ℤ) {a : Bool} (e :
       unfolding given_to
       all-given = are-given (arguments (parameter_types W) words) (sym d ∙ h)
 
-      pub too_short : length buffer < ITEMS → Allows (Asked.Refused 13) k level W words buffer
+      pub too_short : length buffer < ITEMS → Allows (Err 13) k level W words buffer
       unfolding Allows question12
       too_short r = within_level ∙ rw (all-given, question13-by _ buffer, lt-leb ITEMS (length buffer) r) refl
 
-      pub entered : ITEMS ≤ length buffer → Allows (Asked.Enters k) k level W words buffer
+      pub entered : ITEMS ≤ length buffer → Allows (Ok k) k level W words buffer
       unfolding Allows question12 begun_with
       entered r = (refl, (within_level ∙ rw (all-given, question13-by _ buffer, le-leb ITEMS (length buffer) r) refl, all-given))
 
 -- ---- question 11
 
 module _ (s t : List ℕ) (e : Entrance) (words buffer : List ℤ) where
-  pub no-entry : find_version (program_in s t) e.function e.version ≡ none → Asks (Asked.Refused 11) s t e words buffer
+  pub no-entry : find_version (program_in s t) e.function e.version ≡ none → Asks (Err 11) s t e words buffer
   unfolding Asks entered_of question11
   no-entry h = rw h refl
 
   module _ {r : Number} (h : version_of s t r ≡ find_version (program_in s t) e.function e.version) where
-    pub entry-missing : r ≡ None → Asks (Asked.Refused 11) s t e words buffer
+    pub entry-missing : r ≡ None → Asks (Err 11) s t e words buffer
     unfolding version_of
     entry-missing q = no-entry (sym h ∙ ap (version_of s t) q)
 
@@ -107,7 +106,7 @@ module _ (s t : List ℕ) (e : Entrance) (words buffer : List ℤ) where
               let b : (4 * e.function + e.version) % 4 ≡ k % 4 = ap (λ (W : Version). W.version) y in
               (omega (arith, a, w), omega (arith, b, w))
 
-      pub entry_found : (a : Asked) → Allows a k e.level (version_in s t k) words buffer → Asks a s t e words buffer
+      pub entry_found : (a : Result ℕ ℕ) → Allows a k e.level (version_in s t k) words buffer → Asks a s t e words buffer
       unfolding Asks Allows entered_of question11
-      entry_found (Asked.Refused q) A = rw found A
-      entry_found (Asked.Enters j) A = rw A.0 (number.0, number.1, found, (rw found A.1.0, A.1.1))
+      entry_found (Err q) A = rw found A
+      entry_found (Ok j) A = rw A.0 (number.0, number.1, found, (rw found A.1.0, A.1.1))

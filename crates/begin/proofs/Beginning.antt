@@ -1,4 +1,5 @@
 -- What beginning leaves, by what was asked.
+use Rattle.std.specs.Prelude.{Ok, Err, Result}
 use mathlib.Core.Path.{◌≡◌, refl, sym, ap, ◌∙◌}
 use mathlib.Core.List.{List}
 use mathlib.Core.Option.{some}
@@ -12,18 +13,17 @@ use Rattle.store.specs.Store.{state_in}
 use Rattle.begin.specs.Arguments.{arguments_in, given_by, given_to}
 use Rattle.begin.specs.Arrays.{first_bytes, first_numbers}
 use Rattle.begin.specs.Asking.{Asks, Begins, begun_with, entered_at}
-use Rattle.begin.specs.declared.Asked.{Asked}
 use Rattle.begin.specs.declared.Entrance.{Entrance}
 use Rattle.begin.proofs.Firsts.{first-state}
 
-module _ (s t : List ℕ) (e : Entrance) (words buffer : List ℤ) (b : List ℕ) (n : List ℤ) {a : Asked} (A : Asks a s t e words buffer) where
+module _ (s t : List ℕ) (e : Entrance) (words buffer : List ℤ) (b : List ℕ) (n : List ℤ) {a : Result ℕ ℕ} (A : Asks a s t e words buffer) where
   -- a refusal writes nothing
-  pub refusal : {q : ℕ} → a ≡ Asked.Refused q → (Entry.Refused q 0 ≡ (entered_at (program_in s t) e words buffer).entry) × Begins (Entry.Refused q 0) (program_in s t) e words buffer b n b n
+  pub refusal : {q : ℕ} → a ≡ Err q → (Entry.Refused q 0 ≡ (entered_at (program_in s t) e words buffer).entry) × Begins (Entry.Refused q 0) (program_in s t) e words buffer b n b n
   unfolding Asks Begins refused
   refusal h = let x = rw h at A in (sym (ap (λ (r : Begun). r.entry) x), (refl, refl))
 
   -- a run that is entered has its first arrays
-  pub beginning : {k : ℕ} → a ≡ Asked.Enters k → {b' : List ℕ} {n' : List ℤ} → ((ts : List ℕ) (xs : List Given) → arguments ts words ≡ some xs → (b' ≡ first_bytes (k / 4) (k % 4) xs) × (n' ≡ first_numbers xs))
+  pub beginning : {k : ℕ} → a ≡ Ok k → {b' : List ℕ} {n' : List ℤ} → ((ts : List ℕ) (xs : List Given) → arguments ts words ≡ some xs → (b' ≡ first_bytes (k / 4) (k % 4) xs) × (n' ≡ first_numbers xs))
       → (Entry.Begun ≡ (entered_at (program_in s t) e words buffer).entry) × Begins Entry.Begun (program_in s t) e words buffer b n b' n'
   unfolding Asks Begins begun_with given_by version_in
   beginning {k} h {b'} {n'} w =

@@ -1,4 +1,5 @@
 -- Reading the arguments: whether there are some, and what those that are left make of the arrays so far.
+use Rattle.std.specs.Prelude.{None, Some, Option as Optional}
 use mathlib.Core.Path.{◌≡◌, refl, sym, ap, ◌∙◌}
 use mathlib.Core.List.{List, [], ◌∷◌}
 use mathlib.Core.Option.{Option, bind, none, some}
@@ -10,7 +11,7 @@ use lib.IntN.{ℤ, pos}
 use lib.ListN.{length, get_or, take, drop, length-drop, length-take, drop_of_length-le}
 use lib.Dec.{leb}
 use lib.Seq.{drop-cons, drop-drop, length-take-le, get_or-take}
-use borrow.Author.Tests.{le-leb, lt-leb, leb-true, leb-false}
+use borrow.Author.Tests.{leb-true, leb-false}
 use Rattle.layout.specs.Records.{◌!◌}
 use Rattle.program.specs.Program.{Version, parameter_types}
 use Rattle.machine.specs.States.{ITEMS}
@@ -46,11 +47,11 @@ module _ (ts : List ℕ) (ws : List ℤ) (t : ℕ) where
   unfolding arguments
   arguments-cons = bind-twice (begins.first ws) (matched t) (λ q. bind (arguments ts q.1) (λ xs. some (q.0 ∷ xs)))
 
-  cons-nothing : argument_of head ≡ Argument.Nothing → arguments (t ∷ ts) ws ≡ none
+  cons-nothing : argument_of head ≡ None → arguments (t ∷ ts) ws ≡ none
   unfolding bind
   cons-nothing e = arguments-cons ∙ rw (argument-nothing head e) refl
 
-  cons-integer : (z : ℤ) → argument_of head ≡ Argument.Integer z → (2 ≤ length ws) × (arguments (t ∷ ts) ws ≡ bind (arguments ts (drop 2 ws)) (λ xs. some (integer z ∷ xs)))
+  cons-integer : (z : ℤ) → argument_of head ≡ Some (Argument.Integer z) → (2 ≤ length ws) × (arguments (t ∷ ts) ws ≡ bind (arguments ts (drop 2 ws)) (λ xs. some (integer z ∷ xs)))
   unfolding bind
   cons-integer z e =
       let a = argument-integer head z e in
@@ -60,7 +61,7 @@ module _ (ts : List ℕ) (ws : List ℤ) (t : ℕ) where
       go : (r : List ℤ) → r ≡ drop 2 ws → head ≡ some (integer z, r) → bind head (λ q. bind (arguments ts q.1) (λ xs. some (q.0 ∷ xs))) ≡ bind (arguments ts (drop 2 ws)) (λ xs. some (integer z ∷ xs))
       go r er eh = rw (eh, er) refl
 
-  cons-vector : (n : ℕ) → argument_of head ≡ Argument.Vector n → (n ≤ ITEMS) × (suc n ≤ length ws) × (arguments (t ∷ ts) ws ≡ bind (arguments ts (drop (suc n) ws)) (λ xs. some (vector (take n (drop 1 ws)) ∷ xs)))
+  cons-vector : (n : ℕ) → argument_of head ≡ Some (Argument.Vector n) → (n ≤ ITEMS) × (suc n ≤ length ws) × (arguments (t ∷ ts) ws ≡ bind (arguments ts (drop (suc n) ws)) (λ xs. some (vector (take n (drop 1 ws)) ∷ xs)))
   unfolding bind
   cons-vector n e =
       let a = argument-vector head n e in
@@ -86,20 +87,20 @@ module _ (ts : List ℕ) (ws : List ℤ) (i p : ℕ) where
     types-cons = drop-cons ts i 0 inside ∙ ap (λ (x : ℕ). x ∷ drop (suc i) ts) (sym is)
 
     -- the argument for the parameter i
-    abbrev next : Argument
+    abbrev next : Optional Argument
     next = argument_of (bind (begins.first (drop p ws)) (matched t))
 
-    ahead-nothing : next ≡ Argument.Nothing → ahead ≡ false
+    ahead-nothing : next ≡ None → ahead ≡ false
     unfolding is_given
     ahead-nothing e = rw (types-cons, cons-nothing (drop (suc i) ts) (drop p ws) t e) refl
 
-    ahead-integer : (z : ℤ) → next ≡ Argument.Integer z → (p + 2 ≤ length ws) × (ahead ≡ is_given (arguments (drop (i + 1) ts) (drop (p + 2) ws)))
+    ahead-integer : (z : ℤ) → next ≡ Some (Argument.Integer z) → (p + 2 ≤ length ws) × (ahead ≡ is_given (arguments (drop (i + 1) ts) (drop (p + 2) ws)))
     ahead-integer z e =
         let k = cons-integer (drop (suc i) ts) (drop p ws) t z e in
         let a : suc i ≡ i + 1 = omega arith in
         (omega (arith, k.0, length-drop p ws), rw (types-cons, k.1, given-cons (integer z), drop-drop 2 p ws, a) refl)
 
-    ahead-vector : (m : ℕ) → next ≡ Argument.Vector m → (m ≤ ITEMS) × (p + 1 + m ≤ length ws) × (ahead ≡ is_given (arguments (drop (i + 1) ts) (drop (p + (m + 1)) ws)))
+    ahead-vector : (m : ℕ) → next ≡ Some (Argument.Vector m) → (m ≤ ITEMS) × (p + 1 + m ≤ length ws) × (ahead ≡ is_given (arguments (drop (i + 1) ts) (drop (p + (m + 1)) ws)))
     ahead-vector m e =
         let k = cons-vector (drop (suc i) ts) (drop p ws) t m e in
         let a : suc i ≡ i + 1 = omega arith in
@@ -132,13 +133,13 @@ module _ {W : Version} {ws : List ℤ} {n i p : ℕ} (g : Going W ws n i p) wher
     is : t ≡ get_or (parameter_types W) i 0
     is = et ∙ sym (get_or-take W.parameters W.types i 0 (omega (arith, g.many, inside, length-take W.parameters W.types, min-le_left W.parameters (length W.types))))
 
-    pub going-nothing : argument_of (bind (begins.first (drop p ws)) (matched t)) ≡ Argument.Nothing → false ≡ is_given (arguments (parameter_types W) ws)
+    pub going-nothing : argument_of (bind (begins.first (drop p ws)) (matched t)) ≡ None → false ≡ is_given (arguments (parameter_types W) ws)
     going-nothing e = sym (ahead-nothing (parameter_types W) ws i p t below is e) ∙ g.rest
 
-    pub going-integer : {z : ℤ} → argument_of (bind (begins.first (drop p ws)) (matched t)) ≡ Argument.Integer z → (p + 2 ≤ length ws) × Going W ws n (i + 1) (p + 2)
+    pub going-integer : {z : ℤ} → argument_of (bind (begins.first (drop p ws)) (matched t)) ≡ Some (Argument.Integer z) → (p + 2 ≤ length ws) × Going W ws n (i + 1) (p + 2)
     going-integer {z} e = let a = ahead-integer (parameter_types W) ws i p t below is z e in (a.0, record { many = g.many; rest = sym a.1 ∙ g.rest })
 
-    pub going-vector : {m : ℕ} → argument_of (bind (begins.first (drop p ws)) (matched t)) ≡ Argument.Vector m → (m ≤ ITEMS) × (p + 1 + m ≤ length ws) × Going W ws n (i + 1) (p + (m + 1))
+    pub going-vector : {m : ℕ} → argument_of (bind (begins.first (drop p ws)) (matched t)) ≡ Some (Argument.Vector m) → (m ≤ ITEMS) × (p + 1 + m ≤ length ws) × Going W ws n (i + 1) (p + (m + 1))
     going-vector {m} e = let a = ahead-vector (parameter_types W) ws i p t below is m e in (a.0, a.1, record { many = g.many; rest = sym a.2 ∙ g.rest })
 
   pub going_end : n ≤ i → leb (length ws) p ≡ is_given (arguments (parameter_types W) ws)
@@ -160,7 +161,7 @@ first_of t ts ws xs e =
     let l : a.0.0 ∷ b.0 ≡ xs = cc in
     (a.0, b.0, matched-same t (begins.first ws) a.0 a.1, b.1, sym l)
 
-next-integer : (ts : List ℕ) (ws : List ℤ) (xs : List Given) (z : ℤ) → arguments ts ws ≡ some xs → argument_of (begins.first ws) ≡ Argument.Integer z
+next-integer : (ts : List ℕ) (ws : List ℤ) (xs : List Given) (z : ℤ) → arguments ts ws ≡ some xs → argument_of (begins.first ws) ≡ Some (Argument.Integer z)
     → (us : List ℕ) × (ys : List Given) × (arguments us (drop 2 ws) ≡ some ys) × (xs ≡ integer z ∷ ys)
 unfolding arguments argument_of begins.first
 next-integer [] [] xs z e h = let y : ◌≡◌ {A = ℕ} 0 1 = cc in absurd (omega arith)
@@ -172,7 +173,7 @@ next-integer (t ∷ ts) ws xs z e h =
     let q : a.0 ≡ (integer z, b.0) = cc in
     (ts, a.1, rw (q, c.1) at a.3, a.4 ∙ ap (λ (x : Given × List ℤ). x.0 ∷ a.1) q)
 
-next-vector : (ts : List ℕ) (ws : List ℤ) (xs : List Given) (m : ℕ) → arguments ts ws ≡ some xs → argument_of (begins.first ws) ≡ Argument.Vector m
+next-vector : (ts : List ℕ) (ws : List ℤ) (xs : List Given) (m : ℕ) → arguments ts ws ≡ some xs → argument_of (begins.first ws) ≡ Some (Argument.Vector m)
     → (us : List ℕ) × (ys : List Given) × (arguments us (drop (suc m) ws) ≡ some ys) × (xs ≡ vector (take m (drop 1 ws)) ∷ ys) × (m ≡ length (take m (drop 1 ws)))
 unfolding arguments argument_of begins.first
 next-vector [] [] xs m e h = let y : ◌≡◌ {A = ℕ} 0 1 = cc in absurd (omega arith)
@@ -184,7 +185,7 @@ next-vector (t ∷ ts) ws xs m e h =
     let q : a.0 ≡ (vector b.0, b.1) = cc in
     (ts, a.1, rw (q, c.rest) at a.3, a.4 ∙ ap (λ (x : Given × List ℤ). x.0 ∷ a.1) q ∙ ap (λ (l : List ℤ). vector l ∷ a.1) c.are, sym b.3 ∙ ap length c.are)
 
-next-nothing : (ts : List ℕ) (ws : List ℤ) (xs : List Given) → arguments ts ws ≡ some xs → argument_of (begins.first ws) ≡ Argument.Nothing → ws ≡ []
+next-nothing : (ts : List ℕ) (ws : List ℤ) (xs : List Given) → arguments ts ws ≡ some xs → argument_of (begins.first ws) ≡ None → ws ≡ []
 unfolding arguments argument_of
 next-nothing [] [] xs e h = refl
 next-nothing [] (w ∷ ws) xs e h = let y : ◌≡◌ {A = ℕ} 0 1 = cc in absurd (omega arith)
@@ -218,18 +219,18 @@ module _ (ws : List ℤ) where
 
 module _ {ws : List ℤ} {p i c : ℕ} {b : List ℕ} {n : List ℤ} {b₀ : List ℕ} {n₀ : List ℤ} (g : Leaves ws p i c b n b₀ n₀) where
   -- the words that an argument takes
-  pub room-integer : {z : ℤ} → argument_of (begins.first (drop p ws)) ≡ Argument.Integer z → p + 2 ≤ length ws
+  pub room-integer : {z : ℤ} → argument_of (begins.first (drop p ws)) ≡ Some (Argument.Integer z) → p + 2 ≤ length ws
   room-integer {z} h =
       let a = argument-integer (begins.first (drop p ws)) z h in
       omega (arith, (first-integer (drop p ws) z a.0 a.1).0, length-drop p ws)
 
-  pub room-vector : {m : ℕ} → argument_of (begins.first (drop p ws)) ≡ Argument.Vector m → (m ≤ ITEMS) × (p + 1 + m ≤ length ws)
+  pub room-vector : {m : ℕ} → argument_of (begins.first (drop p ws)) ≡ Some (Argument.Vector m) → (m ≤ ITEMS) × (p + 1 + m ≤ length ws)
   room-vector {m} h =
       let a = argument-vector (begins.first (drop p ws)) m h in
       let r = first-vector (drop p ws) a.0 a.1 m a.3 a.2 in
       (r.few, omega (arith, r.room, length-drop p ws))
 
-  pub leaves-integer : {z : ℤ} → argument_of (begins.first (drop p ws)) ≡ Argument.Integer z → {y : ℤ} → y ≡ z → {b' : List ℕ} {n' : List ℤ} → b' ≡ integer_bytes i b → n' ≡ integer_numbers i y n → Leaves ws (p + 2) (i + 1) c b' n' b₀ n₀
+  pub leaves-integer : {z : ℤ} → argument_of (begins.first (drop p ws)) ≡ Some (Argument.Integer z) → {y : ℤ} → y ≡ z → {b' : List ℕ} {n' : List ℤ} → b' ≡ integer_bytes i b → n' ≡ integer_numbers i y n → Leaves ws (p + 2) (i + 1) c b' n' b₀ n₀
   unfolding bytes_with numbers_with
   leaves-integer {z} h q eb en = record {
     each = λ ts xs e.
@@ -239,7 +240,7 @@ module _ {ws : List ℤ} {p i c : ℕ} {b : List ℕ} {n : List ℤ} {b₀ : Lis
         record { types = a.0; those = a.1; are = rw (drop-drop 2 p ws) at a.2; bytes = rw (eb, ← s) (rw a.3 at l.bytes); numbers = rw (en, q, ← s) (rw a.3 at l.numbers) };
   }
 
-  pub leaves-vector : {m : ℕ} → argument_of (begins.first (drop p ws)) ≡ Argument.Vector m → {b₁ b₂ : List ℕ} {n₂ : List ℤ} → b₁ ≡ vector_bytes i c b → b₂ ≡ length_bytes c m b₁ → n₂ ≡ item_numbers c (take m (drop (p + 1) ws)) n
+  pub leaves-vector : {m : ℕ} → argument_of (begins.first (drop p ws)) ≡ Some (Argument.Vector m) → {b₁ b₂ : List ℕ} {n₂ : List ℤ} → b₁ ≡ vector_bytes i c b → b₂ ≡ length_bytes c m b₁ → n₂ ≡ item_numbers c (take m (drop (p + 1) ws)) n
       → Leaves ws (p + (m + 1)) (i + 1) (c + 1) b₂ n₂ b₀ n₀
   unfolding bytes_with numbers_with
   leaves-vector {m} h {b₁} {b₂} e₁ e₂ en = record {
@@ -254,7 +255,7 @@ module _ {ws : List ℤ} {p i c : ℕ} {b : List ℕ} {n : List ℤ} {b₀ : Lis
         record { types = a.0; those = a.1; are = rw (drop-drop (suc m) p ws, d) at a.2; bytes = rw (x, ← s, ← u) (rw y at l.bytes); numbers = rw (en, ← s, ← u) (rw y at l.numbers) };
   }
 
-  pub leaves_nothing : argument_of (begins.first (drop p ws)) ≡ Argument.Nothing → p < length ws → (ts : List ℕ) (xs : List Given) → arguments ts ws ≡ some xs → ⊥
+  pub leaves_nothing : argument_of (begins.first (drop p ws)) ≡ None → p < length ws → (ts : List ℕ) (xs : List Given) → arguments ts ws ≡ some xs → ⊥
   leaves_nothing h k ts xs e =
       let l = g.each ts xs e in
       let a = next-nothing l.types (drop p ws) l.those l.are h in

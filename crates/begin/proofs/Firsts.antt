@@ -2,13 +2,13 @@
 use mathlib.Core.Path.{◌≡◌, refl, sym, ap, ◌∙◌}
 use mathlib.Core.List.{List, [], ◌∷◌, map}
 use mathlib.Core.Bool.{Bool, true, false, cond}
-use Prim.Native.Nat.{ℕ, zero, suc, ◌+◌, ◌*◌, ◌≤◌, ◌<◌}
+use Prim.Native.Nat.{ℕ, suc, ◌+◌, ◌*◌, ◌≤◌, ◌<◌}
 use native.Mathlib.Omega.{arith}
 use lib.IntN.{ℤ, pos}
 use lib.ListN.{length, length-set, length-replicate, get_or, replicate, set, take}
 use lib.Dec.{ltb}
 use lib.Seq.{sets, length-sets, get_or-set_same, get_or-set_other, set_out}
-use borrow.Author.Tests.{lt-ltb, le-ltb, ltb-true, ltb-false}
+use borrow.Author.Tests.{lt-ltb, ltb-true, ltb-false}
 use Rattle.layout.specs.Bounds.{NAMES, REGISTERS}
 use Rattle.layout.specs.Records.{◌!◌}
 use Rattle.program.specs.Program.{Version}
@@ -26,7 +26,7 @@ use Rattle.machine.specs.declared.Vector.{Vector}
 use Rattle.store.specs.Lists.{up_to}
 use Rattle.store.specs.Store.{◌#◌, CALLS, DEPTH, ENDING, ITEM, LENGTHS, PLACES, RESULT, STATUS, Puts, activation_in, cache_of, cell_in, frame_in, opener_of, promise_in, state_in, status_of, value_of, vector_in}
 use Rattle.store.proofs.Frames.{assigned}
-use Rattle.store.proofs.Kept.{by_parts, cell_same, delays-kept, frame_same, new-vector, result-kept, stack-kept, status-kept, vectors-kept}
+use Rattle.store.proofs.Kept.{by_parts, cell_same, delays-kept, frame_same, new-vector, result-kept, stack-kept, vectors-kept}
 use Rattle.store.proofs.Lists.{set-up_to-by, up_to-same}
 use Rattle.store.proofs.Puts.{put-integer, put-place}
 use Rattle.begin.specs.Arrays.{blank_bytes, blank_numbers, bytes_with, first_bytes, first_numbers, integer_bytes, integer_numbers, item_numbers, length_bytes, numbers_with, open_bytes, vector_bytes}

@@ -1,4 +1,5 @@
 -- The argument that begins some words.
+use Rattle.std.specs.Prelude.{None, Some, Option as Optional}
 use mathlib.Core.Path.{◌≡◌, refl, sym, ap, ◌∙◌}
 use mathlib.Core.List.{List, [], ◌∷◌}
 use mathlib.Core.Option.{Option, bind, none, some}
@@ -18,16 +19,16 @@ use Rattle.machine.specs.States.{ITEMS}
 use Rattle.machine.specs.Begin.{Given, integer, vector, matched}
 use Rattle.machine.specs.Begin as begins
 use Rattle.rules.specs.Types.{kind_of, within}
-use Rattle.begin.specs.Arguments.{argument_of}
+use Rattle.begin.specs.Arguments.{argument_of, kind}
 use Rattle.begin.specs.declared.Argument.{Argument}
 
 -- ---- from the first word
 
 -- the argument that the word z begins, with the words r behind it
-abbrev from : ℤ → List ℤ → Argument
+abbrev from : ℤ → List ℤ → Optional Argument
 from z r = argument_of (begins.first (z ∷ r))
 
-pub no_words : Argument.Nothing ≡ argument_of (begins.first [])
+pub no_words : None ≡ argument_of (begins.first [])
 unfolding argument_of begins.first
 no_words = refl
 
@@ -37,59 +38,59 @@ from_zero (pos n) h = tt
 from_zero (negsuc n) h = absurd (true≢false h)
 
 -- a word that is not below 0 is a vector's length
-from-length : (n : ℕ) (r : List ℤ) → from (pos n) r ≡ cond (leb n ITEMS && leb n (length r)) (Argument.Vector (length (take n r))) Argument.Nothing
+from-length : (n : ℕ) (r : List ℤ) → from (pos n) r ≡ cond (leb n ITEMS && leb n (length r)) (Some (Argument.Vector (length (take n r)))) None
 unfolding argument_of begins.first
 from-length n r = go (leb n ITEMS && leb n (length r))
   where
-    go : (b : Bool) → argument_of (elim b [ true ↦ some (vector (take n r), drop n r) | false ↦ none ]) ≡ cond b (Argument.Vector (length (take n r))) Argument.Nothing
+    go : (b : Bool) → argument_of (elim b [ true ↦ some (vector (take n r), drop n r) | false ↦ none ]) ≡ cond b (Some (Argument.Vector (length (take n r)))) None
     go true = refl
     go false = refl
 
 module _ (z : ℤ) (r : List ℤ) where
-  lone : z ≡ negsuc 0 → length r ≡ 0 → Argument.Nothing ≡ from z r
+  lone : z ≡ negsuc 0 → length r ≡ 0 → None ≡ from z r
   unfolding argument_of begins.first
   lone e h = rw e (go r h)
     where
-      go : (l : List ℤ) → length l ≡ 0 → Argument.Nothing ≡ from (negsuc 0) l
+      go : (l : List ℤ) → length l ≡ 0 → None ≡ from (negsuc 0) l
       go [] k = refl
       go (x ∷ l) k = absurd (omega arith)
 
-  one : z ≡ negsuc 0 → (length r ≡ 0 → ⊥) → Argument.Integer (get_or r 0 (pos 0)) ≡ from z r
+  one : z ≡ negsuc 0 → (length r ≡ 0 → ⊥) → Some (Argument.Integer (get_or r 0 (pos 0))) ≡ from z r
   unfolding argument_of begins.first
   one e h = rw e (go r h)
     where
-      go : (l : List ℤ) → (length l ≡ 0 → ⊥) → Argument.Integer (get_or l 0 (pos 0)) ≡ from (negsuc 0) l
+      go : (l : List ℤ) → (length l ≡ 0 → ⊥) → Some (Argument.Integer (get_or l 0 (pos 0))) ≡ from (negsuc 0) l
       go [] k = absurd (k refl)
       go (x ∷ l) k = refl
 
-  below : (z ≡ negsuc 0 → ⊥) → lt_z z (pos 0) ≡ true → Argument.Nothing ≡ from z r
+  below : (z ≡ negsuc 0 → ⊥) → lt_z z (pos 0) ≡ true → None ≡ from z r
   unfolding argument_of begins.first
   below e h = go z e h
     where
-      go : (y : ℤ) → (y ≡ negsuc 0 → ⊥) → lt_z y (pos 0) ≡ true → Argument.Nothing ≡ from y r
+      go : (y : ℤ) → (y ≡ negsuc 0 → ⊥) → lt_z y (pos 0) ≡ true → None ≡ from y r
       go (pos n) f k = let h : n < 0 = ltb-true n 0 k in absurd (omega arith)
       go (negsuc zero) f k = absurd (f refl)
       go (negsuc (suc n)) f k = refl
 
-  many : lt_z z (pos 0) ≡ false → ITEMS < nat_abs z → Argument.Nothing ≡ from z r
+  many : lt_z z (pos 0) ≡ false → ITEMS < nat_abs z → None ≡ from z r
   many e h = go z e h
     where
-      go : (y : ℤ) → lt_z y (pos 0) ≡ false → ITEMS < nat_abs y → Argument.Nothing ≡ from y r
+      go : (y : ℤ) → lt_z y (pos 0) ≡ false → ITEMS < nat_abs y → None ≡ from y r
       go (pos n) f k = rw (from-length n r, lt-leb n ITEMS k) refl
       go (negsuc n) f k = absurd (true≢false f)
 
-  short : lt_z z (pos 0) ≡ false → nat_abs z ≤ ITEMS → length r < nat_abs z → Argument.Nothing ≡ from z r
+  short : lt_z z (pos 0) ≡ false → nat_abs z ≤ ITEMS → length r < nat_abs z → None ≡ from z r
   short e m h = go z e m h
     where
-      go : (y : ℤ) → lt_z y (pos 0) ≡ false → nat_abs y ≤ ITEMS → length r < nat_abs y → Argument.Nothing ≡ from y r
+      go : (y : ℤ) → lt_z y (pos 0) ≡ false → nat_abs y ≤ ITEMS → length r < nat_abs y → None ≡ from y r
       go (pos n) f l k = rw (from-length n r, le-leb n ITEMS l, lt-leb n (length r) k) refl
       go (negsuc n) f l k = absurd (true≢false f)
 
-  items : lt_z z (pos 0) ≡ false → nat_abs z ≤ ITEMS → nat_abs z ≤ length r → Argument.Vector (nat_abs z) ≡ from z r
+  items : lt_z z (pos 0) ≡ false → nat_abs z ≤ ITEMS → nat_abs z ≤ length r → Some (Argument.Vector (nat_abs z)) ≡ from z r
   items e m h = go z e m h
     where
-      go : (y : ℤ) → lt_z y (pos 0) ≡ false → nat_abs y ≤ ITEMS → nat_abs y ≤ length r → Argument.Vector (nat_abs y) ≡ from y r
-      go (pos n) f l k = rw (from-length n r, le-leb n ITEMS l, le-leb n (length r) k) (ap Argument.Vector (sym (length-take-le n r k)))
+      go : (y : ℤ) → lt_z y (pos 0) ≡ false → nat_abs y ≤ ITEMS → nat_abs y ≤ length r → Some (Argument.Vector (nat_abs y)) ≡ from y r
+      go (pos n) f l k = rw (from-length n r, le-leb n ITEMS l, le-leb n (length r) k) (ap (λ x. Some (Argument.Vector x)) (sym (length-take-le n r k)))
       go (negsuc n) f l k = absurd (true≢false f)
 
 -- ---- at the word p
@@ -112,46 +113,46 @@ module _ (ws : List ℤ) (p : ℕ) (inside : p < length ws) (fits : SFits w64 (g
   minus-at : of_z w64 (get_or ws p (pos 0)) ≡ 18446744073709551615 → word ≡ negsuc 0
   minus-at e = ap (to_z w64) e
 
-  pub lone-at : of_z w64 (get_or ws p (pos 0)) ≡ 18446744073709551615 → behind ≡ 0 → Argument.Nothing ≡ argument_of (begins.first (drop p ws))
+  pub lone-at : of_z w64 (get_or ws p (pos 0)) ≡ 18446744073709551615 → behind ≡ 0 → None ≡ argument_of (begins.first (drop p ws))
   lone-at e h = rw begins-at (lone word (drop (suc p) ws) (minus-at e) (behind-at ∙ h))
 
-  pub one_at : of_z w64 (get_or ws p (pos 0)) ≡ 18446744073709551615 → (behind ≡ 0 → ⊥) → Argument.Integer (get_or ws (p + 1) (pos 0)) ≡ argument_of (begins.first (drop p ws))
+  pub one_at : of_z w64 (get_or ws p (pos 0)) ≡ 18446744073709551615 → (behind ≡ 0 → ⊥) → Some (Argument.Integer (get_or ws (p + 1) (pos 0))) ≡ argument_of (begins.first (drop p ws))
   one_at e h =
       let a : suc p + 0 ≡ p + 1 = omega arith in
       let g : get_or ws (p + 1) (pos 0) ≡ get_or (drop (suc p) ws) 0 (pos 0) = rw (← a) (sym (get_or-drop (suc p) ws 0 (pos 0))) in
       rw (begins-at, g) (one word (drop (suc p) ws) (minus-at e) (λ k. h (sym behind-at ∙ k)))
 
-  pub below_at : (of_z w64 (get_or ws p (pos 0)) ≡ 18446744073709551615 → ⊥) → lt_z word (pos 0) ≡ true → Argument.Nothing ≡ argument_of (begins.first (drop p ws))
+  pub below_at : (of_z w64 (get_or ws p (pos 0)) ≡ 18446744073709551615 → ⊥) → lt_z word (pos 0) ≡ true → None ≡ argument_of (begins.first (drop p ws))
   below_at e h = rw begins-at (below word (drop (suc p) ws) (λ k. e (ap (of_z w64) (sym (to_z-of_z fits) ∙ k))) h)
 
   -- the length that it is
   pub length_at : lt_z word (pos 0) ≡ false → T (non_neg word) × Fits w64 (nat_abs word)
   length_at h = (from_zero word h, Fits-nat_abs {w = w64} {z = word} tt (rw (to_z-of_z fits) fits))
 
-  pub many-at : lt_z word (pos 0) ≡ false → ITEMS < nat_abs word → Argument.Nothing ≡ argument_of (begins.first (drop p ws))
+  pub many-at : lt_z word (pos 0) ≡ false → ITEMS < nat_abs word → None ≡ argument_of (begins.first (drop p ws))
   many-at e h = rw begins-at (many word (drop (suc p) ws) e h)
 
-  pub short-at : lt_z word (pos 0) ≡ false → nat_abs word ≤ ITEMS → behind < nat_abs word → Argument.Nothing ≡ argument_of (begins.first (drop p ws))
+  pub short-at : lt_z word (pos 0) ≡ false → nat_abs word ≤ ITEMS → behind < nat_abs word → None ≡ argument_of (begins.first (drop p ws))
   short-at e m h = rw begins-at (short word (drop (suc p) ws) e m (omega (arith, behind-at, h)))
 
-  pub items_at : lt_z word (pos 0) ≡ false → nat_abs word ≤ ITEMS → nat_abs word ≤ behind → Argument.Vector (nat_abs word) ≡ argument_of (begins.first (drop p ws))
+  pub items_at : lt_z word (pos 0) ≡ false → nat_abs word ≤ ITEMS → nat_abs word ≤ behind → Some (Argument.Vector (nat_abs word)) ≡ argument_of (begins.first (drop p ws))
   items_at e m h = rw begins-at (items word (drop (suc p) ws) e m (omega (arith, behind-at, h)))
 
 -- ---- from the answer
 
-pub argument-nothing : (o : Option (Given × List ℤ)) → argument_of o ≡ Argument.Nothing → o ≡ none
+pub argument-nothing : (o : Option (Given × List ℤ)) → argument_of o ≡ None → o ≡ none
 unfolding argument_of
 argument-nothing none e = refl
 argument-nothing (some (integer z, r)) e = let y : ◌≡◌ {A = ℕ} 0 1 = cc in absurd (omega arith)
 argument-nothing (some (vector xs, r)) e = let y : ◌≡◌ {A = ℕ} 0 1 = cc in absurd (omega arith)
 
-pub argument-integer : (o : Option (Given × List ℤ)) (z : ℤ) → argument_of o ≡ Argument.Integer z → (r : List ℤ) × (o ≡ some (integer z, r))
+pub argument-integer : (o : Option (Given × List ℤ)) (z : ℤ) → argument_of o ≡ Some (Argument.Integer z) → (r : List ℤ) × (o ≡ some (integer z, r))
 unfolding argument_of
 argument-integer none z e = let y : ◌≡◌ {A = ℕ} 0 1 = cc in absurd (omega arith)
 argument-integer (some (integer x, r)) z e = let y : x ≡ z = cc in (r, rw y refl)
 argument-integer (some (vector xs, r)) z e = let y : ◌≡◌ {A = ℕ} 0 1 = cc in absurd (omega arith)
 
-pub argument-vector : (o : Option (Given × List ℤ)) (n : ℕ) → argument_of o ≡ Argument.Vector n → (xs : List ℤ) × (r : List ℤ) × (o ≡ some (vector xs, r)) × (length xs ≡ n)
+pub argument-vector : (o : Option (Given × List ℤ)) (n : ℕ) → argument_of o ≡ Some (Argument.Vector n) → (xs : List ℤ) × (r : List ℤ) × (o ≡ some (vector xs, r)) × (length xs ≡ n)
 unfolding argument_of
 argument-vector none n e = let y : ◌≡◌ {A = ℕ} 0 1 = cc in absurd (omega arith)
 argument-vector (some (integer x, r)) n e = let y : ◌≡◌ {A = ℕ} 0 1 = cc in absurd (omega arith)
@@ -225,22 +226,33 @@ matched-same t (some p) q e = go (within (begins.given_kind p.0) (kind_of t)) e
     go false f = let y : ◌≡◌ {A = ℕ} 0 1 = cc in absurd (omega arith)
 
 module _ (t : ℕ) (o : Option (Given × List ℤ)) where
-  pub none-matches : argument_of o ≡ Argument.Nothing → Argument.Nothing ≡ argument_of (bind o (matched t))
+  pub none-matches : argument_of o ≡ None → None ≡ argument_of (bind o (matched t))
   unfolding bind argument_of
   none-matches e = rw (argument-nothing o e) refl
 
-  pub integer-matches : (z : ℤ) → argument_of o ≡ Argument.Integer z → within 2 (kind_of t) ≡ true → Argument.Integer z ≡ argument_of (bind o (matched t))
+  pub integer-matches : (z : ℤ) → argument_of o ≡ Some (Argument.Integer z) → within 2 (kind_of t) ≡ true → Some (Argument.Integer z) ≡ argument_of (bind o (matched t))
   unfolding bind argument_of begins.given_kind
   integer-matches z e h = let a = argument-integer o z e in rw (a.1, matched-when t (integer z, a.0), h) refl
 
-  pub integer-fails : (z : ℤ) → argument_of o ≡ Argument.Integer z → within 2 (kind_of t) ≡ false → Argument.Nothing ≡ argument_of (bind o (matched t))
+  pub integer-fails : (z : ℤ) → argument_of o ≡ Some (Argument.Integer z) → within 2 (kind_of t) ≡ false → None ≡ argument_of (bind o (matched t))
   unfolding bind argument_of begins.given_kind
   integer-fails z e h = let a = argument-integer o z e in rw (a.1, matched-when t (integer z, a.0), h) refl
 
-  pub vector-matches : (n : ℕ) → argument_of o ≡ Argument.Vector n → within 3 (kind_of t) ≡ true → Argument.Vector n ≡ argument_of (bind o (matched t))
+  pub vector-matches : (n : ℕ) → argument_of o ≡ Some (Argument.Vector n) → within 3 (kind_of t) ≡ true → Some (Argument.Vector n) ≡ argument_of (bind o (matched t))
   unfolding bind argument_of begins.given_kind
-  vector-matches n e h = let v = argument-vector o n e in rw (v.2, matched-when t (vector v.0, v.1), h) (ap Argument.Vector (sym v.3))
+  vector-matches n e h = let v = argument-vector o n e in rw (v.2, matched-when t (vector v.0, v.1), h) (ap (λ x. Some (Argument.Vector x)) (sym v.3))
 
-  pub vector-fails : (n : ℕ) → argument_of o ≡ Argument.Vector n → within 3 (kind_of t) ≡ false → Argument.Nothing ≡ argument_of (bind o (matched t))
+  pub vector-fails : (n : ℕ) → argument_of o ≡ Some (Argument.Vector n) → within 3 (kind_of t) ≡ false → None ≡ argument_of (bind o (matched t))
   unfolding bind argument_of begins.given_kind
   vector-fails n e h = let v = argument-vector o n e in rw (v.2, matched-when t (vector v.0, v.1), h) refl
+
+  -- any argument
+  pub argument-matches : (a : Argument) → argument_of o ≡ Some a → within (kind a) (kind_of t) ≡ true → Some a ≡ argument_of (bind o (matched t))
+  unfolding kind
+  argument-matches (Argument.Integer z) e h = integer-matches z e h
+  argument-matches (Argument.Vector n) e h = vector-matches n e h
+
+  pub argument-fails : (a : Argument) → argument_of o ≡ Some a → within (kind a) (kind_of t) ≡ false → None ≡ argument_of (bind o (matched t))
+  unfolding kind
+  argument-fails (Argument.Integer z) e h = integer-fails z e h
+  argument-fails (Argument.Vector n) e h = vector-fails n e h

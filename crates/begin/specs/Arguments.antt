@@ -1,15 +1,20 @@
 -- What reading the arguments answers.
-use Rattle.std.specs.Prelude.{List, [], Bool, true, false, ℕ, ℤ, length}
+use Rattle.std.specs.Prelude.{List, [], Bool, true, false, ℕ, ℤ, length, None, Some, Option as Optional}
 use Rattle.std.proofs.Math.Option.{Option, none, some}
 use Rattle.program.specs.Program.{Program, Version, find_version, parameter_types}
 use Rattle.machine.specs.Begin.{Given, integer, vector, arguments}
 use Rattle.begin.specs.declared.Argument.{Argument}
 
 -- the argument that begins some words, if there is one
-unfoldable pub argument_of : Option (Given × List ℤ) → Argument
-argument_of none = Argument.Nothing
-argument_of (some (integer z, ws)) = Argument.Integer z
-argument_of (some (vector xs, ws)) = Argument.Vector (length xs)
+unfoldable pub argument_of : Option (Given × List ℤ) → Optional Argument
+argument_of none = None
+argument_of (some (integer z, ws)) = Some (Argument.Integer z)
+argument_of (some (vector xs, ws)) = Some (Argument.Vector (length xs))
+
+-- its kind: 2 an integer's, 3 a vector's
+unfoldable pub kind : Argument → ℕ
+kind (Argument.Integer z) = 2
+kind (Argument.Vector n) = 3
 
 -- are there arguments?
 unfoldable pub is_given : Option (List Given) → Bool

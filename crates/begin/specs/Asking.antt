@@ -1,5 +1,5 @@
 -- What the questions to a run come to, and what beginning it leaves.
-use Rattle.std.specs.Prelude.{◌≡◌, List, [], ◌∷◌, ℕ, ◌/◌, ◌%◌, ℤ}
+use Rattle.std.specs.Prelude.{◌≡◌, List, [], ◌∷◌, ℕ, ◌/◌, ◌%◌, ℤ, Result, Ok, Err}
 use Rattle.std.proofs.Math.Option.{some}
 use Rattle.program.specs.Program.{Program, Version, find_version, parameter_types}
 use Rattle.machine.specs.Calls.{frame_for}
@@ -10,7 +10,6 @@ use Rattle.loaded.specs.Loaded.{program_in, version_in}
 use Rattle.store.specs.Store.{state_in}
 use Rattle.begin.specs.Arguments.{arguments_in, given_to}
 use Rattle.begin.specs.Arrays.{first_bytes, first_numbers}
-use Rattle.begin.specs.declared.Asked.{Asked}
 use Rattle.begin.specs.declared.Entrance.{Entrance}
 
 -- a run of W that was begun with these arguments
@@ -22,18 +21,18 @@ abbrev pub Fitting : Begun → Version → List ℤ → Type 0
 Fitting b W words = (b ≡ begun_with W (given_to W words)) × (arguments (parameter_types W) words ≡ some (given_to W words))
 
 -- 19, 12 and 13 to a run of W, under the number k
-unfoldable pub Allows : Asked → ℕ → ℕ → Version → List ℤ → List ℤ → Type 0
-Allows (Asked.Refused q) k level W words buffer = question19 level W words buffer ≡ refused q 0
-Allows (Asked.Enters j) k level W words buffer = (j ≡ k) × Fitting (question19 level W words buffer) W words
+unfoldable pub Allows : Result ℕ ℕ → ℕ → ℕ → Version → List ℤ → List ℤ → Type 0
+Allows (Err q) k level W words buffer = question19 level W words buffer ≡ refused q 0
+Allows (Ok j) k level W words buffer = (j ≡ k) × Fitting (question19 level W words buffer) W words
 
 -- a run as the machine enters it
 abbrev pub entered_at : Program → Entrance → List ℤ → List ℤ → Begun
 entered_at P e words buffer = entered_of P e.level e.function e.version words buffer
 
 -- 11, 19, 12 and 13 to an entrance: the version that is entered is the one of its numbers
-unfoldable pub Asks : Asked → List ℕ → List ℕ → Entrance → List ℤ → List ℤ → Type 0
-Asks (Asked.Refused q) s t e words buffer = entered_at (program_in s t) e words buffer ≡ refused q 0
-Asks (Asked.Enters k) s t e words buffer =
+unfoldable pub Asks : Result ℕ ℕ → List ℕ → List ℕ → Entrance → List ℤ → List ℤ → Type 0
+Asks (Err q) s t e words buffer = entered_at (program_in s t) e words buffer ≡ refused q 0
+Asks (Ok k) s t e words buffer =
     (k / 4 ≡ e.function) × (k % 4 ≡ e.version) × (find_version (program_in s t) e.function e.version ≡ some (version_in s t k))
     × Fitting (entered_at (program_in s t) e words buffer) (version_in s t k) words
 

@@ -5,10 +5,11 @@
 ghost use Rattle.std.specs.Prelude.{List, ◌≡◌, ℕ, ◌+◌, ◌<◌, ◌≤◌, ◌/◌, ◌%◌, leb, drop, length, take};
 ghost use Rattle.std.proofs.Math.Option.{bind, some};
 ghost use Rattle.program.specs.Program.{parameter_types};
+ghost use Rattle.rules.specs.Types.{kind_of, within};
 ghost use Rattle.machine.specs.States.{ITEMS};
 ghost use Rattle.machine.specs.Begin.{Given, arguments, entered_of, first, matched, run_level};
 ghost use Rattle.loaded.specs.Loaded.{program_in, version_in};
-ghost use Rattle.begin.specs.Arguments.{argument_of, is_given};
+ghost use Rattle.begin.specs.Arguments.{argument_of, is_given, kind};
 ghost use Rattle.begin.specs.Arrays.{bytes_with, first_bytes, first_numbers, integer_bytes, integer_numbers, item_numbers, length_bytes, numbers_with, vector_bytes};
 ghost use Rattle.begin.specs.Asking.{Allows, Asks, Begins};
 
@@ -25,19 +26,11 @@ pub struct Entrance {
     pub version: usize,
 }
 
-/// An argument: none that is allowed, an integer, or a vector with its number of items.
+/// An argument: an integer, or a vector with its number of items.
 #[derive(Clone, Copy)]
 enum Argument {
-    Nothing,
     Integer(i64),
     Vector(usize),
-}
-
-/// What the questions to an entrance come to: the one that refuses it, or the number of the version that is entered.
-#[derive(Clone, Copy)]
-enum Asked {
-    Refused(u8),
-    Enters(u8),
 }
 
 /// How many registers a frame has, and how many vectors a state.
@@ -69,53 +62,52 @@ const ITEM: usize = 1024;
 // ---- the arguments
 
 /// The argument that begins at the word `p`, if there is one.
-fn given(words: &[i64], p: usize) -> Argument
+fn given(words: &[i64], p: usize) -> Option<Argument>
     ensures { result ≡ argument_of (first (drop p words.now)) }
 {
     if words.len() <= p {
-        return Argument::Nothing;
+        return None;
     }
     let left = words.len() - p - 1;
     let w = words[p];
     if w == -1 {
         if left == 0 {
-            return Argument::Nothing;
+            return None;
         }
-        return Argument::Integer(words[p + 1]);
+        return Some(Argument::Integer(words[p + 1]));
     }
     if w < 0 {
-        return Argument::Nothing;
+        return None;
     }
     let n = w as usize;
     if Vector::ITEMS < n {
-        return Argument::Nothing;
+        return None;
     }
     if left < n {
-        return Argument::Nothing;
+        return None;
     }
-    Argument::Vector(n)
+    Some(Argument::Vector(n))
+}
+
+/// Does the argument match a parameter of type `t`?
+fn is_of(argument: Argument, t: usize) -> bool
+    ensures { result ≡ within (kind argument) (kind_of t) }
+{
+    match argument {
+        Argument::Integer(_) => types::is_within(types::INTEGER, t % 16),
+        Argument::Vector(_) => types::is_within(types::VECTOR, t % 16),
+    }
 }
 
 /// The argument that begins at the word `p` for a parameter of type `t`, if there is one that matches.
-fn matching(words: &[i64], p: usize, t: usize) -> Argument
+fn matching(words: &[i64], p: usize, t: usize) -> Option<Argument>
     ensures { result ≡ argument_of (bind (first (drop p words.now)) (matched t)) }
 {
-    match given(words, p) {
-        Argument::Nothing => Argument::Nothing,
-        Argument::Integer(z) => {
-            if types::is_within(types::INTEGER, t % 16) {
-                Argument::Integer(z)
-            } else {
-                Argument::Nothing
-            }
-        }
-        Argument::Vector(n) => {
-            if types::is_within(types::VECTOR, t % 16) {
-                Argument::Vector(n)
-            } else {
-                Argument::Nothing
-            }
-        }
+    let argument = given(words, p)?;
+    if is_of(argument, t) {
+        Some(argument)
+    } else {
+        None
     }
 }
 
@@ -140,8 +132,10 @@ fn fits(image: &[u8], table: &[u8], k: u8, words: &[i64]) -> bool
     let mut p: usize = 0;
     for i in 0..n {
         let t = lookup::type_of(image, table, k, i as u8);
-        match matching(words, p, t as usize) {
-            Argument::Nothing => return false,
+        let Some(argument) = matching(words, p, t as usize) else {
+            return false;
+        };
+        match argument {
             Argument::Integer(_) => p += 2,
             Argument::Vector(m) => p += m + 1,
         }
@@ -169,36 +163,49 @@ fn may_enter(image: &[u8], table: &[u8], level: usize, k: u8) -> bool
     (lookup::level(image, table, k) as usize) <= run_level(level)
 }
 
-/// Questions 19, 12 and 13 to a run, at a level, of the version under the number `k`.
-fn allowed(image: &[u8], table: &[u8], level: usize, k: u8, words: &[i64], buffer: &[i64]) -> Asked
+/// Questions 19, 12 and 13 to a run, at a level, of the version under the number `k`: that number, or the question that refuses it.
+fn allowed(
+    image: &[u8],
+    table: &[u8],
+    level: usize,
+    k: u8,
+    words: &[i64],
+    buffer: &[i64],
+) -> Result<u8, u8>
     ensures { Allows result k level (version_in image.now table.now k) words.now buffer.now }
 {
     if !may_enter(image, table, level, k) {
-        return Asked::Refused(19);
+        return Err(19);
     }
     if !fits(image, table, k, words) {
-        return Asked::Refused(12);
+        return Err(12);
     }
     if buffer.len() < Vector::ITEMS {
-        return Asked::Refused(13);
+        return Err(13);
     }
-    Asked::Enters(k)
+    Ok(k)
 }
 
-/// Question 11 to an entrance, then 19, 12 and 13.
-fn questions(image: &[u8], table: &[u8], at: Entrance, words: &[i64], buffer: &[i64]) -> Asked
+/// Question 11 to an entrance, then 19, 12 and 13: the number of the version that is entered, or the question that refuses it.
+fn questions(
+    image: &[u8],
+    table: &[u8],
+    at: Entrance,
+    words: &[i64],
+    buffer: &[i64],
+) -> Result<u8, u8>
     ensures { Asks result image.now table.now at words.now buffer.now }
 {
     if bounds::FUNCTIONS <= at.function {
-        return Asked::Refused(11);
+        return Err(11);
     }
     if bounds::VERSIONS <= at.version {
-        return Asked::Refused(11);
+        return Err(11);
     }
-    match lookup::version(table, at.function as u8, at.version as u8) {
-        None => Asked::Refused(11),
-        Some(k) => allowed(image, table, at.level, k, words, buffer),
-    }
+    let Some(k) = lookup::version(table, at.function as u8, at.version as u8) else {
+        return Err(11);
+    };
+    allowed(image, table, at.level, k, words, buffer)
 }
 
 // ---- the first state
@@ -257,8 +264,10 @@ fn fill(words: &[i64], bytes: &mut [u8; 2632], numbers: &mut [i64; 2129])
     let mut p: usize = 0;
     let mut i: usize = 0;
     while p < words.len() {
-        match given(words, p) {
-            Argument::Nothing => return,
+        let Some(argument) = given(words, p) else {
+            return;
+        };
+        match argument {
             Argument::Integer(z) => {
                 put_integer(bytes, numbers, i, z);
                 p += 2;
@@ -304,8 +313,8 @@ pub fn begin(
         bytes.old numbers.old bytes.new numbers.new }
 {
     match questions(image, table, at, words, buffer) {
-        Asked::Refused(q) => Entry::Refused(q, 0),
-        Asked::Enters(k) => {
+        Err(q) => Entry::Refused(q, 0),
+        Ok(k) => {
             start(k, words, bytes, numbers);
             Entry::Begun
         }

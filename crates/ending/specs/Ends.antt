@@ -1,5 +1,5 @@
 -- What the end of a block does to the state.
-use Rattle.std.specs.Prelude.{List, ◌≡◌, Bool, ℕ, ◌+◌, ◌-◌, ◌<◌, ◌≤◌, ℤ, length, set}
+use Rattle.std.specs.Prelude.{List, ◌≡◌, Bool, ℕ, ◌+◌, ◌-◌, ◌<◌, ◌≤◌, ℤ, length, set, Option}
 use Rattle.layout.specs.Records.{◌!◌}
 use Rattle.program.specs.Program.{Program, Version}
 use Rattle.rules.specs.Types.{kind_of, within}
@@ -16,7 +16,6 @@ use Rattle.store.specs.Counts.{Ready}
 use Rattle.store.specs.Answers.{end_of}
 use Rattle.store.specs.declared.Halt.{Halt}
 use Rattle.acts.specs.Typed.{typed_of}
-use Rattle.acts.specs.declared.Typed.{Typed}
 use Rattle.ending.specs.declared.Ended.{Ended}
 
 -- ---- what was done
@@ -66,15 +65,15 @@ returns_in P W s f r = do
   got (within m (kind_of W.return))
 
 -- the code is told right of what the register r of the frame k holds
-abbrev pub ReturnTold : Typed → Program → Version → List ℕ → List ℤ → ℕ → ℕ → Type 0
+abbrev pub ReturnTold : Option Bool → Program → Version → List ℕ → List ℤ → ℕ → ℕ → Type 0
 ReturnTold t P W b n k r = returns_in P W (state_in b n) (frame_in b n k) r ≡ typed_of t
 
 -- a call, in each program and version where the code is told right
-abbrev pub CallEnds : Typed → Ended → List ℕ → List ℤ → List ℕ → List ℤ → List ℕ → ℕ → ℕ → Type 0
+abbrev pub CallEnds : Option Bool → Ended → List ℕ → List ℤ → List ℕ → List ℤ → List ℕ → ℕ → ℕ → Type 0
 CallEnds t x b n b' n' c' k r = ((P : Program) (W : Version) → ReturnTold t P W b n k r → Comes x (ended_by P W b n k r Opener.Call) b n b' n') × Left x b' n' c'
 
 -- whichever it is
-abbrev pub BlockEnds : Typed → Ended → List ℕ → List ℤ → List ℕ → List ℤ → List ℕ → ℕ → ℕ → Type 0
+abbrev pub BlockEnds : Option Bool → Ended → List ℕ → List ℤ → List ℕ → List ℤ → List ℕ → ℕ → ℕ → Type 0
 BlockEnds t x b n b' n' c' k r =
     ((P : Program) (W : Version) → (top_opener b ≡ Opener.Call → ReturnTold t P W b n k r) → Comes x (ended_by P W b n k r (top_opener b)) b n b' n') × Left x b' n' c'
 

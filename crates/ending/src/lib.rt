@@ -10,7 +10,6 @@ ghost use Rattle.machine.specs.Pools.{overfull};
 ghost use Rattle.machine.specs.declared.Opener.{Opener};
 ghost use Rattle.ending.specs.Ends.{BlockEnds, CallEnds, CellEnds, ForceEnds, GoesBack, Returning, Working, closed_bytes, done_integer, done_vector, stop_byte, stopped_by, top_opener};
 
-use acts::Typed;
 use machine::{Opener, Value};
 use store::{Halt, cells, heap, stack};
 
@@ -190,15 +189,16 @@ fn end_call(
     counts: &mut [u16; 800],
     k: usize,
     r: u8,
-    typed: Typed,
+    typed: Option<bool>,
 ) -> Ended
     requires { Ready bytes.old numbers.old counts.old × Working bytes.old k × (top_opener bytes.old ≡ Opener.Call) }
     ensures { CallEnds typed result bytes.old numbers.old bytes.new numbers.new counts.new k r }
 {
-    match typed {
-        Typed::Fits => {}
-        Typed::Clashes => return Ended::Stuck,
-        Typed::Stuck => return Ended::Stuck,
+    let Some(fits) = typed else {
+        return Ended::Stuck;
+    };
+    if !fits {
+        return Ended::Stuck;
     }
     let e = r as usize;
     if 16 <= e {
@@ -228,7 +228,7 @@ pub fn end_block(
     counts: &mut [u16; 800],
     k: usize,
     r: u8,
-    typed: Typed,
+    typed: Option<bool>,
 ) -> Ended
     requires { Ready bytes.old numbers.old counts.old × Working bytes.old k }
     ensures { BlockEnds typed result bytes.old numbers.old bytes.new numbers.new counts.new k r }

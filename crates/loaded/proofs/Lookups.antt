@@ -89,15 +89,15 @@ module _ (s t : List ℕ) (e n : ℕ) {m : ℕ} (counted : m ≡ length (block_i
   unfolding block_in
   many = counted ∙ length-lines s t (e + 1) (count_in t e)
 
-  pub next-line : n < 48 → n < m → next_of s t (Next.Line (e + 1 + n)) ≡ position (take INSTRUCTIONS (block_in s t e).code) n
+  pub next-line : n < 48 → n < m → next_of s t (Some (Next.Line (e + 1 + n))) ≡ position (take INSTRUCTIONS (block_in s t e).code) n
   unfolding next_of block_in
   next-line a l = let c = many in sym (line_at s t 48 (e + 1) (count_in t e) n a (omega arith))
 
-  pub next-end : n ≤ 48 → n ≤ m → (n < 48 → n < m → ⊥) → next_of s t Next.End ≡ position (take INSTRUCTIONS (block_in s t e).code) n
+  pub next-end : n ≤ 48 → n ≤ m → (n < 48 → n < m → ⊥) → next_of s t (Some Next.End) ≡ position (take INSTRUCTIONS (block_in s t e).code) n
   unfolding next_of block_in
   next-end a l x = let c = many in sym (line-end s t 48 (e + 1) (count_in t e) n a (omega arith) (λ h g. x h (omega arith)))
 
-  pub next-outside : (n ≤ 48 → n ≤ m → ⊥) → next_of s t Next.Outside ≡ position (take INSTRUCTIONS (block_in s t e).code) n
+  pub next-outside : (n ≤ 48 → n ≤ m → ⊥) → next_of s t None ≡ position (take INSTRUCTIONS (block_in s t e).code) n
   unfolding next_of block_in
   next-outside x = let c = many in sym (no_line s t 48 (e + 1) (count_in t e) n (λ h g. x h (omega arith)))
 

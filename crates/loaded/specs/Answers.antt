@@ -25,7 +25,7 @@ block_of s t (Some i) = some (block_in s t i)
 block_of s t None = none
 
 -- what is next
-unfoldable pub next_of : List ℕ → List ℕ → Next → Position
-next_of s t (Next.Line i) = instruction (instr_in s t i)
-next_of s t Next.End = block_end
-next_of s t Next.Outside = outside
+unfoldable pub next_of : List ℕ → List ℕ → Optional Next → Position
+next_of s t (Some (Next.Line i)) = instruction (instr_in s t i)
+next_of s t (Some Next.End) = block_end
+next_of s t None = outside

@@ -42,13 +42,12 @@ impl From<Refusal> for LoadError {
     }
 }
 
-/// What is next in a block: the instruction of a record, the end of the block, or nothing.
+/// What is next in a block: the instruction of a record, or the end of the block.
 /// A record behind the last one that an entry can say has a number of more than 16 bits.
 #[derive(Clone, Copy)]
 pub enum Next {
     Line(u32),
     End,
-    Outside,
 }
 
 /// What is to be filled next: the entry of a block of the version at hand, and the record.

@@ -147,25 +147,25 @@ pub fn mark(image: &[u8], table: &[u8], k: u8) -> u8
     mark_at(table, i)
 }
 
-/// What stands at the number `n` in the block of the record `i`.
-pub fn next(table: &[u8], i: u16, n: u8) -> Next
+/// What stands at the number `n` in the block of the record `i`; nothing behind its end.
+pub fn next(table: &[u8], i: u16, n: u8) -> Option<Next>
     ensures { (s : List ℕ) → next_of s table.now result ≡ position (take INSTRUCTIONS (block_in s table.now i).code) n }
 {
     let count = count_at(table, i);
     if n < INSTRUCTIONS {
         if n < count {
-            return Next::Line((i as u32) + 1 + (n as u32));
+            return Some(Next::Line((i as u32) + 1 + (n as u32)));
         }
         if n == count {
-            return Next::End;
+            return Some(Next::End);
         }
-        return Next::Outside;
+        return None;
     }
     if n == INSTRUCTIONS {
         if INSTRUCTIONS <= count {
-            return Next::End;
+            return Some(Next::End);
         }
-        return Next::Outside;
+        return None;
     }
-    Next::Outside
+    None
 }

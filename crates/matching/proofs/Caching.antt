@@ -1,4 +1,5 @@
 -- The choices of a budget, row by row.
+use Rattle.std.specs.Prelude.{Ok}
 use mathlib.Core.Path.{◌≡◌, refl, sym, ap, ◌∙◌, subst}
 use mathlib.Core.List.{List}
 use mathlib.Core.Bool.{Bool, true, false}
@@ -9,8 +10,9 @@ use lib.Seq.{get_or-set_same, get_or-set_other}
 use lib.Dec.{eqb}
 use borrow.Author.Tests.{eqb-true, eqb-false}
 use Rattle.layout.specs.Records.{◌!◌}
-use Rattle.matching.specs.Choosing.{Cached, Calling, Decides, Holds, Keeps, RowRight, count_at, decided_at}
+use Rattle.matching.specs.Choosing.{choice, Cached, Calling, Decides, Holds, Keeps, RowRight, count_at, decided_at}
 use Rattle.matching.specs.Codes.{kinds_in}
+use Rattle.integers.specs.declared.Fault.{Fault}
 use Rattle.matching.specs.declared.Choice.{Choice}
 
 -- ---- one row
@@ -61,7 +63,7 @@ cached-none s t c h l = record { right = λ i r m own k o e. let z = h (4 * i + 
 module _ (s t c : List ℕ) (C : Cached s t c) (q : ℕ) (low : q < 64) (p key m own x : ℕ) (is : key ≡ 256 * m + own) (calls : Calling m) (few : own < 128) where
   -- what a row says
   pub cached-hit : {r : Bool} → Holds r c (4 * q) p key x → r ≡ true
-      → Decides (Choice.Version (c ! (4 * q + 3) / 256) (c ! (4 * q + 3) % 256)) s t (count_at s m p) (decided_at s t own p m (kinds_in x (count_at s m p)))
+      → Decides (Ok (choice (c ! (4 * q + 3) / 256) (c ! (4 * q + 3) % 256))) s t (count_at s m p) (decided_at s t own p m (kinds_in x (count_at s m p)))
   unfolding Holds
   cached-hit H e =
       let M = rw e at H in
@@ -69,7 +71,7 @@ module _ (s t c : List ℕ) (C : Cached s t c) (q : ℕ) (low : q < 64) (p key m
       R m own calls few is
 
   -- one more row
-  pub cached-keep : (c' : List ℕ) (j w : ℕ) → j < 256 → w < 256 → Keeps c c' (4 * q) p key x (256 * j + w) → Decides (Choice.Version j w) s t (count_at s m p)
+  pub cached-keep : (c' : List ℕ) (j w : ℕ) → j < 256 → w < 256 → Keeps c c' (4 * q) p key x (256 * j + w) → Decides (Ok (choice j w)) s t (count_at s m p)
       (decided_at s t own p m (kinds_in x (count_at s m p))) → Cached s t c'
   cached-keep c' j w a b K D = record { right = λ i l. go i l (eqb i q) refl; long = K.long ∙ C.long }
     where

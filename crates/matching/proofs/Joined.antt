@@ -1,4 +1,5 @@
 -- CALL and DISPATCH up to the call that they open, by the kinds of their arguments.
+use Rattle.std.specs.Prelude.{Ok, Err, Result}
 use mathlib.Core.Path.{◌≡◌, refl, sym, ap, ◌∙◌, subst}
 use mathlib.Core.List.{List, [], ◌∷◌, map}
 use mathlib.Core.Option.{Option, none, some}
@@ -33,8 +34,9 @@ use Rattle.loaded.specs.Dispatching.{pairs_at}
 use Rattle.loaded.specs.Loaded.{few, instr_in, place_in, program_in, record_at, version_in}
 use Rattle.matching.specs.Arguments.{picked_at}
 use Rattle.matching.specs.Choosing as Choosing
-use Rattle.matching.specs.Choosing.{Cached, Chooses, Decides, DecidesBy, Entering, Holds, Keeps, Sited, called_at, count_at, decided_at, executed_at, registers_at}
+use Rattle.matching.specs.Choosing.{choice, Cached, Chooses, Decides, DecidesBy, Entering, Holds, Keeps, Sited, called_at, count_at, decided_at, executed_at, registers_at}
 use Rattle.matching.specs.Codes.{Coded, KINDLESS, kinds_by, kinds_in}
+use Rattle.integers.specs.declared.Fault.{Fault}
 use Rattle.matching.specs.declared.Choice.{Choice}
 use Rattle.matching.specs.declared.Site.{Site}
 use Rattle.matching.proofs.Caching.{cached-hit, cached-keep}
@@ -234,9 +236,9 @@ module _ (s t b : List ℕ) (n : List ℤ) (x : Site) (rs : List ℕ) (S : Sited
     long : length ls ≡ x.n
     long = ap length S.lists ∙ registers-long s x.kind x.place ∙ sym S.count
 
-    comes : (r : Choice) → Decides r s t x.n (decided_at s t x.own x.place x.kind ks) → Choosing.Comes r s t b n x i ls
+    comes : (r : Result Choice Fault) → Decides r s t x.n (decided_at s t x.own x.place x.kind ks) → Choosing.Comes r s t b n x i ls
     unfolding Decides Choosing.Comes version_in
-    comes (Choice.Version j m) D = record {
+    comes (Ok v) D = record {
       low = D.1;
       enters = by-kinds ∙ calls-it (state_in b n) x.frame F (s ! (x.place + 2)) ls D.0;
       marks = λ k l. D.2 k (omega (arith, long));
@@ -244,20 +246,20 @@ module _ (s t b : List ℕ) (n : List ℤ) (x : Site) (rs : List ℕ) (S : Sited
       version = refl;
       full = kinded-full b n x.frame P ls ks kinds;
     }
-    comes Choice.Undef D = by-kinds ∙ calls-undef (state_in b n) x.frame F (s ! (x.place + 2)) ls D
-    comes Choice.Stuck D = by-kinds ∙ calls-none (state_in b n) x.frame F (s ! (x.place + 2)) ls D
+    comes (Err Fault.Undef) D = by-kinds ∙ calls-undef (state_in b n) x.frame F (s ! (x.place + 2)) ls D
+    comes (Err Fault.Stuck) D = by-kinds ∙ calls-none (state_in b n) x.frame F (s ! (x.place + 2)) ls D
 
 -- ---- as the code has the answers in hand
 
 module _ (s t b : List ℕ) (x : Site) (rs : List ℕ) (S : Sited s x rs) (code : ℕ) (C : Coded code s t b x.frame (take x.n rs)) where
-  pub choose-kindless : KINDLESS ≤ code → Chooses Choice.Stuck s t b x rs
+  pub choose-kindless : KINDLESS ≤ code → Chooses (Err Fault.Stuck) s t b x rs
   unfolding Choosing.Comes kinds_by
   choose-kindless h n i of place = kindless s t b n x rs S i of place (C n ∙ rw (le-ltb code KINDLESS h) refl)
 
   sited-long : length (take x.n rs) ≡ x.n
   sited-long = ap length S.lists ∙ registers-long s x.kind x.place ∙ sym S.count
 
-  pub choose-by : code < KINDLESS → (r : Choice) → DecidesBy r s t x code → Chooses r s t b x rs
+  pub choose-by : code < KINDLESS → (r : Result Choice Fault) → DecidesBy r s t x code → Chooses r s t b x rs
   unfolding kinds_by
   choose-by h r D n i of place = comes s t b n x rs S i of place (kinds_in code x.n) (C n ∙ rw (lt-ltb code KINDLESS h, sited-long) refl) r D
 
@@ -274,19 +276,18 @@ module _ (s : List ℕ) (x : Site) (rs : List ℕ) (S : Sited s x rs) where
 module _ (s t b : List ℕ) (x : Site) (rs c : List ℕ) (S : Sited s x rs) (K : Cached s t c) (code : ℕ) (C : Coded code s t b x.frame (take x.n rs)) (below : code < KINDLESS)
     (q : ℕ) where
   -- it is told by its row
-  pub choose-hit : q < 64 → {r : Bool} → Holds r c (4 * q) x.place (256 * x.kind + x.own) code → r ≡ true → (w : Choice) → w ≡ Choice.Version (c ! (4 * q + 3) / 256)
-      (c ! (4 * q + 3) % 256) → Chooses w s t b x rs
+  pub choose-hit : q < 64 → {r : Bool} → Holds r c (4 * q) x.place (256 * x.kind + x.own) code → r ≡ true → (w : Result Choice Fault) → w ≡ Ok (choice (c ! (4 * q + 3) / 256) (c ! (4 * q + 3) % 256)) → Chooses w s t b x rs
   choose-hit l H e w is =
       let D = cached-hit s t c K q l x.place (256 * x.kind + x.own) x.kind x.own code refl S.calls S.own H e in
       let E = rw (← S.count, ← is) at D in
       choose-by s t b x rs S code C below w E
 
   -- it is decided
-  module _ (r : Choice) (D : DecidesBy r s t x code) where
-    pub choose-as : (w : Choice) → r ≡ w → Chooses w s t b x rs
-    choose-as w e = choose-by s t b x rs S code C below w (subst (λ (z : Choice). DecidesBy z s t x code) e D)
+  module _ (r : Result Choice Fault) (D : DecidesBy r s t x code) where
+    pub choose-as : (w : Result Choice Fault) → r ≡ w → Chooses w s t b x rs
+    choose-as w e = choose-by s t b x rs S code C below w (subst (λ (z : Result Choice Fault). DecidesBy z s t x code) e D)
 
-    pub choose-kept : q < 64 → (c' : List ℕ) (j w : ℕ) → j < 256 → w < 256 → Keeps c c' (4 * q) x.place (256 * x.kind + x.own) code (256 * j + w) → r ≡ Choice.Version j w
+    pub choose-kept : q < 64 → (c' : List ℕ) (j w : ℕ) → j < 256 → w < 256 → Keeps c c' (4 * q) x.place (256 * x.kind + x.own) code (256 * j + w) → r ≡ Ok (choice j w)
         → Cached s t c'
     choose-kept l c' j w a d E e =
         let M = rw (e, S.count) at D in

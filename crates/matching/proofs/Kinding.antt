@@ -1,5 +1,5 @@
 -- Kinds by what the look-ups answered.
-use Rattle.std.specs.Prelude.{None, Some}
+use Rattle.std.specs.Prelude.{None, Some, Option as Optional}
 use Rattle.loaded.specs.Answers.{BlockAt}
 use mathlib.Core.Path.{◌≡◌, refl, sym, ap, ◌∙◌}
 use Rattle.loaded.specs.Answers.{Number}
@@ -27,7 +27,6 @@ use Rattle.store.proofs.Promises.{promise-at, promise-outside}
 use Rattle.store.proofs.Vectors.{vector-at, vector-outside}
 use Rattle.frames.specs.Frames.{Lives}
 use Rattle.acts.specs.Typed.{typed_in, typed_of}
-use Rattle.acts.specs.declared.Typed.{Typed}
 use Rattle.ending.specs.Ends.{returns_in}
 use Rattle.loaded.proofs.Finding as Find
 use Rattle.loaded.specs.Answers.{block_of, version_of}
@@ -204,32 +203,28 @@ module _ (P : Program) (W : Version) (b : List ℕ) (n : List ℤ) (k a : ℕ) w
       go (stop e) = refl
 
   module _ {m : ℕ} (K : kind_try m ≡ register_kind P (state_in b n) (frame_in b n k) a) where
-    pub typed-none : (d : ℕ) → m ≡ 0 → typed_in P W (state_in b n) (frame_in b n k) d a ≡ typed_of Typed.Stuck
+    pub typed-none : (d : ℕ) → m ≡ 0 → typed_in P W (state_in b n) (frame_in b n k) d a ≡ typed_of None
     unfolding typed_of ◌>>=◌
     typed-none d h = by_kind d ∙ rw (kind-stuck K h) refl
 
-    pub returned-none : m ≡ 0 → returns_in P W (state_in b n) (frame_in b n k) a ≡ typed_of Typed.Stuck
+    pub returned-none : m ≡ 0 → returns_in P W (state_in b n) (frame_in b n k) a ≡ typed_of None
     unfolding typed_of ◌>>=◌
     returned-none h = by-return ∙ rw (kind-stuck K h) refl
 
     module _ (h : m ≡ 0 → ⊥) where
-      pub typed-outside : (d : ℕ) {c : ℕ} → c ≡ length W.types → c ≤ d → typed_in P W (state_in b n) (frame_in b n k) d a ≡ typed_of Typed.Stuck
+      pub typed-outside : (d : ℕ) {c : ℕ} → c ≡ length W.types → c ≤ d → typed_in P W (state_in b n) (frame_in b n k) d a ≡ typed_of None
       unfolding typed_of ◌>>=◌
       typed-outside d e l = by_kind d ∙ rw (kind-got K h, at_none W.types d (get_none W.types d (omega arith))) refl
 
-      pub typed-is : (d : ℕ) {c : ℕ} → c ≡ length W.types → d < c → (x : Typed) {t : ℕ} {y : Bool} → t ≡ W.types ! d → y ≡ within m (t % 16) → got y ≡ typed_of x
+      pub typed-is : (d : ℕ) {c : ℕ} → c ≡ length W.types → d < c → (x : Optional Bool) {t : ℕ} {y : Bool} → t ≡ W.types ! d → y ≡ within m (t % 16) → got y ≡ typed_of x
           → typed_in P W (state_in b n) (frame_in b n k) d a ≡ typed_of x
       unfolding ◌>>=◌ kind_of
       typed-is d e l x f g q = by_kind d ∙ rw (kind-got K h, at_in W.types d 0 (omega arith), sym f) (ap got (sym g) ∙ q)
 
-      pub returned-is : (x : Typed) {t : ℕ} {y : Bool} → t ≡ W.return → y ≡ within m (t % 16) → got y ≡ typed_of x → returns_in P W (state_in b n) (frame_in b n k) a ≡ typed_of x
+      pub returned-is : (x : Optional Bool) {t : ℕ} {y : Bool} → t ≡ W.return → y ≡ within m (t % 16) → got y ≡ typed_of x → returns_in P W (state_in b n) (frame_in b n k) a ≡ typed_of x
       unfolding ◌>>=◌ kind_of
       returned-is x f g q = by-return ∙ rw (kind-got K h, sym f) (ap got (sym g) ∙ q)
 
-pub fits-is : {y : Bool} → y ≡ true → got y ≡ typed_of Typed.Fits
+pub told-is : (y : Bool) → got y ≡ typed_of (Some y)
 unfolding typed_of
-fits-is e = ap got e
-
-pub clashes-is : {y : Bool} → y ≡ false → got y ≡ typed_of Typed.Clashes
-unfolding typed_of
-clashes-is e = ap got e
+told-is y = refl

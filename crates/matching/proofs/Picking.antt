@@ -1,5 +1,5 @@
 -- Matching place by place, and the search along the versions of a function.
-use Rattle.std.specs.Prelude.{None, Some, Option}
+use Rattle.std.specs.Prelude.{None, Some, Option, Ok, Err, Result}
 use mathlib.Core.Path.{◌≡◌, refl, sym, ap, ◌∙◌, subst}
 use Rattle.loaded.specs.Answers.{Number}
 use mathlib.Core.List.{List, [], ◌∷◌}
@@ -25,7 +25,8 @@ use Rattle.loaded.specs.Answers.{version_of}
 use Rattle.loaded.specs.Dispatching.{admits_at}
 use Rattle.loaded.specs.Loaded.{program_in, version_in}
 use Rattle.matching.specs.Arguments.{FitsIf, Masks, Matches, Passes, bit_of, dispatches_at, picked_at}
-use Rattle.matching.specs.Choosing.{Decides, called_at, decided_at}
+use Rattle.matching.specs.Choosing.{choice, Decides, called_at, decided_at}
+use Rattle.integers.specs.declared.Fault.{Fault}
 use Rattle.matching.specs.declared.Choice.{Choice}
 use Rattle.matching.proofs.Kinding.{version_low, version-none, version-some}
 
@@ -251,7 +252,7 @@ module _ (s t : List ℕ) (own p : ℕ) (ks : List ℕ) where
   unfolding picked dispatches_at
   left-all = record { most = omega arith; rest = refl }
 
-  pub left-none : (n w : ℕ) → Left w → 4 ≤ w → Decides Choice.Undef s t n (picked_at s t own p ks)
+  pub left-none : (n w : ℕ) → Left w → 4 ≤ w → Decides (Err Fault.Undef) s t n (picked_at s t own p ks)
   unfolding Decides lowest
   left-none n w L h = let z : 4 - w ≡ 0 = omega arith in L.rest ∙ ap (λ n. lowest (program_in s t) (s ! (p + 3)) (dispatches_at s t own p ks) n w) z
 
@@ -279,7 +280,7 @@ module _ (s t : List ℕ) (own p : ℕ) (ks : List ℕ) where
         unfolding FitsIf
         left-past q = let M = rw q at D in past (found_some (dispatches_at s t own p ks) (version-some s t looked-up e) ∙ M)
 
-        pub left_here : (n m : ℕ) → length ks ≡ n → x ≡ Some m → Decides (Choice.Version j m) s t n (picked_at s t own p ks)
+        pub left_here : (n m : ℕ) → length ks ≡ n → x ≡ Some m → Decides (Ok (choice j m)) s t n (picked_at s t own p ks)
         unfolding FitsIf Decides or_stuck
         left_here n m long q =
             let M = rw q at D in (
@@ -295,22 +296,22 @@ module _ (s t : List ℕ) (p n : ℕ) (ks : List ℕ) {f w : ℕ} (of : f ≡ s 
   named : version_of s t r ≡ find_version (program_in s t) (s ! (p + 3)) (s ! (p + 4))
   named = found-by ∙ rw (of, to) refl
 
-  pub called-missing : r ≡ None → Decides Choice.Stuck s t n (called_at s t p ks)
+  pub called-missing : r ≡ None → Decides (Err Fault.Stuck) s t n (called_at s t p ks)
   unfolding Decides called_at ◌>>=◌ or_stuck
   called-missing e = rw (version-none s t named e) refl
 
   module _ {j : ℕ} (e : r ≡ Some j) (x : Option ℕ) (M : Matches x ks (version_in s t j)) where
-    pub called-clashes : x ≡ None → Decides Choice.Stuck s t n (called_at s t p ks)
+    pub called-clashes : x ≡ None → Decides (Err Fault.Stuck) s t n (called_at s t p ks)
     unfolding Decides called_at ◌>>=◌ ◌>>◌ or_stuck stuck_unless FitsIf
     called-clashes q = let N = rw q at M in rw (version-some s t named e, N) refl
 
-    pub called-fits : (m : ℕ) → length ks ≡ n → x ≡ Some m → Decides (Choice.Version j m) s t n (called_at s t p ks)
+    pub called-fits : (m : ℕ) → length ks ≡ n → x ≡ Some m → Decides (Ok (choice j m)) s t n (called_at s t p ks)
     unfolding Decides called_at ◌>>=◌ ◌>>◌ or_stuck stuck_unless FitsIf
     called-fits m long q = let N = rw q at M in (rw (version-some s t named e, N.0) refl, version_low s t _ _ found-by e, λ i l. N.1 i (omega arith))
 
 -- ---- by the kind of the instruction
 
-module _ (s t : List ℕ) (own p m n : ℕ) {ks ls : List ℕ} (same : ks ≡ ls) (r : Choice) where
+module _ (s t : List ℕ) (own p m n : ℕ) {ks ls : List ℕ} (same : ks ≡ ls) (r : Result Choice Fault) where
   pub decided-call : m ≡ kind.CALL → Decides r s t n (called_at s t p ks) → Decides r s t n (decided_at s t own p m ls)
   unfolding decided_at
   decided-call e D = rw (eq-eqb m kind.CALL e) (subst (λ (l : List ℕ). Decides r s t n (called_at s t p l)) same D)

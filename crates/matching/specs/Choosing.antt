@@ -1,5 +1,5 @@
 -- CALL and DISPATCH before they open a call.
-use Rattle.std.specs.Prelude.{List, ◌≡◌, Bool, true, false, cond, ℕ, ◌+◌, ◌*◌, ◌/◌, ◌%◌, ◌<◌, ◌≤◌, ℤ, length, take, eqb}
+use Rattle.std.specs.Prelude.{List, ◌≡◌, Bool, true, false, cond, ℕ, ◌+◌, ◌*◌, ◌/◌, ◌%◌, ◌<◌, ◌≤◌, ℤ, length, take, eqb, Result, Ok, Err}
 use Rattle.layout.specs.Kinds as kind
 use Rattle.layout.specs.Records.{◌!◌, every}
 use Rattle.program.specs.Program.{Version, find_version, parameter_types}
@@ -13,6 +13,7 @@ use Rattle.listing.specs.Entering.{AllFull, Marks, entered}
 use Rattle.loaded.specs.Loaded.{NUMBERS, few, instr_in, place_in, program_in, record_at, version_in}
 use Rattle.matching.specs.Arguments.{Masks, picked_at}
 use Rattle.matching.specs.Codes.{kinds_in}
+use Rattle.integers.specs.declared.Fault.{Fault}
 use Rattle.matching.specs.declared.Choice.{Choice}
 use Rattle.matching.specs.declared.Site.{Site}
 
@@ -29,11 +30,15 @@ called_at s t p ks = do
 unfoldable pub decided_at : List ℕ → List ℕ → ℕ → ℕ → ℕ → List ℕ → Try Version
 decided_at s t own p m ks = cond (eqb m kind.CALL) (called_at s t p ks) (picked_at s t own p ks)
 
+-- the version under the number j, and of its arguments the owned ones by the mask m
+abbrev pub choice : ℕ → ℕ → Choice
+choice j m = record { version = j; owned = m }
+
 -- a choice says what that is, and of n arguments which go to owned parameters
-unfoldable pub Decides : Choice → List ℕ → List ℕ → ℕ → Try Version → Type 0
-Decides (Choice.Version j m) s t n x = (x ≡ got (version_in s t j)) × (j < NUMBERS) × Masks m (parameter_types (version_in s t j)) n
-Decides Choice.Undef s t n x = x ≡ stop End.Undef
-Decides Choice.Stuck s t n x = x ≡ stuck
+unfoldable pub Decides : Result Choice Fault → List ℕ → List ℕ → ℕ → Try Version → Type 0
+Decides (Ok r) s t n x = (x ≡ got (version_in s t r.version)) × (r.version < NUMBERS) × Masks r.owned (parameter_types (version_in s t r.version)) n
+Decides (Err Fault.Undef) s t n x = x ≡ stop End.Undef
+Decides (Err Fault.Stuck) s t n x = x ≡ stuck
 
 -- ---- what is known from before
 
@@ -52,7 +57,7 @@ registers_at s m p = cond (eqb m kind.CALL) (every s (p + 6) 1 (count_at s m p))
 -- the row (p, key, x, y) is right: where key is 256 m + own, the kind m at the place p in the version own calls, by the code x, the version y / 256 with the mask y % 256
 abbrev pub RowRight : List ℕ → List ℕ → ℕ → ℕ → ℕ → ℕ → Type 0
 RowRight s t p key x y = (m own : ℕ) → Calling m → own < NUMBERS → key ≡ 256 * m + own
-    → Decides (Choice.Version (y / 256) (y % 256)) s t (count_at s m p) (decided_at s t own p m (kinds_in x (count_at s m p)))
+    → Decides (Ok (choice (y / 256) (y % 256))) s t (count_at s m p) (decided_at s t own p m (kinds_in x (count_at s m p)))
 
 -- each of the 64 rows of the cache is right, or empty
 pub record Cached (s t c : List ℕ) : Type 0 where
@@ -70,7 +75,7 @@ pub record Sited (s : List ℕ) (x : Site) (rs : List ℕ) : Type 0 where
   pub lists : take x.n rs ≡ registers_at s x.kind x.place
 
 -- a choice says what is called there, by the code of the kinds of the arguments
-abbrev pub DecidesBy : Choice → List ℕ → List ℕ → Site → ℕ → Type 0
+abbrev pub DecidesBy : Result Choice Fault → List ℕ → List ℕ → Site → ℕ → Type 0
 DecidesBy r s t x code = Decides r s t x.n (decided_at s t x.own x.place x.kind (kinds_in code x.n))
 
 -- what executing the instruction of the record i there comes to
@@ -87,13 +92,13 @@ pub record Entering (j m : ℕ) (s t b : List ℕ) (n : List ℤ) (x : Site) (i 
   pub full : AllFull b n x.frame rs
 
 -- by the choice: a version is entered; UNDEF; stuck
-unfoldable pub Comes : Choice → List ℕ → List ℕ → List ℕ → List ℤ → Site → ℕ → List ℕ → Type 0
-Comes (Choice.Version j m) s t b n x i rs = Entering j m s t b n x i rs
-Comes Choice.Undef s t b n x i rs = executed_at s t b n x i ≡ stop End.Undef
-Comes Choice.Stuck s t b n x i rs = executed_at s t b n x i ≡ stuck
+unfoldable pub Comes : Result Choice Fault → List ℕ → List ℕ → List ℕ → List ℤ → Site → ℕ → List ℕ → Type 0
+Comes (Ok r) s t b n x i rs = Entering r.version r.owned s t b n x i rs
+Comes (Err Fault.Undef) s t b n x i rs = executed_at s t b n x i ≡ stop End.Undef
+Comes (Err Fault.Stuck) s t b n x i rs = executed_at s t b n x i ≡ stuck
 
 -- so for each record of the site's kind and place, whatever the state's numbers: it tells something where there is one, and the loop always has one
-abbrev pub Chooses : Choice → List ℕ → List ℕ → List ℕ → Site → List ℕ → Type 0
+abbrev pub Chooses : Result Choice Fault → List ℕ → List ℕ → List ℕ → Site → List ℕ → Type 0
 Chooses r s t b x rs = (n : List ℤ) (i : ℕ) → t ! record_at i ≡ x.kind → place_in t i ≡ x.place → Comes r s t b n x i (take x.n rs)
 
 -- ---- a row of the cache

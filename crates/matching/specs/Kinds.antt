@@ -1,5 +1,5 @@
 -- Kinds under a loaded program: s is the image, t its table, b the bytes of the state; nothing here depends on the state's numbers n.
-use Rattle.std.specs.Prelude.{List, ◌≡◌, cond, ℕ, ◌<◌, ℤ, eqb}
+use Rattle.std.specs.Prelude.{List, ◌≡◌, cond, ℕ, ◌<◌, ℤ, eqb, Option, Bool}
 use Rattle.program.specs.Program.{Program}
 use Rattle.machine.specs.States.{kind_in, value}
 use Rattle.machine.specs.Try.{Try, got, stuck, ◌>>=◌}
@@ -8,7 +8,6 @@ use Rattle.machine.specs.declared.State.{State}
 use Rattle.machine.specs.declared.Value.{Value}
 use Rattle.store.specs.Store.{frame_in, state_in, value_of}
 use Rattle.acts.specs.Typed.{typed_in, typed_of}
-use Rattle.acts.specs.declared.Typed.{Typed}
 use Rattle.ending.specs.Ends.{returns_in}
 use Rattle.loaded.specs.Loaded.{program_in, version_in}
 
@@ -39,9 +38,9 @@ abbrev pub KindedRegister : ℕ → List ℕ → List ℕ → List ℕ → ℕ �
 KindedRegister m s t b k r = (n : List ℤ) → kind_try m ≡ register_kind (program_in s t) (state_in b n) (frame_in b n k) r
 
 -- x tells whether the register a of the frame k fits the register d of the version under the number w
-abbrev pub TypedBy : Typed → List ℕ → List ℕ → List ℕ → ℕ → ℕ → ℕ → ℕ → Type 0
+abbrev pub TypedBy : Option Bool → List ℕ → List ℕ → List ℕ → ℕ → ℕ → ℕ → ℕ → Type 0
 TypedBy x s t b k w d a = (n : List ℤ) → typed_in (program_in s t) (version_in s t w) (state_in b n) (frame_in b n k) d a ≡ typed_of x
 
 -- x tells whether the register r of the frame k fits what the version under the number w returns
-abbrev pub Returned : Typed → List ℕ → List ℕ → List ℕ → ℕ → ℕ → ℕ → Type 0
+abbrev pub Returned : Option Bool → List ℕ → List ℕ → List ℕ → ℕ → ℕ → ℕ → Type 0
 Returned x s t b k w r = (n : List ℤ) → returns_in (program_in s t) (version_in s t w) (state_in b n) (frame_in b n k) r ≡ typed_of x

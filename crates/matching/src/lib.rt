@@ -12,10 +12,9 @@ ghost use Rattle.loaded.specs.Loaded.{program_in, version_in};
 ghost use Rattle.matching.specs.Kinds.{Kinded, KindedCell, KindedRegister, OfValue, Returned, TypedBy};
 ghost use Rattle.matching.specs.Codes.{Coded, KINDLESS, kinds_in};
 ghost use Rattle.matching.specs.Arguments.{Matches, Passes, bit_of, picked_at, searched_at};
-ghost use Rattle.matching.specs.declared.Choice.{Choice};
-ghost use Rattle.matching.specs.Choosing.{Cached, Chooses, Decides, DecidesBy, Holds, Keeps, Sited, called_at};
+ghost use Rattle.matching.specs.Choosing.{choice, Cached, Chooses, Decides, DecidesBy, Holds, Keeps, Sited, called_at};
 
-use acts::Typed;
+use integers::Fault;
 use layout::kinds;
 use loaded::{dispatch, lookup};
 use typing::types;
@@ -26,13 +25,12 @@ const KINDLESS: u32 = 65536;
 /// The rows of a cache of choices.
 const ROWS: usize = 64;
 
-/// What a CALL or DISPATCH comes to before it opens a call: the number of the version that it calls and a bit for each argument that goes
-/// to an owned parameter; UNDEF where none fits; or stuck.
+/// What a CALL or DISPATCH calls: the number of the version, and a bit in `owned` for each argument that goes to an owned parameter.
+/// Where it calls none, UNDEF says that none fits.
 #[derive(Clone, Copy)]
-pub enum Choice {
-    Version(u8, u8),
-    Undef,
-    Stuck,
+pub struct Choice {
+    pub version: u8,
+    pub owned: u8,
 }
 
 /// Where a CALL or DISPATCH stands: its frame, the number of its version, its place, its kind, how many registers it lists.
@@ -116,45 +114,44 @@ pub fn typed(
     own: u8,
     d: u8,
     a: u8,
-) -> Typed
+) -> Option<bool>
     requires { k < 32 }
     ensures { TypedBy result image.now table.now bytes.now k own d a }
 {
     let m = register_kind(image, table, bytes, k, a);
     if m == 0 {
-        return Typed::Stuck;
+        return None;
     }
     if lookup::registers(image, table, own) <= d {
-        return Typed::Stuck;
+        return None;
     }
-    if types::is_within(
+    Some(types::is_within(
         m as usize,
         (lookup::type_of(image, table, own, d) % 16) as usize,
-    ) {
-        Typed::Fits
-    } else {
-        Typed::Clashes
-    }
+    ))
 }
 
 /// Is what the register `r` of the frame `k` holds of the kind that the version `own` returns? For the ends of calls.
 /// Requires a frame below 32: the loop has asked it of the frame that is worked on, and a test would cost each end of a call.
-pub fn returned(image: &[u8], table: &[u8], bytes: &[u8; 2632], k: usize, own: u8, r: u8) -> Typed
+pub fn returned(
+    image: &[u8],
+    table: &[u8],
+    bytes: &[u8; 2632],
+    k: usize,
+    own: u8,
+    r: u8,
+) -> Option<bool>
     requires { k < 32 }
     ensures { Returned result image.now table.now bytes.now k own r }
 {
     let m = register_kind(image, table, bytes, k, r);
     if m == 0 {
-        return Typed::Stuck;
+        return None;
     }
-    if types::is_within(
+    Some(types::is_within(
         m as usize,
         (lookup::returns(image, table, own) % 16) as usize,
-    ) {
-        Typed::Fits
-    } else {
-        Typed::Clashes
-    }
+    ))
 }
 
 // ---- arguments
@@ -268,7 +265,14 @@ fn passes(
 }
 
 /// What the DISPATCH at the place `p`, in the version `own`, calls with arguments of these kinds: the lowest version that it passes.
-fn pick(image: &[u8], table: &[u8], own: u8, p: u16, kinds: &[u8; 8], n: usize) -> Choice
+fn pick(
+    image: &[u8],
+    table: &[u8],
+    own: u8,
+    p: u16,
+    kinds: &[u8; 8],
+    n: usize,
+) -> Result<Choice, Fault>
     requires { (n ≤ 8) × (n ≤ length kinds.now) }
     ensures { Decides result image.now table.now n (picked_at image.now table.now own p (take n kinds.now)) }
 {
@@ -278,14 +282,17 @@ fn pick(image: &[u8], table: &[u8], own: u8, p: u16, kinds: &[u8; 8], n: usize) 
             continue;
         };
         if let Some(owned) = passes(image, table, own, p, j, kinds, n) {
-            return Choice::Version(j, owned);
+            return Ok(Choice {
+                version: j,
+                owned: owned,
+            });
         }
     }
-    Choice::Undef
+    Err(Fault::Undef)
 }
 
 /// What the CALL at the place `p` calls with arguments of these kinds: the version that it names, where they match.
-fn called(image: &[u8], table: &[u8], p: u16, kinds: &[u8; 8], n: usize) -> Choice
+fn called(image: &[u8], table: &[u8], p: u16, kinds: &[u8; 8], n: usize) -> Result<Choice, Fault>
     requires { (n ≤ 8) × (n ≤ length kinds.now) }
     ensures { Decides result image.now table.now n (called_at image.now table.now p (take n kinds.now)) }
 {
@@ -293,16 +300,19 @@ fn called(image: &[u8], table: &[u8], p: u16, kinds: &[u8; 8], n: usize) -> Choi
     let f = loaded::byte(image, at + 3);
     let w = loaded::byte(image, at + 4);
     let Some(j) = lookup::version(table, f, w) else {
-        return Choice::Stuck;
+        return Err(Fault::Stuck);
     };
-    match matches(image, table, j, kinds, n) {
-        Some(owned) => Choice::Version(j, owned),
-        None => Choice::Stuck,
-    }
+    let Some(owned) = matches(image, table, j, kinds, n) else {
+        return Err(Fault::Stuck);
+    };
+    Ok(Choice {
+        version: j,
+        owned: owned,
+    })
 }
 
 /// What the CALL or DISPATCH calls, by the code of the kinds of its arguments.
-fn decided(image: &[u8], table: &[u8], site: Site, code: u16) -> Choice
+fn decided(image: &[u8], table: &[u8], site: Site, code: u16) -> Result<Choice, Fault>
     requires { site.n ≤ 8 }
     ensures { DecidesBy result image.now table.now site code }
 {
@@ -334,9 +344,12 @@ fn holds(cache: &[u16; 256], i: usize, place: u16, key: u16, code: u16) -> bool
 
 /// The choice that the last number of a row says.
 fn kept(to: u16) -> Choice
-    ensures { result ≡ Choice.Version (to / 256) (to % 256) }
+    ensures { result ≡ choice (to / 256) (to % 256) }
 {
-    Choice::Version((to / 256) as u8, (to % 256) as u8)
+    Choice {
+        version: (to / 256) as u8,
+        owned: (to % 256) as u8,
+    }
 }
 
 /// Keeps the choice in the row whose four numbers begin at `i` of the cache.
@@ -360,37 +373,32 @@ pub fn choose(
     cache: &mut [u16; 256],
     site: Site,
     rs: &[u8; 8],
-) -> Choice
+) -> Result<Choice, Fault>
     requires { Sited image.now site rs.now × Cached image.now table.now cache.old }
     ensures { Chooses result image.now table.now bytes.now site rs.now × Cached image.now table.now
         cache.new }
 {
     let kinds = code_of(image, table, bytes, site.frame, rs, site.n);
     if KINDLESS <= kinds {
-        return Choice::Stuck;
+        return Err(Fault::Stuck);
     }
     let code = kinds as u16;
     let place = site.place;
     let key = 256 * (site.kind as u16) + (site.own as u16);
     let i = 4 * ((place as usize / 8 + (code as usize)) % ROWS);
     if holds(cache, i, place, key, code) {
-        return kept(cache[i + 3]);
+        return Ok(kept(cache[i + 3]));
     }
-    match decided(image, table, site, code) {
-        Choice::Version(j, owned) => {
-            keep(
-                cache,
-                i,
-                place,
-                key,
-                code,
-                256 * (j as u16) + (owned as u16),
-            );
-            Choice::Version(j, owned)
-        }
-        Choice::Undef => Choice::Undef,
-        Choice::Stuck => Choice::Stuck,
-    }
+    let chosen = decided(image, table, site, code)?;
+    keep(
+        cache,
+        i,
+        place,
+        key,
+        code,
+        256 * (chosen.version as u16) + (chosen.owned as u16),
+    );
+    Ok(chosen)
 }
 
 // ---- 02, request 4

@@ -1,5 +1,5 @@
 -- What a state looks at, by where its run stands.
-use Rattle.std.specs.Prelude.{None, Some}
+use Rattle.std.specs.Prelude.{None, Some, Option as Optional}
 use Rattle.loaded.specs.Answers.{BlockAt}
 use mathlib.Core.Path.{◌≡◌, refl, sym, ap, ◌∙◌, subst}
 use Rattle.loaded.specs.Answers.{Number}
@@ -96,20 +96,20 @@ module _ (s t b : List ℕ) (k : ℕ) (a : Activation) (r : Number) (found : (u 
     unfolding here_by search_from ◌>>=◌ or_stuck at block_of frame_in
     in-no-block q n = rw (version-some s t (found s) e, ← block, q) refl
 
-    module _ {i : ℕ} (q : o ≡ Some i) (y : Next) (next : (u : List ℕ) → next_of u t y ≡ position (take INSTRUCTIONS (block_in u t i).code) a.next) where
+    module _ {i : ℕ} (q : o ≡ Some i) (y : Optional Next) (next : (u : List ℕ) → next_of u t y ≡ position (take INSTRUCTIONS (block_in u t i).code) a.next) where
       by-position : (n : List ℤ) → search_from (program_in s t) (state_in b n) (here_by (program_in s t) a (frame_in b n k)) ≡ search_at (program_in s t) (state_in b n) (frame_in b n k) (version_in s t own).level (next_of s t y)
       unfolding here_by search_from ◌>>=◌ or_stuck at block_of frame_in position_of
       by-position n = rw (version-some s t (found s) e, ← block, q, next s) refl
 
-      pub in_end : y ≡ Next.End → LooksIn Search.Elsewhere s t b k a
+      pub in_end : y ≡ Some Next.End → LooksIn Search.Elsewhere s t b k a
       unfolding search_at next_of
       in_end z n = rw (by-position n, z) refl
 
-      pub in-outside : y ≡ Next.Outside → LooksIn Search.Elsewhere s t b k a
+      pub in-outside : y ≡ None → LooksIn Search.Elsewhere s t b k a
       unfolding search_at next_of
       in-outside z n = rw (by-position n, z) refl
 
-      pub in-line : {j : ℕ} → y ≡ Next.Line j → (x : Search) → LooksAt x s t b k own j → LooksIn x s t b k a
+      pub in-line : {j : ℕ} → y ≡ Some (Next.Line j) → (x : Search) → LooksAt x s t b k own j → LooksIn x s t b k a
       unfolding search_at next_of
       in-line z x L n = rw (by-position n, z) (L n)
 

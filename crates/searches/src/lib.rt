@@ -70,10 +70,12 @@ fn looks_in(image: &[u8], table: &[u8], bytes: &[u8; 2632], k: usize, a: Activat
     let Some(e) = lookup::block(image, table, own, a.block) else {
         return Search::Elsewhere;
     };
-    match lookup::next(table, e, a.next) {
+    let Some(next) = lookup::next(table, e, a.next) else {
+        return Search::Elsewhere;
+    };
+    match next {
         Next::Line(i) => looks_at(image, table, bytes, k, own, i),
         Next::End => Search::Elsewhere,
-        Next::Outside => Search::Elsewhere,
     }
 }
 

@@ -1,4 +1,5 @@
 -- Instructions that look at the image, as turns.
+use Rattle.std.specs.Prelude.{Option as Optional, Ok, Err, Result}
 use mathlib.Core.Path.{◌≡◌, refl, sym, ap, ◌∙◌, subst}
 use mathlib.Core.List.{List}
 use mathlib.Core.Bool.{Bool, true, false, cond, false≢true}
@@ -41,7 +42,6 @@ use Rattle.store.specs.Acts.{Executes, ExecutesWith}
 use Rattle.store.specs.Counts.{Ready}
 use Rattle.store.specs.declared.Did.{Did}
 use Rattle.acts.specs.Typed.{ExecutesIf, ExecutesTyped, typed_in, typed_of}
-use Rattle.acts.specs.declared.Typed.{Typed}
 use Rattle.loaded.specs.Loaded.{few, program_in, version_in}
 use Rattle.turning.specs.Turning.{Looks, own_in}
 use Rattle.layout.specs.Records.{◌!◌}
@@ -62,7 +62,8 @@ use Rattle.store.specs.Answers.{end_of}
 use Rattle.store.specs.declared.Halt.{Halt}
 use Rattle.listing.specs.Entering.{AllFull, Enters, entered}
 use Rattle.loaded.specs.Loaded.{instr_in, place_in, record_at}
-use Rattle.matching.specs.Choosing.{Calling, Chooses, Comes, Entering, count_at, executed_at, registers_at}
+use Rattle.matching.specs.Choosing.{choice, Calling, Chooses, Comes, Entering, count_at, executed_at, registers_at}
+use Rattle.integers.specs.declared.Fault.{Fault}
 use Rattle.matching.specs.declared.Choice.{Choice}
 use Rattle.matching.specs.declared.Site.{Site}
 use Rattle.turning.specs.Plain.{is_plain}
@@ -84,7 +85,7 @@ pub lit-as : (b : List ℕ) (n : List ℤ) (b' : List ℕ) (n' : List ℤ) (c' :
 lit-as b n b' n' c' k r p q E = rw (sym p, sym q) E
 
 -- MOVE and CAST, told whether the types fit
-pub typed_look : (s t b : List ℕ) (n : List ℤ) (b' : List ℕ) (n' : List ℤ) (c' : List ℕ) (k : ℕ) (r : Did) (x : Typed) (d a : ℕ) (i : Instr) {v : ℕ} → v ≡ own_in b k → TypedBy x s t b k v d a
+pub typed_look : (s t b : List ℕ) (n : List ℤ) (b' : List ℕ) (n' : List ℤ) (c' : List ℕ) (k : ℕ) (r : Did) (x : Optional Bool) (d a : ℕ) (i : Instr) {v : ℕ} → v ≡ own_in b k → TypedBy x s t b k v d a
     → ExecutesTyped x r b n b' n' c' k d a i → Looks r s t b n b' n' c' k i
 typed_look s t b n b' n' c' k r x d a i h T E = (
   E.0 (program_in s t) (version_in s t (own_in b k))
@@ -154,18 +155,18 @@ module _ (s t b : List ℕ) (n : List ℤ) (p : Spot) (H : Here s t b n p) (c : 
   at-site : executed_at s t b₁ n x p.next ≡ now-done
   at-site = rw (own_is, at-frame, st, own_same) refl
 
-  module _ (r : Choice) (C : Comes r s t b₁ n x p.next rs) where
-    pub call-stuck : r ≡ Choice.Stuck → b' ≡ b₁ → n' ≡ n → Went Turn.Stuck s t b n b' n' c' p
+  module _ (r : Result Choice Fault) (C : Comes r s t b₁ n x p.next rs) where
+    pub call-stuck : r ≡ Err Fault.Stuck → b' ≡ b₁ → n' ≡ n → Went Turn.Stuck s t b n b' n' c' p
     unfolding Comes Went
     call-stuck e f g = let D : executed_at s t b₁ n x p.next ≡ stuck = subst (λ y. Comes y s t b₁ n x p.next rs) e C in
         (past-line s t b n p H c R l (calls-own s t p.next calling) ∙ sym at-site ∙ D, record { next = next_of (onward p 1); bytes = f ∙ st; numbers = g })
 
-    pub call-undef : r ≡ Choice.Undef → b' ≡ b₁ → n' ≡ n → Went (Turn.Stop Halt.Undef) s t b n b' n' c' p
+    pub call-undef : r ≡ Err Fault.Undef → b' ≡ b₁ → n' ≡ n → Went (Turn.Stop Halt.Undef) s t b n b' n' c' p
     unfolding Comes Went end_of
     call-undef e f g = let D : executed_at s t b₁ n x p.next ≡ stop End.Undef = subst (λ y. Comes y s t b₁ n x p.next rs) e C in
         (past-line s t b n p H c R l (calls-own s t p.next calling) ∙ sym at-site ∙ D, record { next = next_of (onward p 1); bytes = f ∙ st; numbers = g })
 
-    module _ (j m : ℕ) (e : r ≡ Choice.Version j m) where
+    module _ (j m : ℕ) (e : r ≡ Ok (choice j m)) where
       pub entering : Entering j m s t b₁ n x p.next rs
       unfolding Comes
       entering = subst (λ y. Comes y s t b₁ n x p.next rs) e C
@@ -184,22 +185,22 @@ module _ (s t b : List ℕ) (n : List ℤ) (p : Spot) (H : Here s t b n p) (c : 
               (E.0 (version_in s t j) entering.function entering.version entering.marks)
 
 -- as the code has it in hand
-pub chosen-full : (r : Choice) (b : List ℕ) (n : List ℤ) (k : ℕ) (rs : List ℕ) (j m : ℕ) → Chosen r b n k rs → r ≡ Choice.Version j m → AllFull b n k rs
+pub chosen-full : (r : Result Choice Fault) (b : List ℕ) (n : List ℤ) (k : ℕ) (rs : List ℕ) (j m : ℕ) → Chosen r b n k rs → r ≡ Ok (choice j m) → AllFull b n k rs
 unfolding Chosen
 chosen-full r b n k rs j m C e = subst (λ x. Chosen x b n k rs) e C
 
-pub opens-version : (r : Choice) (x : Turn) (b : List ℕ) (n : List ℤ) (b' : List ℕ) (n' : List ℤ) (c' : List ℕ) (k d : ℕ) (rs : List ℕ) (j m : ℕ) (y : Did) → r ≡ Choice.Version j m
+pub opens-version : (r : Result Choice Fault) (x : Turn) (b : List ℕ) (n : List ℤ) (b' : List ℕ) (n' : List ℤ) (c' : List ℕ) (k d : ℕ) (rs : List ℕ) (j m : ℕ) (y : Did) → r ≡ Ok (choice j m)
     → x ≡ opened_of y → Enters y b n b' n' c' k (record { d = d; function = j / 4; version = j % 4 }) m rs → Opens x r b n b' n' c' k d rs
 unfolding Opens
 opens-version r x b n b' n' c' k d rs j m y e q E = subst (λ z. Opens x z b n b' n' c' k d rs) (sym e) (record { did = y; turn = q; enters = E })
 
-pub opens-undef : (r : Choice) (b : List ℕ) (n : List ℤ) (c' : List ℕ) (k d : ℕ) (rs : List ℕ) → r ≡ Choice.Undef → Opens (Turn.Stop Halt.Undef) r b n b n c' k d rs
+pub opens-undef : (r : Result Choice Fault) (b : List ℕ) (n : List ℤ) (c' : List ℕ) (k d : ℕ) (rs : List ℕ) (x : Fault) → r ≡ Err x → x ≡ Fault.Undef → Opens (Turn.Stop Halt.Undef) r b n b n c' k d rs
 unfolding Opens
-opens-undef r b n c' k d rs e = subst (λ z. Opens (Turn.Stop Halt.Undef) z b n b n c' k d rs) (sym e) (refl, refl, refl)
+opens-undef r b n c' k d rs x e f = subst (λ z. Opens (Turn.Stop Halt.Undef) z b n b n c' k d rs) (sym (e ∙ ap Err f)) (refl, refl, refl)
 
-pub opens-stuck : (r : Choice) (b : List ℕ) (n : List ℤ) (c' : List ℕ) (k d : ℕ) (rs : List ℕ) → r ≡ Choice.Stuck → Opens Turn.Stuck r b n b n c' k d rs
+pub opens-stuck : (r : Result Choice Fault) (b : List ℕ) (n : List ℤ) (c' : List ℕ) (k d : ℕ) (rs : List ℕ) (x : Fault) → r ≡ Err x → x ≡ Fault.Stuck → Opens Turn.Stuck r b n b n c' k d rs
 unfolding Opens
-opens-stuck r b n c' k d rs e = subst (λ z. Opens Turn.Stuck z b n b n c' k d rs) (sym e) (refl, refl, refl)
+opens-stuck r b n c' k d rs x e f = subst (λ z. Opens Turn.Stuck z b n b n c' k d rs) (sym (e ∙ ap Err f)) (refl, refl, refl)
 
 -- the registers that are listed
 module _ (s : List ℕ) (q e : ℕ) (rs : List ℕ) {n x : ℕ} (f : n ≡ few x) (low : n ≤ 8) (long : length rs ≡ 8) where
@@ -235,7 +236,7 @@ module _ (s t b : List ℕ) (n : List ℤ) (p : Spot) (S : Stands s t b n p) (c 
   own-low = let z = own-stored in let f = S.few in omega (arith, z, f)
 
   module _ (x : Site) (own_is : x.own ≡ own_in b₁ p.frame) (at-frame : x.frame ≡ p.frame) (kind-is : t ! record_at p.next ≡ x.kind) (place_is : place_in t p.next ≡ x.place)
-      (rs room : List ℕ) (part : rs ≡ take x.n room) (r : Choice) (C : Chooses r s t b₁ x room) where
+      (rs room : List ℕ) (part : rs ≡ take x.n room) (r : Result Choice Fault) (C : Chooses r s t b₁ x room) where
     comes : Comes r s t b₁ n x p.next rs
     comes = subst (Comes r s t b₁ n x p.next) (sym part) (C n p.next kind-is place_is)
 
@@ -243,10 +244,10 @@ module _ (s t b : List ℕ) (n : List ℤ) (p : Spot) (S : Stands s t b n p) (c 
     unfolding Comes Chosen
     to-enter = go r comes
       where
-        go : (y : Choice) → Comes y s t b₁ n x p.next rs → Chosen y b₁ n p.frame rs
-        go (Choice.Version j m) E = subst (λ k. AllFull b₁ n k rs) at-frame E.full
-        go Choice.Undef E = omega arith
-        go Choice.Stuck E = omega arith
+        go : (y : Result Choice Fault) → Comes y s t b₁ n x p.next rs → Chosen y b₁ n p.frame rs
+        go (Ok v) E = subst (λ k. AllFull b₁ n k rs) at-frame E.full
+        go (Err Fault.Undef) E = omega arith
+        go (Err Fault.Stuck) E = omega arith
 
     module _ (calling : Calling (t ! record_at p.next)) (y : Turn) (d : ℕ) (d-is : d ≡ s ! (x.place + 2)) (b' : List ℕ) (n' : List ℤ) (c' : List ℕ)
         (O : Opens y r b₁ n b' n' c' p.frame d rs) where
@@ -254,19 +255,19 @@ module _ (s t b : List ℕ) (n : List ℤ) (p : Spot) (S : Stands s t b n p) (c 
       unfolding Opens
       call-answers = go r refl O
         where
-          go : (z : Choice) → r ≡ z → Opens y z b₁ n b' n' c' p.frame d rs → Answers y s t b n b' n' c' p
-          go (Choice.Version j m) e E = (
+          go : (z : Result Choice Fault) → r ≡ z → Opens y z b₁ n b' n' c' p.frame d rs → Answers y s t b n b' n' c' p
+          go (Ok v) e E = (
             subst (λ w. Went w s t b n b' n' c' p) (sym E.turn)
-                (call-went s t b n p S.here c R S.line b₁ st x own_is at-frame rs b' n' c' calling r comes j m e E.did d d-is E.enters),
+                (call-went s t b n p S.here c R S.line b₁ st x own_is at-frame rs b' n' c' calling r comes v.version v.owned e E.did d d-is E.enters),
             λ q. moved-rest E.did
                 (sym E.turn ∙ q),
           )
-          go Choice.Undef e E = (
+          go (Err Fault.Undef) e E = (
             subst (λ w. Went w s t b n b' n' c' p) (sym E.0)
                 (call-undef s t b n p S.here c R S.line b₁ st x own_is at-frame rs b' n' c' calling r comes e E.1 E.2),
             λ q. stop-rest Halt.Undef (sym E.0 ∙ q),
           )
-          go Choice.Stuck e E = (
+          go (Err Fault.Stuck) e E = (
             subst (λ w. Went w s t b n b' n' c' p) (sym E.0)
                 (call-stuck s t b n p S.here c R S.line b₁ st x own_is at-frame rs b' n' c' calling r comes e E.1 E.2),
             λ q. stuck-rest (sym E.0 ∙ q),
@@ -307,7 +308,7 @@ module _ (s t b : List ℕ) (n : List ℤ) (p : Spot) (H : Here s t b n p) (c : 
     rw (function-with s t b n p H c R (next_of p), version-with s t b n p H c R (next_of p)) (sym H.number),
   )
 
-  module _ (x : Typed) {v r : ℕ} (own_is : v ≡ own_in b₁ p.frame) (r-is : r ≡ (block_in s t p.block).result) (T : Returned x s t b₁ p.frame v r) (y : Ended) (b' : List ℕ)
+  module _ (x : Optional Bool) {v r : ℕ} (own_is : v ≡ own_in b₁ p.frame) (r-is : r ≡ (block_in s t p.block).result) (T : Returned x s t b₁ p.frame v r) (y : Ended) (b' : List ℕ)
       (n' : List ℤ) (c' : List ℕ) (B : BlockEnds x y b₁ n b' n' c' p.frame r) where
     came : ends.Comes y (advance_with p.most (program_in s t) (state_at b n p)) b₁ n b' n'
     came = subst (λ z. ends.Comes y z b₁ n b' n') (sym (here_end s t b n p H c R e ∙ rw (sym stored_here, sym r-is) refl))

@@ -1,5 +1,5 @@
 -- What a turn of the loop has done.
-use Rattle.std.specs.Prelude.{List, ◌≡◌, ℕ, ◌+◌, ◌*◌, ◌/◌, ◌%◌, ◌≤◌, ◌<◌, ℤ, length, set}
+use Rattle.std.specs.Prelude.{List, ◌≡◌, ℕ, ◌+◌, ◌*◌, ◌/◌, ◌%◌, ◌≤◌, ◌<◌, ℤ, length, set, Ok, Err, Result}
 use Rattle.layout.specs.Kinds as kind
 use Rattle.layout.specs.Records.{◌!◌}
 use Rattle.machine.specs.Runs.{last_step}
@@ -15,6 +15,7 @@ use Rattle.store.specs.Store.{DEPTH, frame_in, state_in, Live, Sized}
 use Rattle.store.specs.declared.Did.{Did}
 use Rattle.store.specs.declared.Halt.{Halt}
 use Rattle.listing.specs.Entering.{AllFull, Enters}
+use Rattle.integers.specs.declared.Fault.{Fault}
 use Rattle.matching.specs.declared.Choice.{Choice}
 use Rattle.loaded.specs.Loaded.{NUMBERS, instr_in, program_in, record_at, version_in}
 use Rattle.program.specs.Program.{Instr}
@@ -121,10 +122,10 @@ pub record Turned (r : Turn) (s t b : List ℕ) (n : List ℤ) (b' : List ℕ) (
 -- ---- calls
 
 -- the registers hold values, where a version was chosen
-unfoldable pub Chosen : Choice → List ℕ → List ℤ → ℕ → List ℕ → Type 0
-Chosen (Choice.Version j m) b n k rs = AllFull b n k rs
-Chosen Choice.Undef b n k rs = 0 < 1  -- always true
-Chosen Choice.Stuck b n k rs = 0 < 1  -- always true
+unfoldable pub Chosen : Result Choice Fault → List ℕ → List ℤ → ℕ → List ℕ → Type 0
+Chosen (Ok r) b n k rs = AllFull b n k rs
+Chosen (Err Fault.Undef) b n k rs = 0 < 1  -- always true
+Chosen (Err Fault.Stuck) b n k rs = 0 < 1  -- always true
 
 -- what was chosen is entered
 pub record Entered (r : Turn) (j m : ℕ) (b : List ℕ) (n : List ℤ) (b' : List ℕ) (n' : List ℤ) (c' : List ℕ) (k d : ℕ) (rs : List ℕ) : Type 0 where
@@ -133,10 +134,10 @@ pub record Entered (r : Turn) (j m : ℕ) (b : List ℕ) (n : List ℤ) (b' : Li
   pub enters : Enters did b n b' n' c' k (record { d = d; function = j / 4; version = j % 4 }) m rs
 
 -- by the choice: its version is entered, or the turn is UNDEF or stuck and nothing is written
-unfoldable pub Opens : Turn → Choice → List ℕ → List ℤ → List ℕ → List ℤ → List ℕ → ℕ → ℕ → List ℕ → Type 0
-Opens r (Choice.Version j m) b n b' n' c' k d rs = Entered r j m b n b' n' c' k d rs
-Opens r Choice.Undef b n b' n' c' k d rs = (r ≡ Turn.Stop Halt.Undef) × (b' ≡ b) × (n' ≡ n)
-Opens r Choice.Stuck b n b' n' c' k d rs = (r ≡ Turn.Stuck) × (b' ≡ b) × (n' ≡ n)
+unfoldable pub Opens : Turn → Result Choice Fault → List ℕ → List ℤ → List ℕ → List ℤ → List ℕ → ℕ → ℕ → List ℕ → Type 0
+Opens r (Ok x) b n b' n' c' k d rs = Entered r x.version x.owned b n b' n' c' k d rs
+Opens r (Err Fault.Undef) b n b' n' c' k d rs = (r ≡ Turn.Stop Halt.Undef) × (b' ≡ b) × (n' ≡ n)
+Opens r (Err Fault.Stuck) b n b' n' c' k d rs = (r ≡ Turn.Stuck) × (b' ≡ b) × (n' ≡ n)
 
 -- the run stands at an instruction
 pub record Stands (s t b : List ℕ) (n : List ℤ) (p : Spot) : Type 0 where

@@ -18,6 +18,7 @@ ghost use Rattle.turning.specs.Turning.{Answers, Chosen, Fit, Kept, Left, Looks,
 
 use acts::Pair;
 use ending::Ended;
+use integers::Fault;
 use listing::Callee;
 use loaded::{RECORDS, decode, lookup};
 use machine::Activation;
@@ -455,23 +456,23 @@ fn enters(
     counts: &mut [u16; 800],
     k: usize,
     d: u8,
-    choice: Choice,
+    choice: Result<Choice, Fault>,
     rs: &[u8],
 ) -> Turn
     requires { Ready bytes.old numbers.old counts.old × Live bytes.old k × Chosen choice bytes.old numbers.old k rs.now }
     ensures { Opens result choice bytes.old numbers.old bytes.new numbers.new counts.new k d rs.now }
 {
     match choice {
-        Choice::Version(j, owned) => {
+        Ok(chosen) => {
             let callee = Callee {
                 d: d,
-                function: j / 4,
-                version: j % 4,
+                function: chosen.version / 4,
+                version: chosen.version % 4,
             };
-            opened(listing::enter(bytes, numbers, counts, k, callee, owned, rs))
+            opened(listing::enter(bytes, numbers, counts, k, callee, chosen.owned, rs))
         }
-        Choice::Undef => Turn::Stop(Halt::Undef),
-        Choice::Stuck => Turn::Stuck,
+        Err(Fault::Undef) => Turn::Stop(Halt::Undef),
+        Err(Fault::Stuck) => Turn::Stuck,
     }
 }
 

@@ -1,5 +1,5 @@
 -- What a record shows of its register, by the cells, vectors and promises of the arrays.
-use Rattle.std.specs.Prelude.{None, Some}
+use Rattle.std.specs.Prelude.{None, Some, Option as Optional}
 use Rattle.loaded.specs.Answers.{BlockAt}
 use mathlib.Core.Path.{◌≡◌, refl, sym, ap, ◌∙◌}
 use Rattle.loaded.specs.Answers.{Number}
@@ -143,36 +143,36 @@ module _ (P : Program) (u : State) (t : ℕ) {v : Value} {x : Row} where
 
 -- ---- a register of the topmost call
 
-module _ (s t b : List ℕ) (n : List ℤ) {x : Top} (T : Tops x t b) (r : ℕ) where
-  pub none-shown : x ≡ Top.Nothing → empty_row 0 ≡ row_at (watch_of (program_in s t) (state_in b n)) r
+module _ (s t b : List ℕ) (n : List ℤ) {x : Optional Top} (T : Tops x t b) (r : ℕ) where
+  pub none-shown : x ≡ None → empty_row 0 ≡ row_at (watch_of (program_in s t) (state_in b n)) r
   unfolding Tops
   none-shown e = let M = rw e at T in rw (M s n) refl
 
-  module _ {k own : ℕ} (e : x ≡ Top.Call k own) where
-    rows_are : watch_of (program_in s t) (state_in b n) ≡ rows_from (program_in s t) (state_in b n) (frame_in b n k) 0 (take REGISTERS (version_in s t own).types)
+  module _ {top : Top} (e : x ≡ Some top) where
+    rows_are : watch_of (program_in s t) (state_in b n) ≡ rows_from (program_in s t) (state_in b n) (frame_in b n top.frame) 0 (take REGISTERS (version_in s t top.own).types)
     unfolding Tops
     rows_are = let M = rw e at T in M.1 s n
 
-    pub frame-inside : k < 32
+    pub frame-inside : top.frame < 32
     unfolding Tops
     frame-inside = let M = rw e at T in M.0
 
-    module _ {m y : ℕ} (g : m ≡ length (version_in s t own).types) (h : y ≡ min REGISTERS m) where
+    module _ {m y : ℕ} (g : m ≡ length (version_in s t top.own).types) (h : y ≡ min REGISTERS m) where
       abbrev types : List ℕ
-      types = (version_in s t own).types
+      types = (version_in s t top.own).types
 
       pub past-shown : y ≤ r → empty_row 0 ≡ row_at (watch_of (program_in s t) (state_in b n)) r
       past-shown l =
-          let q = rows-length (program_in s t) (state_in b n) (frame_in b n k) 0 (take REGISTERS types) in
+          let q = rows-length (program_in s t) (state_in b n) (frame_in b n top.frame) 0 (take REGISTERS types) in
           let w = length-take REGISTERS types in
-          sym (ap (λ (rows : List Row). row_at rows r) rows_are ∙ get_or-eq_default (rows_from (program_in s t) (state_in b n) (frame_in b n k) 0 (take REGISTERS types)) (empty_row 0) {n = r} (omega (arith, q, w, g, h, l)))
+          sym (ap (λ (rows : List Row). row_at rows r) rows_are ∙ get_or-eq_default (rows_from (program_in s t) (state_in b n) (frame_in b n top.frame) 0 (take REGISTERS types)) (empty_row 0) {n = r} (omega (arith, q, w, g, h, l)))
 
-      pub register-shown : r < y → {d : ℕ} {v : Value} {z : Row} → d ≡ types ! r → v ≡ cell_in b n k r → z ≡ row_of (program_in s t) (state_in b n) d v → z ≡ row_at (watch_of (program_in s t) (state_in b n)) r
+      pub register-shown : r < y → {d : ℕ} {v : Value} {z : Row} → d ≡ types ! r → v ≡ cell_in b n top.frame r → z ≡ row_of (program_in s t) (state_in b n) d v → z ≡ row_at (watch_of (program_in s t) (state_in b n)) r
       unfolding or_empty
       register-shown l a c f =
           let low : r < 16 = omega (arith, h, l) in
           let typed : get_elem? (take REGISTERS types) r ≡ some (types ! r) = get_take types REGISTERS r low ∙ get-some types r 0 (omega (arith, g, h, l)) in
-          let there = rows-at (program_in s t) (state_in b n) (frame_in b n k) 0 (take REGISTERS types) r (types ! r) typed in
-          let row = (get_in (rows_from (program_in s t) (state_in b n) (frame_in b n k) 0 (take REGISTERS types)) r (empty_row 0) _ there).1 in
-          let held : or_empty (register (frame_in b n k) (0 + r)) ≡ cell_in b n k r = ap (λ (i : ℕ). or_empty (register (frame_in b n k) i)) (zero-add r) ∙ ap or_empty (register-in b n k r low) in
+          let there = rows-at (program_in s t) (state_in b n) (frame_in b n top.frame) 0 (take REGISTERS types) r (types ! r) typed in
+          let row = (get_in (rows_from (program_in s t) (state_in b n) (frame_in b n top.frame) 0 (take REGISTERS types)) r (empty_row 0) _ there).1 in
+          let held : or_empty (register (frame_in b n top.frame) (0 + r)) ≡ cell_in b n top.frame r = ap (λ (i : ℕ). or_empty (register (frame_in b n top.frame) i)) (zero-add r) ∙ ap or_empty (register-in b n top.frame r low) in
           f ∙ (λ i. row_of (program_in s t) (state_in b n) (a i) ((c ∙ sym held) i)) ∙ sym (ap (λ (rows : List Row). row_at rows r) rows_are ∙ row)

@@ -1,5 +1,5 @@
 -- The topmost call by the bytes that tell it, and how many records it has.
-use Rattle.std.specs.Prelude.{None, Some}
+use Rattle.std.specs.Prelude.{None, Some, Option as Optional}
 use mathlib.Core.Path.{◌≡◌, refl, sym, ap, ◌∙◌}
 use Rattle.loaded.specs.Answers.{Number}
 use mathlib.Core.Bool.{Bool, true, false}
@@ -50,11 +50,11 @@ module _ (b : List ℕ) (n : List ℤ) where
 -- ---- the topmost call
 
 module _ (t b : List ℕ) {c : ℕ} (z : c ≡ b ! CALLS) where
-  pub no_call : c ≡ 0 → Tops Top.Nothing t b
+  pub no_call : c ≡ 0 → Tops None t b
   unfolding Tops watch_of rows_at
   no_call h s n = ap (rows_at (program_in s t) (state_in b n)) (no-frame b n (sym z ∙ h))
 
-  pub far_call : 32 < c → Tops Top.Nothing t b
+  pub far_call : 32 < c → Tops None t b
   unfolding Tops watch_of rows_at
   far_call h s n = ap (rows_at (program_in s t) (state_in b n)) (far-frame b n (omega (arith, z, h)))
 
@@ -66,26 +66,26 @@ module _ (t b : List ℕ) {c : ℕ} (z : c ≡ b ! CALLS) where
     unfolding watch_of rows_at frame_in
     by-version s n = ap (rows_at (program_in s t) (state_in b n)) (top_frame n) ∙ ap (rows_of (program_in s t) (state_in b n) (frame_in b n (c - 1))) (sym (v s))
 
-    pub no-version : r ≡ None → Tops Top.Nothing t b
+    pub no-version : r ≡ None → Tops None t b
     unfolding Tops rows_of version_of
     no-version e s n = by-version s n ∙ ap (λ x. rows_of (program_in s t) (state_in b n) (frame_in b n (c - 1)) (version_of s t x)) e
 
-    pub top-call : {own : ℕ} → r ≡ Some own → Tops (Top.Call (c - 1) own) t b
+    pub top-call : {own : ℕ} → r ≡ Some own → Tops (Some (record { frame = c - 1; own = own })) t b
     unfolding Tops rows_of version_of
     top-call e = (omega (arith, l, m), λ s n. by-version s n ∙ ap (λ x. rows_of (program_in s t) (state_in b n) (frame_in b n (c - 1)) (version_of s t x)) e)
 
 -- ---- how many records
 
-module _ (s t b : List ℕ) {r : Top} (T : Tops r t b) where
-  pub none-counted : r ≡ Top.Nothing → (n : List ℤ) → 0 ≡ length (watch_of (program_in s t) (state_in b n))
+module _ (s t b : List ℕ) {r : Optional Top} (T : Tops r t b) where
+  pub none-counted : r ≡ None → (n : List ℤ) → 0 ≡ length (watch_of (program_in s t) (state_in b n))
   unfolding Tops
   none-counted e n = let M = rw e at T in sym (ap (λ (l : List Row). length l) (M s n))
 
-  pub all-counted : {k own x y : ℕ} → r ≡ Top.Call k own → x ≡ length (version_in s t own).types → y ≡ min REGISTERS x → (n : List ℤ) → y ≡ length (watch_of (program_in s t) (state_in b n))
+  pub all-counted : {top : Top} {x y : ℕ} → r ≡ Some top → x ≡ length (version_in s t top.own).types → y ≡ min REGISTERS x → (n : List ℤ) → y ≡ length (watch_of (program_in s t) (state_in b n))
   unfolding Tops
-  all-counted {k} {own} e g h n =
+  all-counted {top} e g h n =
       let M = rw e at T in
-      h ∙ ap (λ (i : ℕ). min REGISTERS i) g ∙ sym (ap (λ (l : List Row). length l) (M.1 s n) ∙ rows-length (program_in s t) (state_in b n) (frame_in b n k) 0 (take REGISTERS (version_in s t own).types) ∙ length-take REGISTERS (version_in s t own).types)
+      h ∙ ap (λ (i : ℕ). min REGISTERS i) g ∙ sym (ap (λ (l : List Row). length l) (M.1 s n) ∙ rows-length (program_in s t) (state_in b n) (frame_in b n top.frame) 0 (take REGISTERS (version_in s t top.own).types) ∙ length-take REGISTERS (version_in s t top.own).types)
 
 module _ (P : Program) (u : State) (n : ℕ) {k : ℕ} (e : k ≡ length (watch_of P u)) where
   pub enough : {w : ℕ} → w ≡ k → w ≤ n → Watch.Filled k ≡ watched_of P u n

@@ -1,5 +1,5 @@
 -- 02, request 11: the records of the topmost call, as the code finds and writes them.
-use Rattle.std.specs.Prelude.{List, [], ◌≡◌, ℕ, ◌<◌, ℤ, get_or, take}
+use Rattle.std.specs.Prelude.{List, [], ◌≡◌, ℕ, ◌<◌, ℤ, get_or, take, None, Some, Option}
 use Rattle.layout.specs.Bounds.{REGISTERS}
 use Rattle.machine.specs.Watches.{empty_row, rows_from, watch_of, zeros}
 use Rattle.machine.specs.declared.Row.{Row}
@@ -21,9 +21,9 @@ unfoldable pub filled_by : Watch → ℕ
 filled_by (Watch.Filled k) = k
 filled_by (Watch.Refused q o) = 0
 
--- the topmost call by the table t and the bytes b, whatever image and numbers there are: its frame k is of the version under the number own
-unfoldable pub Tops : Top → List ℕ → List ℕ → Type 0
-Tops Top.Nothing t b = (s : List ℕ) (n : List ℤ) → watch_of (program_in s t) (state_in b n) ≡ []
-Tops (Top.Call k own) t b =
-    (k < 32)
-    × ((s : List ℕ) (n : List ℤ) → watch_of (program_in s t) (state_in b n) ≡ rows_from (program_in s t) (state_in b n) (frame_in b n k) 0 (take REGISTERS (version_in s t own).types))
+-- the topmost call by the table t and the bytes b, whatever image and numbers there are
+unfoldable pub Tops : Option Top → List ℕ → List ℕ → Type 0
+Tops None t b = (s : List ℕ) (n : List ℤ) → watch_of (program_in s t) (state_in b n) ≡ []
+Tops (Some top) t b =
+    (top.frame < 32)
+    × ((s : List ℕ) (n : List ℤ) → watch_of (program_in s t) (state_in b n) ≡ rows_from (program_in s t) (state_in b n) (frame_in b n top.frame) 0 (take REGISTERS (version_in s t top.own).types))

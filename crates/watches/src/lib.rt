@@ -47,31 +47,29 @@ const PROMISE: u8 = 3;
 /// The question to the lent list.
 const LIST: u8 = 22;
 
-/// The topmost call: its frame and the number of its version; or that there is none.
+/// The topmost call: its frame and the number of its version.
 #[derive(Clone, Copy)]
-enum Top {
-    Nothing,
-    Call(usize, u8),
+struct Top {
+    frame: usize,
+    own: u8,
 }
 
-/// The topmost call, which is the newest frame, whatever block is at work.
-fn topmost(table: &[u8], bytes: &[u8; 2632]) -> Top
+/// The topmost call, which is the newest frame, whatever block is at work; none with no live call.
+fn topmost(table: &[u8], bytes: &[u8; 2632]) -> Option<Top>
     ensures { Tops result table.now bytes.now }
 {
     let calls = layout::wide(bytes[CALLS]);
     if calls == 0 {
-        return Top::Nothing;
+        return None;
     }
     if FRAMES < calls {
-        return Top::Nothing;
+        return None;
     }
     let k = calls - 1;
     let function = bytes[32 * k + FUNCTION];
     let version = bytes[32 * k + VERSION];
-    let Some(own) = lookup::version(table, function, version) else {
-        return Top::Nothing;
-    };
-    Top::Call(k, own)
+    let own = lookup::version(table, function, version)?;
+    Some(Top { frame: k, own: own })
 }
 
 /// Of so many registers those that a frame has.
@@ -85,10 +83,10 @@ fn most(n: u8) -> u8
 pub fn count(image: &[u8], table: &[u8], bytes: &[u8; 2632]) -> u8
     ensures { ((n : List ℤ) → result ≡ length (watch_of (program_in image.now table.now) (state_in bytes.now n))) × (result ≤ 16) }
 {
-    let Top::Call(_, own) = topmost(table, bytes) else {
+    let Some(top) = topmost(table, bytes) else {
         return 0;
     };
-    let registers = lookup::registers(image, table, own);
+    let registers = lookup::registers(image, table, top.own);
     most(registers)
 }
 
@@ -214,15 +212,15 @@ pub fn row<'s>(
 ) -> Row
     ensures { result ≡ row_at (watch_of (program_in image.now table.now) (state_in bytes.now numbers.now)) r }
 {
-    let Top::Call(k, own) = topmost(table, bytes) else {
+    let Some(top) = topmost(table, bytes) else {
         return plain(0, NOTHING, 0, 0);
     };
-    let n = layout::wide(most(lookup::registers(image, table, own)));
+    let n = layout::wide(most(lookup::registers(image, table, top.own)));
     if n <= r {
         return plain(0, NOTHING, 0, 0);
     }
-    let declared = lookup::type_of(image, table, own, r as u8);
-    let value = cells::cell(bytes, numbers, k, r);
+    let declared = lookup::type_of(image, table, top.own, r as u8);
+    let value = cells::cell(bytes, numbers, top.frame, r);
     shown(image, table, bytes, numbers, declared, value)
 }
 

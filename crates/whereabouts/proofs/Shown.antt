@@ -1,5 +1,5 @@
 -- Where a state stands, by the bytes that tell it.
-use Rattle.std.specs.Prelude.{None, Some}
+use Rattle.std.specs.Prelude.{None, Some, Option as Optional}
 use Rattle.loaded.specs.Answers.{BlockAt}
 use mathlib.Core.Path.{◌≡◌, refl, sym, ap, ◌∙◌}
 use Rattle.loaded.specs.Answers.{Number}
@@ -82,11 +82,11 @@ module _ (a : Activation) (f : Frame) where
   by-version (got W) = by-block W (at W.blocks a.block)
 
 module _ (P : Program) (b : List ℕ) (n : List ℤ) {d : ℕ} (z : d ≡ b ! DEPTH) where
-  pub no-depth : d ≡ 0 → Where.Nowhere ≡ where_of P (state_in b n)
+  pub no-depth : d ≡ 0 → None ≡ where_of P (state_in b n)
   unfolding where_of where_from here live_activations at or_stuck ◌>>=◌ state_in
   no-depth h = rw (take-over (up_to (activation_in b) 0 32) (b ! DEPTH) (b ! DEPTH - 1) (omega arith)) refl
 
-  pub too-deep : 32 < d → Where.Nowhere ≡ where_of P (state_in b n)
+  pub too-deep : 32 < d → None ≡ where_of P (state_in b n)
   unfolding where_of where_from here live_activations at or_stuck ◌>>=◌ state_in
   too-deep h = rw (take_none (up_to (activation_in b) 0 32) (b ! DEPTH) (b ! DEPTH - 1) (missing-up_to (activation_in b) 32 (b ! DEPTH - 1) (omega arith))) refl
 
@@ -95,11 +95,11 @@ module _ (P : Program) (b : List ℕ) (n : List ℤ) {d : ℕ} (z : d ≡ b ! DE
     unfolding live_activations at or_stuck state_in
     on-top = rw (t, z, get_take (up_to (activation_in b) 0 32) (b ! DEPTH) (b ! DEPTH - 1) (omega arith), get_elem?-up_to (activation_in b) 32 (b ! DEPTH - 1) (omega arith)) refl
 
-    pub no-frame : 32 ≤ k → Where.Nowhere ≡ where_of P (state_in b n)
+    pub no-frame : 32 ≤ k → None ≡ where_of P (state_in b n)
     unfolding where_of where_from here ◌>>=◌ state_in
     no-frame h = rw (on-top, ap (at (live_frames (state_in b n))) (sym e) ∙ frame-outside b n k h) refl
 
-    pub not_live : {c : ℕ} → c ≡ b ! CALLS → c ≤ k → Where.Nowhere ≡ where_of P (state_in b n)
+    pub not_live : {c : ℕ} → c ≡ b ! CALLS → c ≤ k → None ≡ where_of P (state_in b n)
     unfolding where_of where_from here ◌>>=◌ state_in
     not_live y h = rw (on-top, ap (at (live_frames (state_in b n))) (sym e) ∙ frame-ended b n k (omega (arith, y, h))) refl
 
@@ -120,7 +120,7 @@ offset_at s t (suc m) k (suc c) zero y e = let z : k ≡ k + 0 = omega arith in 
 offset_at s t (suc m) k (suc c) (suc x) y e = let z : k + 1 + x ≡ k + suc x = omega arith in offset_at s t m (k + 1) c x y e ∙ ap (λ i. place_in t i - 2) z
 
 module _ (s t : List ℕ) (f w b x : ℕ) {r : Number} (h : version_of s t r ≡ find_version (program_in s t) f w) where
-  pub no-version : r ≡ None → Where.Nowhere ≡ where_by (program_in s t) f w b x
+  pub no-version : r ≡ None → None ≡ where_by (program_in s t) f w b x
   unfolding where_by block_by spot_from or_stuck ◌>>=◌ version_of
   no-version e = let q : none ≡ find_version (program_in s t) f w = ap (version_of s t) (sym e) ∙ h in rw (← q) refl
 
@@ -129,24 +129,24 @@ module _ (s t : List ℕ) (f w b x : ℕ) {r : Number} (h : version_of s t r ≡
     unfolding block_by or_stuck at ◌>>=◌ version_of
     block-is = let q : some (version_in s t k) ≡ find_version (program_in s t) f w = ap (version_of s t) (sym e) ∙ h in rw (← q, g) refl
 
-    pub no_block : B ≡ None → Where.Nowhere ≡ where_by (program_in s t) f w b x
+    pub no_block : B ≡ None → None ≡ where_by (program_in s t) f w b x
     unfolding where_by spot_from or_stuck block_of
     no_block d = rw (block-is, d) refl
 
-    module _ (i : ℕ) (d : B ≡ Some i) (y : Next) (v : next_of s t y ≡ position (take INSTRUCTIONS (block_in s t i).code) x) where
+    module _ (i : ℕ) (d : B ≡ Some i) (y : Optional Next) (v : next_of s t y ≡ position (take INSTRUCTIONS (block_in s t i).code) x) where
       spot_is : where_by (program_in s t) f w b x ≡ spot_in f w b x (block_in s t i) (next_of s t y)
       unfolding where_by spot_from or_stuck block_of
       spot_is = rw (block-is, d, v) refl
 
-      pub spot-outside : y ≡ Next.Outside → Where.Nowhere ≡ where_by (program_in s t) f w b x
+      pub spot-outside : y ≡ None → None ≡ where_by (program_in s t) f w b x
       unfolding spot_in next_of
       spot-outside q = rw (spot_is, q) refl
 
-      pub spot-end : y ≡ Next.End → {o : ℕ} → o ≡ place_in t i - 2 → Where.BlockEnd f w b x o ≡ where_by (program_in s t) f w b x
+      pub spot-end : y ≡ Some Next.End → {o : ℕ} → o ≡ place_in t i - 2 → Some (Where.BlockEnd f w b x o) ≡ where_by (program_in s t) f w b x
       unfolding spot_in next_of block_in
       spot-end q z = rw (spot_is, q, z) refl
 
-      pub spot-line : {m : ℕ} → y ≡ Next.Line m → {o : ℕ} → o ≡ place_in t (i + 1 + x) - 2 → Where.Instruction f w b x o ≡ where_by (program_in s t) f w b x
+      pub spot-line : {m : ℕ} → y ≡ Some (Next.Line m) → {o : ℕ} → o ≡ place_in t (i + 1 + x) - 2 → Some (Where.Instruction f w b x o) ≡ where_by (program_in s t) f w b x
       unfolding spot_in next_of block_in
       spot-line {m} q z =
           let p : instruction (instr_in s t m) ≡ position (take INSTRUCTIONS (block_in s t i).code) x = ap (next_of s t) (sym q) ∙ v in

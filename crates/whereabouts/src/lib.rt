@@ -33,7 +33,6 @@ const DEPTH: usize = 2625;
 /// what is next in the block, and the offset of the instruction's record, or at the end of the block's own.
 #[derive(Clone, Copy)]
 pub enum Where {
-    Nowhere,
     Instruction(u8, u8, u8, u8, usize),
     BlockEnd(u8, u8, u8, u8, usize),
 }
@@ -46,45 +45,43 @@ fn offset(table: &[u8], i: u32) -> usize
     if place < 2 { 0 } else { place - 2 }
 }
 
-/// Where what is next in a block of a version stands, by their numbers.
-fn spot(image: &[u8], table: &[u8], function: u8, version: u8, block: u8, next: u8) -> Where
+/// Where what is next in a block of a version stands, by their numbers; nothing where there is none.
+fn spot(image: &[u8], table: &[u8], function: u8, version: u8, block: u8, next: u8) -> Option<Where>
     ensures { result ≡ where_by (program_in image.now table.now) function version block next }
 {
-    let Some(k) = lookup::version(table, function, version) else {
-        return Where::Nowhere;
-    };
-    let Some(i) = lookup::block(image, table, k, block) else {
-        return Where::Nowhere;
-    };
+    let k = lookup::version(table, function, version)?;
+    let i = lookup::block(image, table, k, block)?;
     let own = i as u32;
-    match lookup::next(table, i, next) {
-        Next::Outside => Where::Nowhere,
-        Next::End => Where::BlockEnd(function, version, block, next, offset(table, own)),
+    match lookup::next(table, i, next)? {
+        Next::End => {
+            let at = offset(table, own);
+            Some(Where::BlockEnd(function, version, block, next, at))
+        }
         Next::Line(_) => {
             let at = offset(table, own + 1 + (next as u32));
-            Where::Instruction(function, version, block, next, at)
+            Some(Where::Instruction(function, version, block, next, at))
         }
     }
 }
 
-/// Where the state of these bytes stands, ended or not, whatever its numbers are.
-pub fn stand(image: &[u8], table: &[u8], bytes: &[u8; 2632]) -> Where
+/// Where the state of these bytes stands, ended or not, whatever its numbers are; nothing where it stands nowhere.
+pub fn stand(image: &[u8], table: &[u8], bytes: &[u8; 2632]) -> Option<Where>
     ensures { (n : List ℤ) → result ≡ where_of (program_in image.now table.now) (state_in bytes.now n) }
 {
     let depth = layout::wide(bytes[DEPTH]);
     if depth == 0 {
-        return Where::Nowhere;
+        return None;
     }
     if ACTIVATIONS < depth {
-        return Where::Nowhere;
+        return None;
     }
     let top = stack::activation(bytes, depth - 1);
     let k = layout::wide(top.frame);
     if ACTIVATIONS <= k {
-        return Where::Nowhere;
+        return None;
     }
     if layout::wide(bytes[CALLS]) <= k {
-        return Where::Nowhere;
+        return None;
     }
     let function = bytes[32 * k + FUNCTION];
     let version = bytes[32 * k + VERSION];

@@ -1,10 +1,11 @@
+use Rattle.std.specs.Prelude.{Err}
 use Rattle.acts.proofs.Answers.{stays, stops, by, whole_is, whole-stuck}
 use Rattle.acts.proofs.Undef.{arith-undef, computed-got, computed-stuck}
 use Rattle.machine.specs.Steps.{execute_to}
 use Rattle.machine.specs.Try.{◌>>=◌}
 use Rattle.store.specs.Answers.{end_of}
 use Rattle.store.specs.declared.Halt.{Halt}
-use mathlib.Core.Path.{refl, sym, ◌∙◌}
+use mathlib.Core.Path.{refl, sym, ap, ◌∙◌}
 use mir.Val.{SFits}
 use mir.Syntax.{w64}
 use mir.Facts.{to_z-of_z}
@@ -63,7 +64,7 @@ returns-in-Err-Undef c =
             c.in-Some.is,
         whole_is c.integer-2.ensures
             c.in-Some-integer.is,
-        arith-undef _ _ _ (rw c.in-Err-Undef.field-0-is at (sym e ∙ c.in-Err-Undef.is)),
+        arith-undef _ _ _ (sym e ∙ c.in-Err-Undef.is ∙ ap Err c.in-Err-Undef.field-0-is),
       ) refl),
       c.requires.0,
     )
@@ -79,7 +80,7 @@ returns-in-Err-Stuck c =
             c.in-Some.is,
         whole_is c.integer-2.ensures
             c.in-Some-integer.is,
-        computed-stuck _ (rw c.in-Err-Stuck.field-0-is at (sym e ∙ c.in-Err-Stuck.is)),
+        computed-stuck _ (sym e ∙ c.in-Err-Stuck.is ∙ ap Err c.in-Err-Stuck.field-0-is),
       ) refl),
       c.requires.0,
     )

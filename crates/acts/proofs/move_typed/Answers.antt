@@ -1,6 +1,10 @@
+use Rattle.std.specs.Prelude.{Some}
 use Rattle.acts.proofs.Delayed.{move-by}
 use Rattle.acts.proofs.Answers.{by, stays}
 use Rattle.acts.specs.Typed.{typed_of}
+use Rattle.machine.specs.States.{value}
+use Rattle.store.specs.Acts.{assign_try}
+use Rattle.store.specs.Store.{frame_in, state_in}
 use Rattle.machine.specs.Try.{◌>>=◌, ◌>>◌, stuck_unless}
 use mathlib.Core.Path.{refl, ap, ◌∙◌}
 use Rattle.acts.proofs.move_typed.Goals as goal
@@ -9,19 +13,20 @@ pub assign_register-requires : goal.assign_register-requires
 assign_register-requires c =
     c.requires
 
-pub returns-in-Fits : goal.returns-in-Fits
+pub returns-then-fits : goal.returns-then-fits
 unfolding typed_of ◌>>=◌ ◌>>◌ stuck_unless
-returns-in-Fits c = (
-  λ P W T. by _ _ _ _ _ (move-by P W _ _ _ _ _ ∙ rw (T ∙ ap typed_of c.in-Fits.is) refl) c.assign_register.ensures.0,
+returns-then-fits c = (
+  λ P W T. by {u = assign_try (state_in c.args.bytes.now c.args.numbers.now) c.args.k c.args.d (value (frame_in c.args.bytes.now c.args.numbers.now c.args.k) c.args.a)} _ _ _ _ _
+      (move-by P W _ _ _ _ _ ∙ rw (T ∙ ap typed_of (c.in-Some.is ∙ ap Some c.if-fits.true)) refl) c.assign_register.ensures.0,
   c.assign_register.ensures.1,
 )
 
-pub returns-in-Clashes : goal.returns-in-Clashes
+pub returns-else-fits : goal.returns-else-fits
 unfolding typed_of ◌>>=◌ ◌>>◌ stuck_unless
-returns-in-Clashes c =
-    (λ P W T. stays _ _ (move-by P W _ _ _ _ _ ∙ rw (T ∙ ap typed_of c.in-Clashes.is) refl), c.requires.0)
+returns-else-fits c =
+    (λ P W T. stays _ _ (move-by P W _ _ _ _ _ ∙ rw (T ∙ ap typed_of (c.in-Some.is ∙ ap Some c.if-fits.false)) refl), c.requires.0)
 
-pub returns-in-Stuck : goal.returns-in-Stuck
+pub returns-in_default : goal.returns-in_default
 unfolding typed_of ◌>>=◌ ◌>>◌ stuck_unless
-returns-in-Stuck c =
-    (λ P W T. stays _ _ (move-by P W _ _ _ _ _ ∙ rw (T ∙ ap typed_of c.in-Stuck.is) refl), c.requires.0)
+returns-in_default c =
+    (λ P W T. stays _ _ (move-by P W _ _ _ _ _ ∙ rw (T ∙ ap typed_of c.in_default.is) refl), c.requires.0)

@@ -1,4 +1,5 @@
 -- `begin::given`: by the word at p and what is behind it.
+use Rattle.std.specs.Prelude.{Some}
 use mir.Syntax.{w64}
 use Rattle.begin.proofs.Words.{no_words, length_at, lone-at, one_at, below_at, many-at, short-at, items_at}
 use Rattle.begin.specs.declared.Argument.{Argument}
@@ -18,7 +19,7 @@ returns-then-left-eq0 c =
 
 pub returns-then-w : goal.returns-then-w
 returns-then-w c =
-    ap Argument.Integer (to_z-of_z {w = w64} (search rules)) ∙ one_at _ _ c.if-words-p.false (search rules) c.if-w.true c.if-left-eq0.false
+    ap (λ x. Some (Argument.Integer x)) (to_z-of_z {w = w64} (search rules)) ∙ one_at _ _ c.if-words-p.false (search rules) c.if-w.true c.if-left-eq0.false
 
 pub returns-then-w-lt0 : goal.returns-then-w-lt0
 returns-then-w-lt0 c =

@@ -12,10 +12,10 @@ pub returns-then-at-ge-VERSIONS : goal.returns-then-at-ge-VERSIONS
 returns-then-at-ge-VERSIONS c =
     no-entry _ _ _ _ _ (outside _ _ _ _ (inr c.if-at-ge-VERSIONS.true))
 
-pub returns-in-None : goal.returns-in-None
-returns-in-None c =
-    entry-missing _ _ _ _ _ (c.version.ensures _) c.in-None.is
+pub returns-in_default : goal.returns-in_default
+returns-in_default c =
+    entry-missing _ _ _ _ _ (c.version.ensures _) c.in_default.is
 
-pub returns-in-Some : goal.returns-in-Some
-returns-in-Some c =
+pub returns : goal.returns
+returns c =
     entry_found _ _ _ _ _ (c.version.ensures _) _ c.in-Some.is c.if-at-ge-FUNCTIONS.false c.if-at-ge-VERSIONS.false _ c.allowed.ensures

@@ -1,3 +1,4 @@
+use Rattle.std.specs.Prelude.{Some}
 use Rattle.ending.proofs.Calls.{back-ends, block-ends, clash-ends, last-ends, newer-ends, out-ends, returning, stuck-ends}
 use Rattle.ending.proofs.Answered.{comes-by, comes-stuck, left-stuck}
 use Rattle.ending.proofs.Runs.{run_ends, run-left}
@@ -6,15 +7,15 @@ use native.Mathlib.Omega.{arith}
 use mathlib.Core.Path.{ap, ◌∙◌}
 use Rattle.ending.proofs.end_call.Goals as goal
 
-pub returns-in-Clashes : goal.returns-in-Clashes
+pub returns-then-not-fits : goal.returns-then-not-fits
 unfolding typed_of
-returns-in-Clashes c =
-    (λ P W T. comes-stuck _ _ (clash-ends P W _ _ _ _ (T ∙ ap typed_of c.in-Clashes.is)), left-stuck _ _ _ c.requires.0)
+returns-then-not-fits c =
+    (λ P W T. comes-stuck _ _ (clash-ends P W _ _ _ _ (T ∙ ap typed_of (c.in-Some.is ∙ ap Some c.if-not-fits.true))), left-stuck _ _ _ c.requires.0)
 
-pub returns-in-Stuck : goal.returns-in-Stuck
+pub returns-in_default : goal.returns-in_default
 unfolding typed_of
-returns-in-Stuck c =
-    (λ P W T. comes-stuck _ _ (stuck-ends P W _ _ _ _ (T ∙ ap typed_of c.in-Stuck.is)), left-stuck _ _ _ c.requires.0)
+returns-in_default c =
+    (λ P W T. comes-stuck _ _ (stuck-ends P W _ _ _ _ (T ∙ ap typed_of c.in_default.is)), left-stuck _ _ _ c.requires.0)
 
 pub returns-then-e-ge16 : goal.returns-then-e-ge16
 returns-then-e-ge16 c =
@@ -33,7 +34,7 @@ unfolding typed_of
 returns-then-top-ne0 c = (
   λ P W T. comes-stuck _ _ (block-ends P W c.args.bytes.now
       c.args.numbers.now _ _
-      (T ∙ ap typed_of c.in-Fits.is) c.if-e-ge16.false
+      (T ∙ ap typed_of (c.in-Some.is ∙ ap Some c.if-not-fits.false)) c.if-e-ge16.false
       c.requires.1 c.wide-depth.ensures.0
       c.activation-top.ensures c.if-top-ne0.true),
   left-stuck _ _ _ c.requires.0,
@@ -48,7 +49,7 @@ unfolding typed_of
 returns-then-k-wide c = (
   λ P W T. comes-stuck _ _ (newer-ends P W c.args.bytes.now
       c.args.numbers.now _ _
-      (T ∙ ap typed_of c.in-Fits.is)
+      (T ∙ ap typed_of (c.in-Some.is ∙ ap Some c.if-not-fits.false))
       c.if-e-ge16.false
       c.requires.1
       c.wide-depth.ensures.0 c.activation-top.ensures
@@ -74,7 +75,7 @@ returns-then-depth-eq1 c = (
   λ P W T. run_ends _ _ _ _ _
       (last-ends P W c.args.bytes.now
       c.args.numbers.now _ _
-      (T ∙ ap typed_of c.in-Fits.is)
+      (T ∙ ap typed_of (c.in-Some.is ∙ ap Some c.if-not-fits.false))
       c.if-e-ge16.false
       c.requires.1
       c.wide-depth.ensures.0
@@ -102,7 +103,7 @@ returns c = (
   λ P W T. comes-by _ _ _ _ _
       (back-ends P W c.args.bytes.now
       c.args.numbers.now _ _
-      (T ∙ ap typed_of c.in-Fits.is)
+      (T ∙ ap typed_of (c.in-Some.is ∙ ap Some c.if-not-fits.false))
       c.if-e-ge16.false
       c.requires.1
       c.wide-depth.ensures.0

@@ -6,15 +6,15 @@ returns-in_default c =
     called-missing _ _ _ _ _ c.byte-f.ensures c.byte-w.ensures _ (c.version.ensures _)
     c.in_default.is
 
-pub returns-in-Some-matches : goal.returns-in-Some-matches
-returns-in-Some-matches c =
+pub returns : goal.returns
+returns c =
     called-fits _ _ _ _ _ c.byte-f.ensures
     c.byte-w.ensures _ (c.version.ensures _)
     c.in-Some.is _ c.matches.ensures _
     (first_of _ _ c.requires.1) c.in-Some-matches.is
 
-pub returns-in-None : goal.returns-in-None
-returns-in-None c =
+pub returns-in_default-matches : goal.returns-in_default-matches
+returns-in_default-matches c =
     called-clashes _ _ _ _ _ c.byte-f.ensures
     c.byte-w.ensures _ (c.version.ensures _)
-    c.in-Some.is _ c.matches.ensures c.in-None.is
+    c.in-Some.is _ c.matches.ensures c.in_default-matches.is

@@ -1,3 +1,6 @@
+use Rattle.std.proofs.lemmas.Result.{err_from_is_err_and}
+use Rattle.std.specs.Prelude.{Ok, Err}
+use mathlib.Core.Path.{sym, ap, ◌∙◌}
 use Rattle.matching.proofs.Joined.{choose-kindless, choose-hit, choose-as, choose-kept, sited-few, sited-room}
 use native.Mathlib.Omega.{arith}
 use Rattle.matching.proofs.choose.Goals as goal
@@ -15,7 +18,7 @@ returns-then-holds c = (
   choose-hit _ _ _ _ _ _ c.requires.0
       c.requires.1 _
       c.code_of-kinds.ensures.0 c.if-kinds-ge-KINDLESS.false _ (omega arith)
-      c.holds.ensures c.if-holds.true _ c.kept.ensures,
+      c.holds.ensures c.if-holds.true _ (ap Ok c.kept.ensures),
   c.requires.1,
 )
 
@@ -27,35 +30,26 @@ pub keep-requires : goal.keep-requires
 keep-requires c =
     (omega arith, c.requires.1.long)
 
-pub returns-in-Version : goal.returns-in-Version
-returns-in-Version c = (
+pub returns-in_err-chosen : goal.returns-in_err-chosen
+returns-in_err-chosen c = let p = err_from_is_err_and c.from_residual.result c.from_residual.ensures.1 in (
+  choose-as _ _ _ _ _ _ c.requires.0
+      c.requires.1 _
+      c.code_of-kinds.ensures.0
+      c.if-kinds-ge-KINDLESS.false 0 _ c.decided.ensures _ (c.in_err-chosen.was ∙ ap Err (sym p.2) ∙ sym p.1),
+  c.requires.1,
+)
+
+pub returns : goal.returns
+returns c = (
   choose-as _ _ _ _ _ _ c.requires.0
       c.requires.1 _
       c.code_of-kinds.ensures.0
       c.if-kinds-ge-KINDLESS.false 0 _ c.decided.ensures _
-      c.in-Version.is,
+      c.in_ok-chosen.was,
   choose-kept _ _ _ _ _ _
       c.requires.0
       c.requires.1 _
       c.code_of-kinds.ensures.0
       c.if-kinds-ge-KINDLESS.false _ _ c.decided.ensures
-      (omega arith) _ _ _ (omega arith) (omega arith) c.keep.ensures c.in-Version.is,
-)
-
-pub returns-in-Undef : goal.returns-in-Undef
-returns-in-Undef c = (
-  choose-as _ _ _ _ _ _ c.requires.0
-      c.requires.1 _
-      c.code_of-kinds.ensures.0
-      c.if-kinds-ge-KINDLESS.false 0 _ c.decided.ensures _ c.in-Undef.is,
-  c.requires.1,
-)
-
-pub returns-in-Stuck : goal.returns-in-Stuck
-returns-in-Stuck c = (
-  choose-as _ _ _ _ _ _ c.requires.0
-      c.requires.1 _
-      c.code_of-kinds.ensures.0
-      c.if-kinds-ge-KINDLESS.false 0 _ c.decided.ensures _ c.in-Stuck.is,
-  c.requires.1,
+      (omega arith) _ _ _ (omega arith) (omega arith) c.keep.ensures c.in_ok-chosen.was,
 )

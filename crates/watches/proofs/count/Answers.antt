@@ -9,4 +9,4 @@ returns-in_default c =
 
 pub returns : goal.returns
 returns c =
-    (all-counted _ _ _ c.topmost.ensures c.in-Call.is c.registers-registers.ensures c.most.ensures.0, c.most.ensures.1)
+    (all-counted _ _ _ c.topmost.ensures c.in-Some.is c.registers-registers.ensures c.most.ensures.0, c.most.ensures.1)

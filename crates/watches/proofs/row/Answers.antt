@@ -10,7 +10,7 @@ returns-in_default c =
 
 pub returns-then-n-r : goal.returns-then-n-r
 returns-then-n-r c =
-    c.plain-then-n-r.ensures ∙ past-shown _ _ _ _ c.topmost.ensures _ c.in-Call.is c.registers.ensures (c.wide-n.ensures.0 ∙ c.most.ensures.0) c.if-n-r.true
+    c.plain-then-n-r.ensures ∙ past-shown _ _ _ _ c.topmost.ensures _ c.in-Some.is c.registers.ensures (c.wide-n.ensures.0 ∙ c.most.ensures.0) c.if-n-r.true
 
 pub overflow_cast-r : goal.overflow_cast-r
 overflow_cast-r c =
@@ -19,11 +19,11 @@ overflow_cast-r c =
 pub cell-value-requires : goal.cell-value-requires
 cell-value-requires c = (
   frame-inside c.args.image.now _ _ c.args.numbers.now c.topmost.ensures
-      c.args.r c.in-Call.is,
+      c.args.r c.in-Some.is,
   omega (arith, c.if-n-r.false, c.wide-n.ensures.0, c.most.ensures.1),
 )
 
 pub returns : goal.returns
 returns c =
-    register-shown _ _ _ _ c.topmost.ensures _ c.in-Call.is c.registers.ensures
+    register-shown _ _ _ _ c.topmost.ensures _ c.in-Some.is c.registers.ensures
     (c.wide-n.ensures.0 ∙ c.most.ensures.0) c.if-n-r.false c.type_of-declared.ensures c.cell-value.ensures.0 c.shown.ensures

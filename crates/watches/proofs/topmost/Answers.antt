@@ -10,10 +10,10 @@ pub returns-then-calls-gt-FRAMES : goal.returns-then-calls-gt-FRAMES
 returns-then-calls-gt-FRAMES c =
     far_call _ _ c.wide-calls.ensures.0 c.if-calls-gt-FRAMES.true
 
-pub returns-in_default : goal.returns-in_default
-returns-in_default c =
-    no-version _ _ c.wide-calls.ensures.0 c.if-calls-eq0.false c.if-calls-gt-FRAMES.false _ c.version.ensures c.in_default.is
+pub returns-in_err-own : goal.returns-in_err-own
+returns-in_err-own c =
+    rw c.from_residual.ensures (no-version _ _ c.wide-calls.ensures.0 c.if-calls-eq0.false c.if-calls-gt-FRAMES.false _ c.version.ensures c.in_err-own.was)
 
 pub returns : goal.returns
 returns c =
-    top-call _ _ c.wide-calls.ensures.0 c.if-calls-eq0.false c.if-calls-gt-FRAMES.false _ c.version.ensures c.in-Some.is
+    top-call _ _ c.wide-calls.ensures.0 c.if-calls-eq0.false c.if-calls-gt-FRAMES.false _ c.version.ensures c.in_ok-own.was
