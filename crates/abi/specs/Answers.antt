@@ -1,5 +1,5 @@
 -- Answers as numbers, field by field as include/fir.h has them.
-use Rattle.std.specs.Prelude.{cond, List, ℕ, ◌+◌, ◌*◌, eqb, ℤ, pos, Err, Ok, Result, Option, None, Some}
+use Rattle.std.specs.Prelude.{cond, List, ℕ, ◌+◌, ◌*◌, eqb, ℤ, pos, Option, None, Some, Err, Ok, Result}
 use Rattle.layout.specs.declared.Form.{Form}
 use Rattle.machine.specs.Runs.{saying}
 use Rattle.machine.specs.declared.Answer.{Answer}

@@ -7,7 +7,7 @@ ghost use Rattle.machine.specs.Try.{got};
 ghost use Rattle.machine.specs.Values.{RANGE, NARROW-RANGE, ranged, is_zero, floored, divided, arith, index};
 ghost use Rattle.integers.specs.Computed.{computed_of, indexed_of, is_minus_one, limit_of};
 
-/// Why an operation on integers has no result: UNDEF, or there is no such operation.
+/// Why something gives no value: UNDEF, or stuck.
 #[derive(Clone, Copy)]
 pub enum Fault {
     Undef,
@@ -125,7 +125,7 @@ fn less(x: i64, y: i64) -> Result<i64, Fault>
     Ok(i64::from(x < y))
 }
 
-/// The operation `op` on `x` and `y`: 0 add, 1 subtract, 2 multiply, 3 divide, 4 less.
+/// The operation `op` on `x` and `y`: 0 add, 1 subtract, 2 multiply, 3 divide, 4 less; stuck where there is no such operation.
 pub fn arith(op: u8, x: i64, y: i64) -> Result<i64, Fault>
     ensures { result ≡ computed_of (arith op x y) }
 {
