@@ -36,20 +36,17 @@ fn given_owned(image: &[u8], c: usize, p: usize) -> u16
     let parameters = lookup::parameters(image, c);
     let types = lookup::registers(image, c);
     let mut registers: u16 = 0;
-    let mut i: usize = 0;
-    while i < n {
+    for i in 0..n {
         if parameters <= i {
             return registers;
         }
         if types <= i {
             return registers;
         }
-        if lookup::type_of(image, c, i) / 16 == ownerships::OWNED {
-            registers = sets::union(registers, sets::only(layout::field(image, p, 4 + i)));
-            i += 1;
-        } else {
-            i += 1;
+        if lookup::type_of(image, c, i) / 16 != ownerships::OWNED {
+            continue;
         }
+        registers = sets::union(registers, sets::only(layout::field(image, p, 4 + i)));
     }
     registers
 }
@@ -60,14 +57,11 @@ fn paired_owned(image: &[u8], p: usize) -> u16
 {
     let n = layout::field(image, p, 4);
     let mut registers: u16 = 0;
-    let mut i: usize = 0;
-    while i < n {
-        if layout::field(image, p, 5 + i * 2) / 16 == ownerships::OWNED {
-            registers = sets::union(registers, sets::only(layout::field(image, p, 6 + i * 2)));
-            i += 1;
-        } else {
-            i += 1;
+    for i in 0..n {
+        if layout::field(image, p, 5 + i * 2) / 16 != ownerships::OWNED {
+            continue;
         }
+        registers = sets::union(registers, sets::only(layout::field(image, p, 6 + i * 2)));
     }
     registers
 }

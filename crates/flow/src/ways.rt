@@ -76,13 +76,11 @@ pub fn lines(image: &[u8], from: usize) -> usize
     ensures { (result ≡ length (take 48 (view_at image.now from).code)) × (result ≤ 48) }
 {
     let mut p = from;
-    let mut n: usize = 0;
-    while n < 48 {
+    for n in 0..48 {
         if !lookup::is_line(image, p) {
             return n;
         }
         p += layout::size_at(image, p);
-        n += 1;
     }
-    n
+    48
 }

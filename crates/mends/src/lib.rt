@@ -164,13 +164,11 @@ fn value_at(
     if !may_help(image, table, why, here, p) {
         return None;
     }
-    let mut i: usize = 0;
-    while i < 8 {
+    for i in 0..8 {
         let x = type_byte(i);
         if mends(image, table, why, here, p, x) {
             return Some(Change { at: p, value: x });
         }
-        i += 1;
     }
     None
 }
@@ -188,12 +186,10 @@ fn place_in(
     requires owned { Owned image.old from n }
     ensures { (result ≡ first_place (mends_by image.old) TYPES (numbers from n)) × (image.new ≡ image.old) }
 {
-    let mut i: usize = 0;
-    while i < n {
+    for i in 0..n {
         if let Some(hit) = value_at(image, table, why, here, from + i) {
             return Some(hit);
         }
-        i += 1;
     }
     None
 }

@@ -86,15 +86,12 @@ fn all_fit(image: &[u8], v: usize, p: usize, call: Call) -> bool
     let step = call.step;
     let mut k = call.types;
     let mut l = call.registers;
-    let mut i: usize = 0;
-    while i < n {
-        if argument_fits(image, v, p, call, k, l) {
-            i += 1;
-            k += step;
-            l += step;
-        } else {
+    for i in 0..n {
+        if !argument_fits(image, v, p, call, k, l) {
             return false;
         }
+        k += step;
+        l += step;
     }
     true
 }

@@ -18,37 +18,21 @@ pub overflow_add-i : goal.overflow_add-i
 overflow_add-i c =
     omega (arith, c.loop-i-test.true, c.field-n.ensures)
 
-pub overflow_add-i-then-type_of-eq-OWNED : goal.overflow_add-i-then-type_of-eq-OWNED
-overflow_add-i-then-type_of-eq-OWNED c =
-    omega (arith, c.loop-i-test.true, c.field-n.ensures)
-
-pub loop-i-smaller-then-type_of-eq-OWNED : goal.loop-i-smaller-then-type_of-eq-OWNED
-loop-i-smaller-then-type_of-eq-OWNED c =
-    omega (arith, c.loop-i-test.true)
-
-pub loop-i-preserved-then-type_of-eq-OWNED : goal.loop-i-preserved-then-type_of-eq-OWNED
-loop-i-preserved-then-type_of-eq-OWNED c = (
-  omega (arith, c.loop-i-test.true),
-  gather-one _ c.loop-i.invariant.1
-      (call-one _ _ _ _ c.field-n.ensures.0 c.parameters-parameters.ensures.0 c.registers-types.ensures.0
-      c.loop-i-test.true c.if-parameters-i.false c.if-types-i.false c.type_of.ensures.0 c.if-type_of-eq-OWNED.true) c.field.ensures.0 c.only.ensures
-      c.union-registers.ensures,
-)
-
-pub overflow_add-i-else-type_of-eq-OWNED : goal.overflow_add-i-else-type_of-eq-OWNED
-overflow_add-i-else-type_of-eq-OWNED c =
-    omega (arith, c.loop-i-test.true, c.field-n.ensures)
-
-pub loop-i-smaller : goal.loop-i-smaller
-loop-i-smaller c =
-    omega (arith, c.loop-i-test.true)
-
 pub loop-i-preserved : goal.loop-i-preserved
 loop-i-preserved c = (
   omega (arith, c.loop-i-test.true),
+  gather-one _ c.loop-i.invariant.1
+      (call-one _ _ _ _ c.field-n.ensures.0 c.parameters-parameters.ensures.0 c.registers-types.ensures.0
+      c.loop-i-test.true c.if-parameters-i.false c.if-types-i.false c.type_of.ensures.0 c.if-type_of-ne-OWNED.false) c.field.ensures.0 c.only.ensures
+      c.union-registers.ensures,
+)
+
+pub loop-i-preserved-then-type_of-ne-OWNED : goal.loop-i-preserved-then-type_of-ne-OWNED
+loop-i-preserved-then-type_of-ne-OWNED c = (
+  omega (arith, c.loop-i-test.true),
   gather_none c.loop-i.invariant.1
       (call-other _ _ _ _ c.field-n.ensures.0 c.parameters-parameters.ensures.0 c.registers-types.ensures.0 c.loop-i-test.true c.if-parameters-i.false
-      c.if-types-i.false c.type_of.ensures.0 c.if-type_of-eq-OWNED.false),
+      c.if-types-i.false c.type_of.ensures.0 c.if-type_of-ne-OWNED.true),
 )
 
 pub returns : goal.returns

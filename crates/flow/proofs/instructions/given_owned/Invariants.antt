@@ -9,6 +9,3 @@ use Rattle.flow.proofs.instructions.given_owned.Given as goal
 
 abbrev pub invariant-loop-i : goal.invariant-loop-i
 invariant-loop-i l = (l.i ≤ l.n) × Gathers (emptied (given (version_at l.image l.c) (fields (body_at l.image l.p) 4 (body_at l.image l.p ! 3)))) l.registers (call_owned l.image l.c l.p l.i)
-
-abbrev pub decreases-loop-i : goal.decreases-loop-i
-decreases-loop-i l = l.n - l.i

@@ -12,44 +12,24 @@ pub overflow_mul-i : goal.overflow_mul-i
 overflow_mul-i c =
     omega (arith, c.loop-i-test.true, c.field-n.ensures)
 
-pub overflow_add-i : goal.overflow_add-i
-overflow_add-i c =
+pub overflow_mul-i-in-loop-i : goal.overflow_mul-i-in-loop-i
+overflow_mul-i-in-loop-i c =
     omega (arith, c.loop-i-test.true, c.field-n.ensures)
 
-pub overflow_mul-i-then-field-eq-OWNED : goal.overflow_mul-i-then-field-eq-OWNED
-overflow_mul-i-then-field-eq-OWNED c =
+pub overflow_add-i-in-loop-i : goal.overflow_add-i-in-loop-i
+overflow_add-i-in-loop-i c =
     omega (arith, c.loop-i-test.true, c.field-n.ensures)
-
-pub overflow_add-i-then-field-eq-OWNED : goal.overflow_add-i-then-field-eq-OWNED
-overflow_add-i-then-field-eq-OWNED c =
-    omega (arith, c.loop-i-test.true, c.field-n.ensures)
-
-pub overflow_add-i-then-field-eq-OWNED-2 : goal.overflow_add-i-then-field-eq-OWNED-2
-overflow_add-i-then-field-eq-OWNED-2 c =
-    omega (arith, c.loop-i-test.true, c.field-n.ensures)
-
-pub loop-i-smaller-then-field-eq-OWNED : goal.loop-i-smaller-then-field-eq-OWNED
-loop-i-smaller-then-field-eq-OWNED c =
-    omega (arith, c.loop-i-test.true)
-
-pub loop-i-preserved-then-field-eq-OWNED : goal.loop-i-preserved-then-field-eq-OWNED
-loop-i-preserved-then-field-eq-OWNED c = (
-  omega (arith, c.loop-i-test.true),
-  gather-one _ c.loop-i.invariant.1
-      (pair_one _ _ _ c.field-n.ensures.0 c.loop-i-test.true c.field.ensures.0 c.if-field-eq-OWNED.true) c.field-then-field-eq-OWNED.ensures.0 c.only.ensures c.union-registers.ensures,
-)
-
-pub overflow_add-i-else-field-eq-OWNED : goal.overflow_add-i-else-field-eq-OWNED
-overflow_add-i-else-field-eq-OWNED c =
-    omega (arith, c.loop-i-test.true, c.field-n.ensures)
-
-pub loop-i-smaller : goal.loop-i-smaller
-loop-i-smaller c =
-    omega (arith, c.loop-i-test.true)
 
 pub loop-i-preserved : goal.loop-i-preserved
-loop-i-preserved c =
-    (omega (arith, c.loop-i-test.true), gather_none c.loop-i.invariant.1 (pair-other _ _ _ c.field-n.ensures.0 c.loop-i-test.true c.field.ensures.0 c.if-field-eq-OWNED.false))
+loop-i-preserved c = (
+  omega (arith, c.loop-i-test.true),
+  gather-one _ c.loop-i.invariant.1
+      (pair_one _ _ _ c.field-n.ensures.0 c.loop-i-test.true c.field.ensures.0 c.if-field-ne-OWNED.false) c.field-in-loop-i.ensures.0 c.only.ensures c.union-registers.ensures,
+)
+
+pub loop-i-preserved-then-field-ne-OWNED : goal.loop-i-preserved-then-field-ne-OWNED
+loop-i-preserved-then-field-ne-OWNED c =
+    (omega (arith, c.loop-i-test.true), gather_none c.loop-i.invariant.1 (pair-other _ _ _ c.field-n.ensures.0 c.loop-i-test.true c.field.ensures.0 c.if-field-ne-OWNED.true))
 
 pub returns : goal.returns
 returns c =

@@ -8,6 +8,3 @@ use Rattle.flow.proofs.instructions.paired_owned.Given as goal
 
 abbrev pub invariant-loop-i : goal.invariant-loop-i
 invariant-loop-i l = (l.i ≤ l.n) × Gathers (emptied (arguments (body_at l.image l.p) 5 (body_at l.image l.p ! 4))) l.registers (pair_owned l.image l.p l.i)
-
-abbrev pub decreases-loop-i : goal.decreases-loop-i
-decreases-loop-i l = l.n - l.i

@@ -3,7 +3,7 @@ use Rattle.program.proofs.Views.{is-lined}
 use Rattle.layout.proofs.Walk.{size_in}
 use Rattle.flow.proofs.Blocks.{line-more, line-last, line-full}
 use borrow.Author.Tests.{not-true, not-false}
-use mathlib.Core.Path.{refl, sym, ◌∙◌}
+use mathlib.Core.Path.{◌≡◌, refl, sym, ◌∙◌}
 use native.Mathlib.Omega.{arith}
 use Rattle.flow.proofs.ways.lines.Goals as goal
 
@@ -19,18 +19,11 @@ pub overflow_add-p : goal.overflow_add-p
 overflow_add-p c =
     let l = is-lined _ _ (sym c.is_line.ensures ∙ c.if-not-is_line.false) in omega (arith, c.size_at-p.ensures, size_in _ _ refl l.whole)
 
-pub overflow_add-n : goal.overflow_add-n
-overflow_add-n c =
-    omega (arith, c.loop-n.invariant.1)
-
-pub loop-n-smaller : goal.loop-n-smaller
-loop-n-smaller c =
-    omega (arith, c.loop-n-test.true)
-
 pub loop-n-preserved : goal.loop-n-preserved
 loop-n-preserved c =
     rw c.size_at-p.ensures (let z = line-more _ _ _ (sym c.is_line.ensures ∙ c.if-not-is_line.false) c.loop-n-test.true in (omega (arith, z, c.loop-n.invariant.0), omega (arith, c.loop-n-test.true)))
 
 pub returns : goal.returns
 returns c =
-    (line-full _ _ _ c.loop-n.invariant.0 (omega (arith, c.loop-n-test.false)), c.loop-n.invariant.1)
+    let full : c.loop-n.n ≡ 48 = omega (arith, c.loop-n-test.false, c.loop-n.invariant.1) in
+    (sym full ∙ line-full _ _ _ c.loop-n.invariant.0 (omega (arith, c.loop-n-test.false)), omega arith)

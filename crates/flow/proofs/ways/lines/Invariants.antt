@@ -6,6 +6,3 @@ use Rattle.flow.proofs.ways.lines.Given as goal
 
 abbrev pub invariant-loop-n : goal.invariant-loop-n
 invariant-loop-n l = (length (take 48 (view_at l.image l.from).code) ≡ l.n + length (take (48 - l.n) (view_at l.image l.p).code)) × (l.n ≤ 48)
-
-abbrev pub decreases-loop-n : goal.decreases-loop-n
-decreases-loop-n l = 48 - l.n

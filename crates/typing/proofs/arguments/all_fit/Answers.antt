@@ -14,20 +14,6 @@ pub argument_fits-requires : goal.argument_fits-requires
 argument_fits-requires c =
     c.requires
 
-pub overflow_add-i : goal.overflow_add-i
-overflow_add-i c =
-    omega (
-      arith,
-      c.requires.n,
-      c.requires.step,
-      c.requires.registers,
-      c.requires.types,
-      c.loop-i-test.true,
-      c.loop-i.invariant.0,
-      c.loop-i.invariant.1,
-      c.loop-i.invariant.2,
-    )
-
 pub overflow_add-k : goal.overflow_add-k
 overflow_add-k c =
     omega (
@@ -55,10 +41,6 @@ overflow_add-l c =
       c.loop-i.invariant.1,
       c.loop-i.invariant.2,
     )
-
-pub loop-i-smaller : goal.loop-i-smaller
-loop-i-smaller c =
-    omega (arith, c.loop-i-test.true)
 
 pub loop-i-preserved : goal.loop-i-preserved
 loop-i-preserved c = (
@@ -95,12 +77,12 @@ loop-i-preserved c = (
     c.loop-i.invariant.1,
     c.loop-i.invariant.2,
   ),
-  c.loop-i.invariant.3 ∙ all-passed _ _ _ _ _ _ _ _ c.loop-i-test.true (sym c.argument_fits.ensures ∙ c.if-argument_fits.true),
+  c.loop-i.invariant.3 ∙ all-passed _ _ _ _ _ _ _ _ c.loop-i-test.true (sym c.argument_fits.ensures ∙ c.if-not-argument_fits.false),
 )
 
-pub returns-else-argument_fits : goal.returns-else-argument_fits
-returns-else-argument_fits c =
-    sym (c.loop-i.invariant.3 ∙ all-failed _ _ _ _ _ _ _ _ c.loop-i-test.true (sym c.argument_fits.ensures ∙ c.if-argument_fits.false))
+pub returns-then-not-argument_fits : goal.returns-then-not-argument_fits
+returns-then-not-argument_fits c =
+    sym (c.loop-i.invariant.3 ∙ all-failed _ _ _ _ _ _ _ _ c.loop-i-test.true (sym c.argument_fits.ensures ∙ c.if-not-argument_fits.true))
 
 pub returns : goal.returns
 returns c =

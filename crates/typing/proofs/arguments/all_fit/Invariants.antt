@@ -10,6 +10,3 @@ use Rattle.typing.proofs.arguments.all_fit.Given as goal
 
 abbrev pub invariant-loop-i : goal.invariant-loop-i
 invariant-loop-i l = (l.i ≤ l.n) × (l.k ≤ 256 * (l.i + 1)) × (l.l ≤ 256 * (l.i + 1)) × (all (fits_argument (version_at l.image l.v) (arguments_at l.image l.p l.call)) (arguments_at l.image l.p l.call) ≡ all (fits_argument (version_at l.image l.v) (arguments_at l.image l.p l.call)) (pairs (body_at l.image l.call.place) l.k (body_at l.image l.p) l.l l.step (l.n - l.i)))
-
-abbrev pub decreases-loop-i : goal.decreases-loop-i
-decreases-loop-i l = l.n - l.i
