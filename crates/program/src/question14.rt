@@ -63,7 +63,8 @@ fn ends_within(image: &[u8], p: usize, ends: Ends) -> bool
     ensures { result ≡ ends_within (ends_of PLACES ends.digits) (rec_at image.now p) }
 {
     if layout::kind_at(image, p) == kinds::SKIP {
-        ends.onward().none_before(layout::field(image, p, 1))
+        let ahead = ends.onward();
+        ahead.none_before(layout::field(image, p, 1))
     } else {
         true
     }

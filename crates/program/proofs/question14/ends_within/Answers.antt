@@ -8,7 +8,7 @@ pub returns-then-kind_at-eq-SKIP : goal.returns-then-kind_at-eq-SKIP
 unfolding ends_within
 returns-then-kind_at-eq-SKIP c =
     let is-skip = sym c.kind_at.ensures ∙ c.if-kind_at-eq-SKIP.true in
-    c.none_before.ensures ∙ simp (is-skip, ← c.field.ensures.0, c.onward.ensures)
+    c.none_before.ensures ∙ simp (is-skip, ← c.field.ensures.0, c.onward-ahead.ensures)
 
 pub returns-else-kind_at-eq-SKIP : goal.returns-else-kind_at-eq-SKIP
 unfolding ends_within
