@@ -170,6 +170,7 @@ pub fn verdict(verdict: Result<usize, Refusal>) -> FirVerdict
 }
 
 /// What becomes of a join, in numbers.
+#[tactic(auto, unfolding(crate::specs::Answers::joined_numbers))]
 pub fn joined(joined: Result<usize, JoinError>) -> FirJoined
     ensures { result ≡ joined_numbers joined }
 {
@@ -234,6 +235,7 @@ pub fn mended(mended: Mended) -> FirMended
 }
 
 /// What becomes of a load, in numbers.
+#[tactic(auto, unfolding(crate::specs::Answers::loaded_numbers))]
 pub fn loaded(loaded: Result<usize, LoadError>) -> FirLoaded
     ensures { result ≡ loaded_numbers loaded }
 {
