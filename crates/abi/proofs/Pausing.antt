@@ -1,4 +1,5 @@
 -- What a run that pauses comes to: its answer in numbers, its state and the lent buffer.
+use Rattle.std.specs.Prelude.{Err, Ok}
 use mathlib.Core.Path.{◌≡◌, refl, sym, ap, subst, ◌∙◌}
 use mathlib.Core.List.{List}
 use mathlib.Core.Bool.{Bool, true, false}
@@ -16,7 +17,6 @@ use Rattle.machine.specs.States.{VECTORS, over}
 use Rattle.machine.specs.Values.{RANGE}
 use Rattle.machine.specs.declared.Answer.{Answer}
 use Rattle.machine.specs.declared.Begun.{Begun}
-use Rattle.machine.specs.declared.Entry.{Entry}
 use Rattle.machine.specs.declared.Ran.{Ran}
 use Rattle.machine.specs.declared.Said.{Said}
 use Rattle.machine.specs.declared.State.{State}
@@ -38,6 +38,7 @@ use Rattle.abi.specs.Held.{held, stored}
 use Rattle.abi.specs.declared.answers.FirAnswer.{FirAnswer}
 use Rattle.abi.specs.declared.answers.FirSaid.{FirSaid}
 use Rattle.abi.specs.declared.state.FirState.{FirState}
+use Rattle.machine.specs.Denials.{Grant, denied}
 
 -- ---- by the pause
 
@@ -180,27 +181,27 @@ module _ (P : Program) (b : List ℕ) (n : List ℤ) (m : ℕ) (buffer : List �
 -- ---- from the start
 
 -- a run that has begun was lent a buffer that is long enough
-begun-13 : (s : State) (buffer : List ℤ) → (question13 s buffer).entry ≡ Entry.Begun → long_enough buffer ≡ true
+begun-13 : (s : State) (buffer : List ℤ) → (question13 s buffer).entry ≡ Ok tt → long_enough buffer ≡ true
 unfolding question13 refused
 begun-13 s buffer g = go (long_enough buffer) refl g
   where
-    go : (x : Bool) → long_enough buffer ≡ x → (question13 s buffer).entry ≡ Entry.Begun → long_enough buffer ≡ true
+    go : (x : Bool) → long_enough buffer ≡ x → (question13 s buffer).entry ≡ Ok tt → long_enough buffer ≡ true
     go true e g = e
     go false e g = absurd (refused-begun 13 0 (rw (e, question13) at g))
 
-pub begun-entered : (P : Program) (level f v : ℕ) (words buffer : List ℤ) → (entered_of P level f v words buffer).entry ≡ Entry.Begun → long_enough buffer ≡ true
+pub begun-entered : (P : Program) (level f v : ℕ) (words buffer : List ℤ) → (entered_of P level f v words buffer).entry ≡ Ok tt → long_enough buffer ≡ true
 unfolding entered_of question11 question19 question12 refused
 begun-entered P level f v words buffer = go (find_version P f v)
   where
-    given : (W : Version) (o : Option (List Given)) → (question12 W o buffer).entry ≡ Entry.Begun → long_enough buffer ≡ true
+    given : (W : Version) (o : Option (List Given)) → (question12 W o buffer).entry ≡ Ok tt → long_enough buffer ≡ true
     given W none g = absurd (refused-begun 12 0 g)
     given W (some xs) g = begun-13 _ buffer g
 
-    low : (W : Version) (b : Bool) → leb W.level (run_level level) ≡ b → (question19 level W words buffer).entry ≡ Entry.Begun → long_enough buffer ≡ true
+    low : (W : Version) (b : Bool) → leb W.level (run_level level) ≡ b → (question19 level W words buffer).entry ≡ Ok tt → long_enough buffer ≡ true
     low W true l g = given W (arguments (parameter_types W) words) (rw (l, question19) at g)
     low W false l g = absurd (refused-begun 19 0 (rw (l, question19) at g))
 
-    go : (o : Option Version) → (question11 level o words buffer).entry ≡ Entry.Begun → long_enough buffer ≡ true
+    go : (o : Option Version) → (question11 level o words buffer).entry ≡ Ok tt → long_enough buffer ≡ true
     go none g = absurd (refused-begun 11 0 g)
     go (some W) g = low W (leb W.level (run_level level)) refl g
 
@@ -242,35 +243,35 @@ left-again (Answer.Ended e) s E E' X t h = h
 left-again Answer.Stuck s E E' X t h = h
 
 -- the run of a beginning, by its entry
-after-refused : (P : Program) (x : Begun) (m : ℕ) (buffer : List ℤ) (q p : ℕ) → x.entry ≡ Entry.Refused q p → record { state = x.state; answer = Answer.Refused q p; steps = 0 } ≡ run_after_to RANGE x.entry P x.state m buffer
+after-refused : (P : Program) (x : Begun) (m : ℕ) (buffer : List ℤ) (q p : ℕ) → x.entry ≡ Err (denied q p) → record { state = x.state; answer = Answer.Refused q p; steps = 0 } ≡ run_after_to RANGE x.entry P x.state m buffer
 unfolding run_after_to
 after-refused P x m buffer q p e = rw e refl
 
-after-begun : (P : Program) (x : Begun) (s : State) (m : ℕ) (buffer : List ℤ) → x.entry ≡ Entry.Begun → s ≡ x.state → budget_of P s m buffer ≡ run_after_to RANGE x.entry P x.state m buffer
+after-begun : (P : Program) (x : Begun) (s : State) (m : ℕ) (buffer : List ℤ) → x.entry ≡ Ok tt → s ≡ x.state → budget_of P s m buffer ≡ run_after_to RANGE x.entry P x.state m buffer
 unfolding run_after_to
 after-begun P x s m buffer e f = rw (e, f) refl
 
-module _ (s t : List ℕ) (e : Entrance) (words : List ℤ) (m : ℕ) (buffer : List ℤ) (b : List ℕ) (n : List ℤ) (b₁ : List ℕ) (n₁ : List ℤ) (x : Entry) (h : (x ≡ (entered_at (program_in s t) e words buffer).entry) × Begins x (program_in s t) e words buffer b n b₁ n₁) where
+module _ (s t : List ℕ) (e : Entrance) (words : List ℤ) (m : ℕ) (buffer : List ℤ) (b : List ℕ) (n : List ℤ) (b₁ : List ℕ) (n₁ : List ℤ) (x : Grant) (h : (x ≡ (entered_at (program_in s t) e words buffer).entry) × Begins x (program_in s t) e words buffer b n b₁ n₁) where
   abbrev P : Program
   P = program_in s t
 
   abbrev ran : Ran
   ran = run_in_to RANGE s t e.level e.function e.version words m buffer
 
-  begins-at : (y : Entry) → x ≡ y → Begins y P e words buffer b n b₁ n₁
-  begins-at y g = subst (λ (z : Entry). Begins z P e words buffer b n b₁ n₁) g h.1
+  begins-at : (y : Grant) → x ≡ y → Begins y P e words buffer b n b₁ n₁
+  begins-at y g = subst (λ (z : Grant). Begins z P e words buffer b n b₁ n₁) g h.1
 
-  pub run-refused : (q p : ℕ) {a : FirAnswer} → x ≡ Entry.Refused q p → a ≡ answer_numbers (Answer.Refused q p) 0 → Answers a ran (stored b n) (stored b₁ n₁) buffer buffer
+  pub run-refused : (q p : ℕ) {a : FirAnswer} → x ≡ Err (denied q p) → a ≡ answer_numbers (Answer.Refused q p) 0 → Answers a ran (stored b n) (stored b₁ n₁) buffer buffer
   unfolding run_in_to Begins Left buffer_of written over
   run-refused q p {a} g f =
       subst (λ (z : Ran). Answers a z (stored b n) (stored b₁ n₁) buffer buffer) (after-refused P (entered_at P e words buffer) m buffer q p (sym h.0 ∙ g))
-      (record { numbers = f; state = same_memory (begins-at (Entry.Refused q p) g); written = refl })
+      (record { numbers = f; state = same_memory (begins-at (Err (denied q p)) g); written = refl })
 
-  pub run-begun : (b₂ : List ℕ) (n₂ : List ℤ) (last : List ℤ) {a : FirAnswer} → x ≡ Entry.Begun
+  pub run-begun : (b₂ : List ℕ) (n₂ : List ℤ) (last : List ℤ) {a : FirAnswer} → x ≡ Ok tt
       → Answers a (budget_of P (state_in b₁ n₁) m buffer) (stored b₁ n₁) (stored b₂ n₂) buffer last → Answers a ran (stored b n) (stored b₂ n₂) buffer last
   unfolding run_in_to Begins
   run-begun b₂ n₂ last {a} g f =
-      let y : (entered_at P e words buffer).entry ≡ Entry.Begun = sym h.0 ∙ g in
+      let y : (entered_at P e words buffer).entry ≡ (Ok tt) = sym h.0 ∙ g in
       let l : long_enough buffer ≡ true = begun-entered P e.level e.function e.version words buffer y in
-      subst (λ (z : Ran). Answers a z (stored b n) (stored b₂ n₂) buffer last) (after-begun P (entered_at P e words buffer) (state_in b₁ n₁) m buffer y (begins-at Entry.Begun g).0)
+      subst (λ (z : Ran). Answers a z (stored b n) (stored b₂ n₂) buffer last) (after-begun P (entered_at P e words buffer) (state_in b₁ n₁) m buffer y (begins-at (Ok tt) g).0)
       (record { numbers = f.numbers; state = left-again _ _ (stored b₁ n₁) (stored b n) (stored b₂ n₂) (of-taken P (state_in b₁ n₁) m buffer l) f.state; written = f.written })

@@ -1,4 +1,5 @@
 -- 02, request 10: what the calls come to that are lent a pool.
+use Rattle.std.specs.Prelude.{Err, Ok}
 use mathlib.Core.Path.{◌≡◌, refl, sym, ap, subst, ◌∙◌}
 use mathlib.Core.List.{List, [], ◌∷◌}
 use mathlib.Core.Bool.{Bool, true, false, cond, ◌||◌, true≢false}
@@ -16,12 +17,8 @@ use Rattle.machine.specs.Pools.{RUNS, PoolBegun, PoolMade, PoolRan, PoolStepped,
 use Rattle.machine.specs.Runs.{buffer_of, continued, long_enough, written}
 use Rattle.machine.specs.States.{over}
 use Rattle.machine.specs.declared.Answer.{Answer}
-use Rattle.machine.specs.declared.Back.{Back}
 use Rattle.machine.specs.declared.Begun.{Begun}
-use Rattle.machine.specs.declared.Changed.{Changed}
 use Rattle.machine.specs.declared.End.{End}
-use Rattle.machine.specs.declared.Entry.{Entry}
-use Rattle.machine.specs.declared.Made.{Made}
 use Rattle.machine.specs.declared.Pool.{Pool}
 use Rattle.machine.specs.declared.PoolSaid.{PoolSaid}
 use Rattle.machine.specs.declared.Ran.{Ran}
@@ -39,7 +36,7 @@ use Rattle.running.specs.Budgets.{ResumesWith, StepsWith, answer_of, outcome_in,
 use Rattle.running.specs.declared.Counted.{Counted}
 use Rattle.running.specs.declared.Pause.{Pause}
 use Rattle.pools.specs.Shares.{Makes, Settles, has_now, pool_of}
-use Rattle.abi.specs.Answers.{answer_numbers, back_numbers, changed_numbers, entry_numbers, made_numbers, said_numbers, turn_numbers, turn_with}
+use Rattle.abi.specs.Answers.{answer_numbers, grant_numbers, said_numbers, turn_numbers, turn_with}
 use Rattle.abi.specs.Exits.{Answers, Left, Rests}
 use Rattle.abi.specs.Held.{held, stored}
 use Rattle.abi.specs.Pools.{AnswersIn, BeginsIn, EntersIn, MakesIn, RunsIn, StepsIn}
@@ -49,11 +46,12 @@ use Rattle.abi.specs.declared.answers.FirSaid.{FirSaid}
 use Rattle.abi.specs.declared.answers.FirTurn.{FirTurn}
 use Rattle.abi.specs.declared.state.FirState.{FirState}
 use Rattle.abi.proofs.Pausing.{Taken, begun-entered, left-again, of-taken-with, resumed, said-stuck, same_memory, stuck-said-is}
+use Rattle.machine.specs.Denials.{Grant, denied}
 
 -- ---- making
 
-pub makes-in : (given rs hs rs' hs' : List ℕ) (m : Made) {r : FirEntry} → Makes m given rs hs rs' hs' → r ≡ made_numbers m → MakesIn r given (pool_of rs hs) (pool_of rs' hs')
-makes-in given rs hs rs' hs' m h e = (e ∙ ap (λ (x : PoolMade). made_numbers x.made) h, ap (λ (x : PoolMade). x.pool) h)
+pub makes-in : (given rs hs rs' hs' : List ℕ) (m : Grant) {r : FirEntry} → Makes m given rs hs rs' hs' → r ≡ grant_numbers m → MakesIn r given (pool_of rs hs) (pool_of rs' hs')
+makes-in given rs hs rs' hs' m h e = (e ∙ ap (λ (x : PoolMade). grant_numbers x.made) h, ap (λ (x : PoolMade). x.pool) h)
 
 -- ---- 21
 
@@ -87,19 +85,19 @@ module _ (p : Pool) (i : ℕ) (bad : refuses21 p i ≡ true) where
       outcome : Bool → PoolBegun
       outcome x = elim x [ true ↦ record { pool = p; begun = refused 21 0 } | false ↦ pool_begun_as p i b b.entry ]
 
-  pub change-refused : (old new : List ℕ) (s : State) {r : FirEntry} → r ≡ changed_numbers (Changed.Refused 21 0) → r ≡ changed_numbers (pool_change p i old new s)
+  pub change-refused : (old new : List ℕ) (s : State) {r : FirEntry} → r ≡ grant_numbers (Err (denied 21 0)) → r ≡ grant_numbers (pool_change p i old new s)
   unfolding pool_change
   change-refused old new s e = e ∙ ap outcome (sym bad)
     where
       outcome : Bool → FirEntry
-      outcome x = changed_numbers (elim x [ true ↦ Changed.Refused 21 0 | false ↦ change_of old new s ])
+      outcome x = grant_numbers (elim x [ true ↦ Err (denied 21 0) | false ↦ change_of old new s ])
 
-  pub back-refused : {r : FirEntry} → r ≡ back_numbers (Back.Refused 21 0) → r ≡ back_numbers (pool_back p i)
+  pub back-refused : {r : FirEntry} → r ≡ grant_numbers (Err (denied 21 0)) → r ≡ grant_numbers (pool_back p i)
   unfolding pool_back
   back-refused e = e ∙ ap outcome (sym bad)
     where
       outcome : Bool → FirEntry
-      outcome x = back_numbers (elim x [ true ↦ Back.Refused 21 0 | false ↦ Back.Refused 20 0 ])
+      outcome x = grant_numbers (elim x [ true ↦ Err (denied 21 0) | false ↦ Err (denied 20 0) ])
 
 begun-is : (p : Pool) (i : ℕ) → refuses21 p i ≡ false → (b : Begun) → pool_begun_by p i b ≡ pool_begun_as p i b b.entry
 begun-is p i ok b = ap outcome ok
@@ -107,15 +105,15 @@ begun-is p i ok b = ap outcome ok
     outcome : Bool → PoolBegun
     outcome x = elim x [ true ↦ record { pool = p; begun = refused 21 0 } | false ↦ pool_begun_as p i b b.entry ]
 
-pub back_none : (p : Pool) (i : ℕ) → refuses21 p i ≡ false → {r : FirEntry} → r ≡ back_numbers (Back.Refused 20 0) → r ≡ back_numbers (pool_back p i)
+pub back_none : (p : Pool) (i : ℕ) → refuses21 p i ≡ false → {r : FirEntry} → r ≡ grant_numbers (Err (denied 20 0)) → r ≡ grant_numbers (pool_back p i)
 unfolding pool_back
 back_none p i ok e = e ∙ ap outcome (sym ok)
   where
     outcome : Bool → FirEntry
-    outcome x = back_numbers (elim x [ true ↦ Back.Refused 21 0 | false ↦ Back.Refused 20 0 ])
+    outcome x = grant_numbers (elim x [ true ↦ Err (denied 21 0) | false ↦ Err (denied 20 0) ])
 
-pub change-taken : (p : Pool) (i : ℕ) → refuses21 p i ≡ false → (old new : List ℕ) (s : State) {r : FirEntry} → r ≡ changed_numbers (change_of old new s) → r ≡ changed_numbers (pool_change p i old new s)
-change-taken p i ok old new s e = e ∙ ap changed_numbers (sym (change-is p i ok old new s))
+pub change-taken : (p : Pool) (i : ℕ) → refuses21 p i ≡ false → (old new : List ℕ) (s : State) {r : FirEntry} → r ≡ grant_numbers (change_of old new s) → r ≡ grant_numbers (pool_change p i old new s)
+change-taken p i ok old new s e = e ∙ ap grant_numbers (sym (change-is p i ok old new s))
 
 -- ---- the single step
 
@@ -237,7 +235,7 @@ module _ (P : Program) (e : Entrance) (words buffer : List ℤ) (rs hs : List �
   abbrev B : Begun
   B = entered_at P e words buffer
 
-  pub enters-refused-by-21 : refuses21 o i ≡ true → EntersIn (Entry.Refused 21 0) P e words buffer o i (stored b n) (stored b n) o
+  pub enters-refused-by-21 : refuses21 o i ≡ true → EntersIn (Err (denied 21 0)) P e words buffer o i (stored b n) (stored b n) o
   unfolding refused
   enters-refused-by-21 bad =
       let z = begun-refused o i bad B in
@@ -251,32 +249,32 @@ module _ (P : Program) (e : Entrance) (words buffer : List ℤ) (rs hs : List �
         over = λ g. let z : ◌≡◌ {A = ℕ} 0 1 = cc in absurd (omega arith);
       }
 
-  module _ (ok : refuses21 o i ≡ false) (b₁ : List ℕ) (n₁ : List ℤ) (x : Entry) (h : (x ≡ B.entry) × Begins x P e words buffer b n b₁ n₁) where
-    begins-as : (y : Entry) → x ≡ y → Begins y P e words buffer b n b₁ n₁
-    begins-as y g = subst (λ (z : Entry). Begins z P e words buffer b n b₁ n₁) g h.1
+  module _ (ok : refuses21 o i ≡ false) (b₁ : List ℕ) (n₁ : List ℤ) (x : Grant) (h : (x ≡ B.entry) × Begins x P e words buffer b n b₁ n₁) where
+    begins-as : (y : Grant) → x ≡ y → Begins y P e words buffer b n b₁ n₁
+    begins-as y g = subst (λ (z : Grant). Begins z P e words buffer b n b₁ n₁) g h.1
 
-    by-entry : (y : Entry) → x ≡ y → pool_begun_by o i B ≡ pool_begun_as o i B y
+    by-entry : (y : Grant) → x ≡ y → pool_begun_by o i B ≡ pool_begun_as o i B y
     by-entry y g = begun-is o i ok B ∙ ap (pool_begun_as o i B) (sym h.0 ∙ g)
 
-    pub enters-refused : (k p : ℕ) → x ≡ Entry.Refused k p → EntersIn (Entry.Refused k p) P e words buffer o i (stored b n) (stored b₁ n₁) o
+    pub enters-refused : (k p : ℕ) → x ≡ Err (denied k p) → EntersIn (Err (denied k p)) P e words buffer o i (stored b n) (stored b₁ n₁) o
     unfolding pool_begun_as Begins
     enters-refused k p g =
-        let z = by-entry (Entry.Refused k p) g in
+        let z = by-entry (Err (denied k p)) g in
         record {
           entry = sym g ∙ h.0 ∙ ap (λ (y : PoolBegun). y.begun.entry) (sym z);
           pool = ap (λ (y : PoolBegun). y.pool) (sym z);
-          refused = λ _ _ _. same_memory (begins-as (Entry.Refused k p) g);
+          refused = λ _ _ _. same_memory (begins-as (Err (denied k p)) g);
           state = λ g. let z : ◌≡◌ {A = ℕ} 0 1 = cc in absurd (omega arith);
           values = λ g. let z : ◌≡◌ {A = ℕ} 0 1 = cc in absurd (omega arith);
           fits = λ g. let z : ◌≡◌ {A = ℕ} 0 1 = cc in absurd (omega arith);
           over = λ g. let z : ◌≡◌ {A = ℕ} 0 1 = cc in absurd (omega arith);
         }
 
-    pub enters-begun : x ≡ Entry.Begun → (b₂ hs' : List ℕ) → Settles b₁ n₁ rs hs i b₂ hs' → EntersIn Entry.Begun P e words buffer o i (stored b n) (stored b₂ n₁) (pool_of rs hs')
+    pub enters-begun : x ≡ Ok tt → (b₂ hs' : List ℕ) → Settles b₁ n₁ rs hs i b₂ hs' → EntersIn (Ok tt) P e words buffer o i (stored b n) (stored b₂ n₁) (pool_of rs hs')
     unfolding pool_begun_as Begins started_in noted
     enters-begun g b₂ hs' S =
-        let z = by-entry Entry.Begun g in
-        let first = begins-as Entry.Begun g in
+        let z = by-entry (Ok tt) g in
+        let first = begins-as (Ok tt) g in
         let now : state_in b₂ n₁ ≡ started_in o i B.state = S.0.state ∙ ap (started_in o i) first.0 in
         record {
           entry = ap (λ (y : PoolBegun). y.begun.entry) (sym z);
@@ -288,26 +286,26 @@ module _ (P : Program) (e : Entrance) (words buffer : List ℤ) (rs hs : List �
           over = λ _ l. S.0.over (subst (λ (s : State). allowed o i < vectors_in s) (sym first.0) l) ∙ ap (λ y. closed_bytes y 5 0) first.1;
         }
 
-pub begins-in : (P : Program) (e : Entrance) (words buffer : List ℤ) (p : Pool) (i : ℕ) (S S' : FirState) (p' : Pool) (x : Entry) {r : FirEntry}
-    → EntersIn x P e words buffer p i S S' p' → r ≡ entry_numbers x → BeginsIn r P e words buffer p i S S' p'
-begins-in P e words buffer p i S S' p' x E f = (f ∙ ap entry_numbers E.entry, subst (λ (y : Entry). EntersIn y P e words buffer p i S S' p') E.entry E)
+pub begins-in : (P : Program) (e : Entrance) (words buffer : List ℤ) (p : Pool) (i : ℕ) (S S' : FirState) (p' : Pool) (x : Grant) {r : FirEntry}
+    → EntersIn x P e words buffer p i S S' p' → r ≡ grant_numbers x → BeginsIn r P e words buffer p i S S' p'
+begins-in P e words buffer p i S S' p' x E f = (f ∙ ap grant_numbers E.entry, subst (λ (y : Grant). EntersIn y P e words buffer p i S S' p') E.entry E)
 
 -- ---- a start and its first budget
 
-module _ (P : Program) (e : Entrance) (words : List ℤ) (j : ℕ) (buffer : List ℤ) (p : Pool) (i : ℕ) (S S₁ : FirState) (p₁ : Pool) (x : Entry) (E : EntersIn x P e words buffer p i S S₁ p₁) where
+module _ (P : Program) (e : Entrance) (words : List ℤ) (j : ℕ) (buffer : List ℤ) (p : Pool) (i : ℕ) (S S₁ : FirState) (p₁ : Pool) (x : Grant) (E : EntersIn x P e words buffer p i S S₁ p₁) where
   abbrev A : PoolBegun
   A = pool_begun_by p i (entered_at P e words buffer)
 
-  ran-as : (y : Entry) → x ≡ y → pool_run_as P i j buffer A y ≡ pool_run_by P p i (entered_at P e words buffer) j buffer
+  ran-as : (y : Grant) → x ≡ y → pool_run_as P i j buffer A y ≡ pool_run_by P p i (entered_at P e words buffer) j buffer
   ran-as y g = ap (pool_run_as P i j buffer A) (sym g ∙ E.entry)
 
-  pub runs-refused : (k o : ℕ) {a : FirAnswer} → x ≡ Entry.Refused k o → a ≡ answer_numbers (Answer.Refused k o) 0 → RunsIn a P e words j p i S S₁ p₁ buffer buffer
+  pub runs-refused : (k o : ℕ) {a : FirAnswer} → x ≡ Err (denied k o) → a ≡ answer_numbers (Answer.Refused k o) 0 → RunsIn a P e words j p i S S₁ p₁ buffer buffer
   unfolding pool_run_as Left buffer_of written over
   runs-refused k o {a} g f =
-      subst (λ (y : PoolRan). Answers a y.ran S S₁ buffer buffer × (p₁ ≡ y.pool)) (ran-as (Entry.Refused k o) g)
+      subst (λ (y : PoolRan). Answers a y.ran S S₁ buffer buffer × (p₁ ≡ y.pool)) (ran-as (Err (denied k o)) g)
       (record { numbers = f; state = E.refused k o g; written = refl }, E.pool)
 
-  module _ (g : x ≡ Entry.Begun) where
+  module _ (g : x ≡ Ok tt) where
     -- a start that is not refused has passed 21 and all questions to a beginning
     begun-passes : (t : Bool) → refuses21 p i ≡ t → (refuses21 p i ≡ false) × (A ≡ pool_begun_as p i (entered_at P e words buffer) (entered_at P e words buffer).entry)
     unfolding refused
@@ -317,12 +315,12 @@ module _ (P : Program) (e : Entrance) (words : List ℤ) (j : ℕ) (buffer : Lis
     passed : (refuses21 p i ≡ false) × (A ≡ pool_begun_as p i (entered_at P e words buffer) (entered_at P e words buffer).entry)
     passed = begun-passes (refuses21 p i) refl
 
-    entry-as : (B : Begun) (y : Entry) → (pool_begun_as p i B y).begun.entry ≡ Entry.Begun → B.entry ≡ y → (y ≡ Entry.Begun) × ((pool_begun_as p i B y).pool.reserves ≡ p.reserves)
+    entry-as : (B : Begun) (y : Grant) → (pool_begun_as p i B y).begun.entry ≡ Ok tt → B.entry ≡ y → (y ≡ Ok tt) × ((pool_begun_as p i B y).pool.reserves ≡ p.reserves)
     unfolding pool_begun_as noted
-    entry-as B (Entry.Refused k o) w q = absurd (refused-begun k o (sym q ∙ w))
-    entry-as B Entry.Begun w q = (refl, refl)
+    entry-as B (Err why) w q = absurd (refused-begun why.question why.at (sym q ∙ w))
+    entry-as B (Ok _) w q = (refl, refl)
 
-    begun-at : ((entered_at P e words buffer).entry ≡ Entry.Begun) × (A.pool.reserves ≡ p.reserves)
+    begun-at : ((entered_at P e words buffer).entry ≡ Ok tt) × (A.pool.reserves ≡ p.reserves)
     begun-at =
         let z = passed.1 in
         let w = entry-as (entered_at P e words buffer) (entered_at P e words buffer).entry (ap (λ (y : PoolBegun). y.begun.entry) (sym z) ∙ sym E.entry ∙ g) refl in
@@ -348,4 +346,4 @@ module _ (P : Program) (e : Entrance) (words : List ℤ) (j : ℕ) (buffer : Lis
 
       pub runs-begun : RunsIn a P e words j p i S S₂ p₂ buffer last
       unfolding pool_run_as
-      runs-begun = subst (λ (y : PoolRan). Answers a y.ran S S₂ buffer last × (p₂ ≡ y.pool)) (same ∙ ran-as Entry.Begun g) (answered-here, F.pool)
+      runs-begun = subst (λ (y : PoolRan). Answers a y.ran S S₂ buffer last × (p₂ ≡ y.pool)) (same ∙ ran-as (Ok tt) g) (answered-here, F.pool)

@@ -9,9 +9,7 @@ use Rattle.machine.specs.Runs.{budget_of, written}
 use Rattle.machine.specs.States.{over}
 use Rattle.machine.specs.Trails.{budget_on, change_on, further, step_on}
 use Rattle.machine.specs.declared.Answer.{Answer}
-use Rattle.machine.specs.declared.Back.{Back}
 use Rattle.machine.specs.declared.Behind.{Behind}
-use Rattle.machine.specs.declared.Changed.{Changed}
 use Rattle.machine.specs.declared.Ran.{Ran}
 use Rattle.machine.specs.declared.Returned.{Returned}
 use Rattle.machine.specs.declared.State.{State}
@@ -23,13 +21,14 @@ use Rattle.running.specs.declared.Counted.{Counted}
 use Rattle.running.specs.declared.Pause.{Pause}
 use Rattle.trails.specs.Arrays.{Adds, Renews, Returns, behind_in, steps_from, trail_in}
 use Rattle.trails.proofs.Counting.{counts_zero}
-use Rattle.abi.specs.Answers.{answer_numbers, back_numbers, changed_numbers, said_numbers}
+use Rattle.abi.specs.Answers.{answer_numbers, grant_numbers, said_numbers}
 use Rattle.abi.specs.Held.{stored}
 use Rattle.abi.specs.Trails.{AnswersOn, BacksOn, ChangesOn, StepsOn, kept}
 use Rattle.abi.specs.declared.answers.FirAnswer.{FirAnswer}
 use Rattle.abi.specs.declared.answers.FirEntry.{FirEntry}
 use Rattle.abi.specs.declared.answers.FirSaid.{FirSaid}
 use Rattle.abi.proofs.Pausing.{budget-refused, budget-taken, refuses, same_memory, steps-with, takes}
+use Rattle.machine.specs.Denials.{Grant}
 
 -- the same start, with what lies behind and the state by equations
 on : (s : State) {x y : Behind} {t u : State} → x ≡ y → t ≡ u → ◌≡◌ {A = Trail} (record { start = s; behind = x; state = t }) (record { start = s; behind = y; state = u })
@@ -86,12 +85,12 @@ module _ (P : Program) (b : List ℕ) (n : List ℤ) (s p : ℕ) where
 
   -- ---- a step back
 
-  pub backs-on : (b₀ : List ℕ) (n₀ : List ℤ) (x : Back) (s' : ℕ) (b' : List ℕ) (n' : List ℤ) {r : FirEntry} → Returns x P b₀ n₀ s p b n s' b' n' → r ≡ back_numbers x
+  pub backs-on : (b₀ : List ℕ) (n₀ : List ℤ) (x : Grant) (s' : ℕ) (b' : List ℕ) (n' : List ℤ) {r : FirEntry} → Returns x P b₀ n₀ s p b n s' b' n' → r ≡ grant_numbers x
       → BacksOn r P (stored b n) (kept b₀ n₀ s p) (stored b' n') (kept b₀ n₀ s' p)
   backs-on b₀ n₀ x s' b' n' h e =
       let k = ap (λ (y : Returned). y.back) h.back in
       record {
-        numbers = e ∙ ap back_numbers (sym k);
+        numbers = e ∙ ap grant_numbers (sym k);
         trail = ap (λ (y : Returned). y.trail) (sym h.back);
         start = (refl, refl);
         refused = λ q o g. let w = h.refused q o (sym k ∙ g) in (same_memory (w.1, w.2), same_count b₀ n₀ (w.0, refl));
@@ -99,10 +98,10 @@ module _ (P : Program) (b : List ℕ) (n : List ℤ) (s p : ℕ) where
 
 -- ---- a change of the image
 
-pub changes-on : (old new b : List ℕ) (n : List ℤ) (b₀ : List ℕ) (n₀ : List ℤ) (s p : ℕ) (b₀' : List ℕ) (n₀' : List ℤ) (s' p' : ℕ) (x : Changed) {r : FirEntry}
-    → Renews x old new b n b₀ n₀ s p b₀' n₀' s' p' → r ≡ changed_numbers x → ChangesOn r old new (stored b n) (kept b₀ n₀ s p) (kept b₀' n₀' s' p')
+pub changes-on : (old new b : List ℕ) (n : List ℤ) (b₀ : List ℕ) (n₀ : List ℤ) (s p : ℕ) (b₀' : List ℕ) (n₀' : List ℤ) (s' p' : ℕ) (x : Grant) {r : FirEntry}
+    → Renews x old new b n b₀ n₀ s p b₀' n₀' s' p' → r ≡ grant_numbers x → ChangesOn r old new (stored b n) (kept b₀ n₀ s p) (kept b₀' n₀' s' p')
 changes-on old new b n b₀ n₀ s p b₀' n₀' s' p' x h e = record {
-  numbers = e ∙ ap changed_numbers h.changed;
+  numbers = e ∙ ap grant_numbers h.changed;
   trail = h.trail ∙ ap (change_on (trail_in b₀ n₀ s p b n)) h.changed;
   taken = λ g. h.taken (h.changed ∙ g);
   refused = λ q o g. let w = h.refused q o (h.changed ∙ g) in λ i. kept (w.0 i) (w.1 i) (w.2 i) (w.3 i);

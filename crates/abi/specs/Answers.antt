@@ -3,15 +3,10 @@ use Rattle.std.specs.Prelude.{cond, List, ℕ, ◌+◌, ◌*◌, eqb, ℤ, pos, 
 use Rattle.layout.specs.declared.Form.{Form}
 use Rattle.machine.specs.Runs.{saying}
 use Rattle.machine.specs.declared.Answer.{Answer}
-use Rattle.machine.specs.declared.Back.{Back}
-use Rattle.machine.specs.declared.Changed.{Changed}
 use Rattle.machine.specs.declared.End.{End}
-use Rattle.machine.specs.declared.Entry.{Entry}
 use Rattle.machine.specs.declared.Said.{Said}
-use Rattle.machine.specs.declared.Made.{Made}
 use Rattle.machine.specs.declared.PoolSaid.{PoolSaid}
 use Rattle.machine.specs.declared.Search.{Search}
-use Rattle.machine.specs.declared.Watch.{Watch}
 use Rattle.mends.specs.declared.Mended.{Mended}
 use Rattle.store.specs.Store.{state_in}
 use Rattle.whereabouts.specs.declared.Where.{Where}
@@ -32,6 +27,8 @@ use Rattle.joins.specs.declared.JoinError.{JoinError}
 use Rattle.joins.specs.declared.JoinError.TheVariants.{First, Together, Second}
 use Rattle.loaded.specs.declared.LoadError.{LoadError}
 use Rattle.loaded.specs.declared.LoadError.TheVariants.{Short, Refused}
+use Rattle.machine.specs.declared.Denial.{Denial}
+use Rattle.machine.specs.Denials.{Grant}
 
 -- a number, of versions, of bytes of the image in the other form or of rows of bounds, or the offset and the number of a refusal
 unfoldable pub verdict_numbers : Verdict → FirVerdict
@@ -62,20 +59,10 @@ mended_numbers (Mended.Unmended why) = record { detail = why.at; place = 0; ques
 unfoldable pub form_of : ℕ → Form
 form_of n = cond (eqb n 1) Form.Narrow Form.Wide
 
--- a refusal's offset and number; all 0 where the run has begun
-unfoldable pub entry_numbers : Entry → FirEntry
-entry_numbers Entry.Begun = record { offset = 0; question = 0 }
-entry_numbers (Entry.Refused q p) = record { offset = p; question = q }
-
--- a new image: a refusal's offset and number; all 0 where it is taken
-unfoldable pub changed_numbers : Changed → FirEntry
-changed_numbers Changed.Taken = record { offset = 0; question = 0 }
-changed_numbers (Changed.Refused q p) = record { offset = p; question = q }
-
--- a step back: a refusal's offset and number
-unfoldable pub back_numbers : Back → FirEntry
-back_numbers Back.Taken = record { offset = 0; question = 0 }
-back_numbers (Back.Refused q p) = record { offset = p; question = q }
+-- what is granted, an entry, a change, a step back, a pool that is made, or the offset and the number of a refusal
+unfoldable pub grant_numbers : Grant → FirEntry
+grant_numbers (Ok _) = record { offset = 0; question = 0 }
+grant_numbers (Err why) = record { offset = why.at; question = why.question }
 
 -- a search: 1, how many versions it looks at and how many there are; all 0 where there is none
 unfoldable pub search_numbers : Search → FirSearched
@@ -89,9 +76,9 @@ where_numbers (Some (Where.Instruction f v b n p)) = record { offset = p; kind =
 where_numbers (Some (Where.BlockEnd f v b n p)) = record { offset = p; kind = 2; function = f; version = v; block = b; instruction = n }
 
 -- watching: how many records were filled, or the number of a refusal, whose offset is always 0
-unfoldable pub watched_numbers : Watch → FirWatched
-watched_numbers (Watch.Filled n) = record { filled = n; question = 0 }
-watched_numbers (Watch.Refused q p) = record { filled = 0; question = q }
+unfoldable pub watched_numbers : Result ℕ Denial → FirWatched
+watched_numbers (Ok n) = record { filled = n; question = 0 }
+watched_numbers (Err why) = record { filled = 0; question = why.question }
 
 -- the number of the interface, and that of the layout of a stored state; each goes up where a program that was made for it could not go on
 unfoldable pub version_numbers : FirVersion
@@ -134,11 +121,6 @@ answer_numbers (Answer.Ended e) n = answer_with (said_numbers (Said.Ended e)) n
 answer_numbers Answer.Stuck n = answer_with (said_numbers Said.Stuck) n
 
 -- ---- in a pool
-
--- a pool that is made: a refusal's offset and number
-unfoldable pub made_numbers : Made → FirEntry
-made_numbers Made.Ready = record { offset = 0; question = 0 }
-made_numbers (Made.Refused q p) = record { offset = p; question = q }
 
 -- the turn that says so much
 unfoldable pub turn_with : FirSaid → FirTurn

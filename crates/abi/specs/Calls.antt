@@ -11,7 +11,7 @@ use Rattle.loaded.specs.Loaded.{program_in}
 use Rattle.loaded.specs.Loading.{Stands, load_of}
 use Rattle.loaded.specs.Running.{run_in_to}
 use Rattle.begin.specs.Asking.{entered_at}
-use Rattle.abi.specs.Answers.{changed_numbers, entry_numbers, loaded_numbers, watched_numbers}
+use Rattle.abi.specs.Answers.{grant_numbers, loaded_numbers, watched_numbers}
 use Rattle.abi.specs.Exits.{Answers, Began, Rests, Steps, entrance}
 use Rattle.abi.specs.Held.{held}
 use Rattle.abi.specs.Pools.{AnswersIn, BeginsIn, RunsIn, StepsIn}
@@ -36,7 +36,7 @@ abbrev pub BeginCall : List ℕ → List ℕ → ℕ → ℕ → ℕ → List �
 BeginCall image table level f v words buffer r S S' =
     let P = program_in image table in
     let x = (entered_at P (entrance level f v) words buffer).entry in
-    (r ≡ entry_numbers x) × Began x P (entrance level f v) words buffer S S'
+    (r ≡ grant_numbers x) × Began x P (entrance level f v) words buffer S S'
 
 -- fir_step
 abbrev pub StepCall : List ℕ → List ℕ → FirSaid → FirState → FirState → Type 0
@@ -54,7 +54,7 @@ RunCall image table level f v words n r S S' buffer last = Answers r (run_in_to 
 
 -- fir_change, which is lent the state to read
 abbrev pub ChangeCall : List ℕ → List ℕ → FirEntry → FirState → Type 0
-ChangeCall old new r S = r ≡ changed_numbers (change_of old new (held S))
+ChangeCall old new r S = r ≡ grant_numbers (change_of old new (held S))
 
 -- fir_watch, which is lent the state to read, and a list of records
 abbrev pub WatchCall : List ℕ → List ℕ → FirWatched → FirState → List Row → List Row → Type 0
@@ -96,4 +96,4 @@ PoolRunCall image table level f v words n p i r S S' p' buffer last = RunsIn r (
 
 -- fir_pool_change, which is lent the state and the pool to read
 abbrev pub PoolChangeCall : List ℕ → List ℕ → Pool → ℕ → FirEntry → FirState → Type 0
-PoolChangeCall old new p i r S = r ≡ changed_numbers (pool_change p i old new (held S))
+PoolChangeCall old new p i r S = r ≡ grant_numbers (pool_change p i old new (held S))

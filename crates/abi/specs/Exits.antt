@@ -4,7 +4,6 @@ use Rattle.program.specs.Program.{Program}
 use Rattle.machine.specs.Runs.{buffer_of, written}
 use Rattle.machine.specs.declared.Answer.{Answer}
 use Rattle.machine.specs.declared.End.{End}
-use Rattle.machine.specs.declared.Entry.{Entry}
 use Rattle.machine.specs.declared.Ran.{Ran}
 use Rattle.machine.specs.declared.Said.{Said}
 use Rattle.machine.specs.declared.State.{State}
@@ -20,6 +19,7 @@ use Rattle.abi.specs.Held.{held}
 use Rattle.abi.specs.declared.answers.FirAnswer.{FirAnswer}
 use Rattle.abi.specs.declared.answers.FirSaid.{FirSaid}
 use Rattle.abi.specs.declared.state.FirState.{FirState}
+use Rattle.machine.specs.Denials.{Grant}
 
 -- ---- beginning
 
@@ -28,7 +28,7 @@ abbrev pub entrance : ℕ → ℕ → ℕ → Entrance
 entrance level f w = record { level = level; function = f; version = w }
 
 -- a begun run is in its first state, whose bytes and numbers are told by program, entrance and words; a refusal leaves all as it was
-abbrev pub Began : Entry → Program → Entrance → List ℤ → List ℤ → FirState → FirState → Type 0
+abbrev pub Began : Grant → Program → Entrance → List ℤ → List ℤ → FirState → FirState → Type 0
 Began x P e words buffer before after = Begins x P e words buffer before.bytes before.numbers after.bytes after.numbers
 
 -- ---- steps

@@ -1,14 +1,12 @@
 -- 02, request 8: the trail that the caller's memory stands for, and what the calls leave that are lent one.
-use Rattle.std.specs.Prelude.{List, ◌≡◌, ℕ, ℤ}
+use Rattle.std.specs.Prelude.{List, ◌≡◌, ℕ, ℤ, Err, Ok}
 use Rattle.program.specs.Program.{Program}
 use Rattle.machine.specs.Changes.{change_of}
 use Rattle.machine.specs.Runs.{budget_of, step_of}
 use Rattle.machine.specs.Trails.{back_of, budget_on, change_on, step_on, steps_by}
-use Rattle.machine.specs.declared.Back.{Back}
-use Rattle.machine.specs.declared.Changed.{Changed}
 use Rattle.machine.specs.declared.Trail.{Trail}
 use Rattle.trails.specs.Arrays.{Starts, trail_in}
-use Rattle.abi.specs.Answers.{back_numbers, changed_numbers}
+use Rattle.abi.specs.Answers.{grant_numbers}
 use Rattle.abi.specs.Exits.{Answers, Rests, Steps}
 use Rattle.abi.specs.Held.{held}
 use Rattle.abi.specs.declared.answers.FirAnswer.{FirAnswer}
@@ -16,6 +14,7 @@ use Rattle.abi.specs.declared.answers.FirEntry.{FirEntry}
 use Rattle.abi.specs.declared.answers.FirSaid.{FirSaid}
 use Rattle.abi.specs.declared.state.FirState.{FirState}
 use Rattle.abi.specs.declared.state.FirTrail.{FirTrail}
+use Rattle.machine.specs.Denials.{denied}
 
 -- the trail of a caller's trail and state, whatever their bytes and numbers are
 abbrev pub trail_of : FirTrail → FirState → Trail
@@ -50,14 +49,14 @@ pub record AnswersOn (r : FirAnswer) (P : Program) (n : ℕ) (S : FirState) (T :
 
 -- a change of the image: one that is taken is a new start, one that is refused leaves the trail as it was, byte for byte
 pub record ChangesOn (r : FirEntry) (old new : List ℕ) (S : FirState) (T T' : FirTrail) : Type 0 where
-  pub numbers : r ≡ changed_numbers (change_of old new (held S))
+  pub numbers : r ≡ grant_numbers (change_of old new (held S))
   pub trail : trail_of T' S ≡ change_on (trail_of T S) (change_of old new (held S))
-  pub taken : change_of old new (held S) ≡ Changed.Taken → Started S T'
-  pub refused : (q p : ℕ) → change_of old new (held S) ≡ Changed.Refused q p → T' ≡ T
+  pub taken : change_of old new (held S) ≡ Ok tt → Started S T'
+  pub refused : (q p : ℕ) → change_of old new (held S) ≡ Err (denied q p) → T' ≡ T
 
 -- a step back: one that is refused leaves state and trail as they were, byte for byte
 pub record BacksOn (r : FirEntry) (P : Program) (S : FirState) (T : FirTrail) (S' : FirState) (T' : FirTrail) : Type 0 where
-  pub numbers : r ≡ back_numbers (back_of P (trail_of T S)).back
+  pub numbers : r ≡ grant_numbers (back_of P (trail_of T S)).back
   pub trail : trail_of T' S' ≡ (back_of P (trail_of T S)).trail
   pub start : SameStart T T'
-  pub refused : (q p : ℕ) → (back_of P (trail_of T S)).back ≡ Back.Refused q p → (S' ≡ S) × (T' ≡ T)
+  pub refused : (q p : ℕ) → (back_of P (trail_of T S)).back ≡ Err (denied q p) → (S' ≡ S) × (T' ≡ T)

@@ -2,8 +2,8 @@
 ghost use Rattle.std.specs.Prelude.{◌≡◌};
 ghost use Rattle.machine.specs.declared.Answer.{Answer};
 ghost use Rattle.machine.specs.declared.PoolSaid.{PoolSaid};
-ghost use Rattle.abi.specs.Answers.{answer_numbers, answer_with, back_numbers, changed_numbers, end_in, entry_numbers, form_of};
-ghost use Rattle.abi.specs.Answers.{joined_numbers, loaded_numbers, made_numbers, mended_numbers, plain_numbers};
+ghost use Rattle.abi.specs.Answers.{answer_numbers, answer_with, grant_numbers, end_in, form_of};
+ghost use Rattle.abi.specs.Answers.{joined_numbers, loaded_numbers, mended_numbers, plain_numbers};
 ghost use Rattle.abi.specs.Answers.{search_numbers, turn_numbers, turn_with, verdict_numbers, version_numbers, watched_numbers, where_numbers};
 ghost use Rattle.abi.specs.Looks.{no_place, value_numbers};
 
@@ -11,7 +11,7 @@ use checker::Refusal;
 use joins::JoinError;
 use layout::Form;
 use loaded::LoadError;
-use machine::{Back, Changed, Entry, Made, Search, Value, Watch};
+use machine::{Denial, Search, Value};
 use mends::Mended;
 use whereabouts::Where;
 
@@ -269,50 +269,18 @@ pub fn form(number: u8) -> Form
     }
 }
 
-/// The numbers of an entry.
-pub fn entry(entry: Entry) -> FirEntry
-    ensures { result ≡ entry_numbers entry }
+/// The numbers of what is granted or denied: an entry, a change, a step back, a pool that is made.
+pub fn grant(grant: Result<(), Denial>) -> FirEntry
+    ensures { result ≡ grant_numbers grant }
 {
-    match entry {
-        Entry::Begun => FirEntry {
+    match grant {
+        Ok(()) => FirEntry {
             offset: 0,
             question: 0,
         },
-        Entry::Refused(q, p) => FirEntry {
-            offset: p,
-            question: q,
-        },
-    }
-}
-
-/// The numbers of a change.
-pub fn changed(changed: Changed) -> FirEntry
-    ensures { result ≡ changed_numbers changed }
-{
-    match changed {
-        Changed::Taken => FirEntry {
-            offset: 0,
-            question: 0,
-        },
-        Changed::Refused(q, p) => FirEntry {
-            offset: p,
-            question: q,
-        },
-    }
-}
-
-/// The numbers of a step back.
-pub fn back(back: Back) -> FirEntry
-    ensures { result ≡ back_numbers back }
-{
-    match back {
-        Back::Taken => FirEntry {
-            offset: 0,
-            question: 0,
-        },
-        Back::Refused(q, p) => FirEntry {
-            offset: p,
-            question: q,
+        Err(why) => FirEntry {
+            offset: why.at,
+            question: why.question,
         },
     }
 }
@@ -378,22 +346,6 @@ pub fn refused(question: u8, offset: u16) -> FirAnswer
         code: 8,
         length: 0,
         question: question,
-    }
-}
-
-/// The numbers of a pool that is made.
-pub fn made(made: Made) -> FirEntry
-    ensures { result ≡ made_numbers made }
-{
-    match made {
-        Made::Ready => FirEntry {
-            offset: 0,
-            question: 0,
-        },
-        Made::Refused(q, p) => FirEntry {
-            offset: p,
-            question: q,
-        },
     }
 }
 
@@ -515,17 +467,17 @@ pub fn place(place: Option<Where>) -> FirWhere
 }
 
 /// The numbers of watching.
-pub fn watched(watch: Watch) -> FirWatched
+pub fn watched(watch: Result<u8, Denial>) -> FirWatched
     ensures { result ≡ watched_numbers watch }
 {
     match watch {
-        Watch::Filled(n) => FirWatched {
+        Ok(n) => FirWatched {
             filled: n,
             question: 0,
         },
-        Watch::Refused(q, _) => FirWatched {
+        Err(why) => FirWatched {
             filled: 0,
-            question: q,
+            question: why.question,
         },
     }
 }

@@ -4,14 +4,13 @@ ghost use Rattle.machine.specs.Values.{RANGE};
 ghost use Rattle.loaded.specs.Loaded.{program_in};
 ghost use Rattle.loaded.specs.Running.{run_in_to};
 ghost use Rattle.begin.specs.Asking.{Begins, entered_at};
-ghost use Rattle.abi.specs.Answers.{entry_numbers};
+ghost use Rattle.abi.specs.Answers.{grant_numbers};
 ghost use Rattle.abi.specs.Exits.{Answers};
 ghost use Rattle.abi.specs.Held.{stored};
 
 use crate::answers::{FirAnswer, FirEntry};
 use crate::{answers, parts};
 use begin::Entrance;
-use machine::Entry;
 
 /// What a run enters, at which level, and its first budget.
 #[derive(Clone, Copy)]
@@ -32,12 +31,12 @@ pub fn begun<'s>(
     bytes: &'s mut [u8; 2632],
     numbers: &'s mut [i64; 2129],
 ) -> FirEntry
-    ensures { (result ≡ entry_numbers (entered_at (program_in image.now table.now) at words.now buffer.now).entry)
+    ensures { (result ≡ grant_numbers (entered_at (program_in image.now table.now) at words.now buffer.now).entry)
         × Begins (entered_at (program_in image.now table.now) at words.now buffer.now).entry
         (program_in image.now table.now) at words.now buffer.now
         bytes.old numbers.old bytes.new numbers.new }
 {
-    answers::entry(begin::begin(image, table, at, words, buffer, bytes, numbers))
+    answers::grant(begin::begin(image, table, at, words, buffer, bytes, numbers))
 }
 
 /// Begins a run of a loaded image, and goes on with it under its first budget.
@@ -59,7 +58,7 @@ pub fn run<'s>(
         version: at.version,
     };
     match begin::begin(image, table, entrance, words, buffer, bytes, numbers) {
-        Entry::Refused(q, p) => answers::refused(q, p),
-        Entry::Begun => parts::budget(image, table, at.budget, buffer, bytes, numbers),
+        Err(why) => answers::refused(why.question, why.at),
+        Ok(()) => parts::budget(image, table, at.budget, buffer, bytes, numbers),
     }
 }

@@ -28,7 +28,7 @@ ghost use Rattle.bounds.specs.Rows.{bounds_of, numbers_after, steps_after, unles
 ghost use Rattle.whereabouts.specs.Looks.{look_of};
 ghost use Rattle.whereabouts.specs.Where.{where_of};
 ghost use Rattle.words.specs.Words.{answer_text, question_text, written_of};
-ghost use Rattle.abi.specs.Answers.{back_numbers, changed_numbers, entry_numbers, form_of, joined_numbers, loaded_numbers, mended_numbers};
+ghost use Rattle.abi.specs.Answers.{grant_numbers, form_of, joined_numbers, loaded_numbers, mended_numbers};
 ghost use Rattle.abi.specs.Answers.{search_numbers, state_alignment, state_size, verdict_numbers, version_numbers, watched_numbers, where_numbers};
 ghost use Rattle.abi.specs.Exits.{Answers, Began, Rests, Steps, entrance};
 ghost use Rattle.abi.specs.Held.{held};
@@ -202,7 +202,7 @@ pub fn fir_begin(
     buffer: &[i64],
     state: &mut FirState,
 ) -> FirEntry
-    ensures { (result ≡ entry_numbers (entered_at (program_in image.now table.now) (entrance level function version) words.now buffer.now).entry)
+    ensures { (result ≡ grant_numbers (entered_at (program_in image.now table.now) (entrance level function version) words.now buffer.now).entry)
         × Began (entered_at (program_in image.now table.now) (entrance level function version) words.now buffer.now).entry
         (program_in image.now table.now) (entrance level function version) words.now buffer.now
         state.old state.new }
@@ -289,7 +289,7 @@ pub fn fir_run(
 /// Whether the state goes on under the new image: its questions are asked, and then 15. Nothing is written: where the answer
 /// is 0 the caller goes on with the new image, else with the old one.
 pub fn fir_change(old: &[u8], new: &[u8], state: &FirState) -> FirEntry
-    ensures { result ≡ changed_numbers (change_of old.now new.now (held state.now)) }
+    ensures { result ≡ grant_numbers (change_of old.now new.now (held state.now)) }
 {
     parts::change(old, new, &state.bytes)
 }
@@ -526,14 +526,14 @@ pub fn fir_pool_change(
     pool: &Pool,
     number: usize,
 ) -> FirEntry
-    ensures { result ≡ changed_numbers (pool_change pool.now number old.now new.now (held state.now)) }
+    ensures { result ≡ grant_numbers (pool_change pool.now number old.now new.now (held state.now)) }
 {
     pool::change(old, new, &state.bytes, &pool.reserves, number)
 }
 
 /// A step back of the run that has the number: 21, or 20, since a state of a pool has no step behind it.
 pub fn fir_pool_back(pool: &Pool, number: usize) -> FirEntry
-    ensures { result ≡ back_numbers (pool_back pool.now number) }
+    ensures { result ≡ grant_numbers (pool_back pool.now number) }
 {
     pool::back(&pool.reserves, number)
 }

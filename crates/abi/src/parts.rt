@@ -11,7 +11,7 @@ ghost use Rattle.store.specs.Store.{state_in};
 ghost use Rattle.running.specs.Budgets.{answer_of, said_of};
 ghost use Rattle.whereabouts.specs.Looks.{look_of};
 ghost use Rattle.whereabouts.specs.Where.{where_of};
-ghost use Rattle.abi.specs.Answers.{answer_numbers, changed_numbers, said_numbers, search_numbers, watched_numbers, where_numbers};
+ghost use Rattle.abi.specs.Answers.{answer_numbers, grant_numbers, said_numbers, search_numbers, watched_numbers, where_numbers};
 ghost use Rattle.abi.specs.Exits.{Answers, Rests, Steps, items_in, result_in};
 ghost use Rattle.abi.specs.Held.{stored};
 ghost use Rattle.abi.specs.Looks.{read_numbers};
@@ -41,9 +41,9 @@ const BUFFER: u8 = 13;
 
 /// Whether a state of these bytes goes on under the new image, whatever its numbers are.
 pub fn change(old: &[u8], new: &[u8], bytes: &[u8; 2632]) -> FirEntry
-    ensures { (n : List ℤ) → result ≡ changed_numbers (change_of old.now new.now (state_in bytes.now n)) }
+    ensures { (n : List ℤ) → result ≡ grant_numbers (change_of old.now new.now (state_in bytes.now n)) }
 {
-    answers::changed(changes::change(old, new, bytes))
+    answers::grant(changes::change(old, new, bytes))
 }
 
 /// What the place `place` of the live call `call` holds.

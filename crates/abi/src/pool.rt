@@ -5,7 +5,7 @@ ghost use Rattle.machine.specs.Pools.{pool_back, pool_change};
 ghost use Rattle.loaded.specs.Loaded.{program_in};
 ghost use Rattle.pools.specs.Shares.{pool_of};
 ghost use Rattle.store.specs.Store.{state_in};
-ghost use Rattle.abi.specs.Answers.{back_numbers, changed_numbers};
+ghost use Rattle.abi.specs.Answers.{grant_numbers};
 ghost use Rattle.abi.specs.Exits.{entrance};
 ghost use Rattle.abi.specs.Held.{stored};
 ghost use Rattle.abi.specs.Pools.{AnswersIn, BeginsIn, EntersIn, MakesIn, RunsIn, StepsIn};
@@ -13,7 +13,7 @@ ghost use Rattle.abi.specs.Pools.{AnswersIn, BeginsIn, EntersIn, MakesIn, RunsIn
 use crate::answers::{FirAnswer, FirEntry, FirTurn};
 use crate::{answers, parts};
 use begin::Entrance;
-use machine::{Back, Changed, Entry, Vector};
+use machine::{Denial, Vector};
 use running::Budget;
 
 /// The question to the lent buffer, and the one to a step back.
@@ -41,7 +41,7 @@ pub struct Ask {
 pub fn make<'p>(given: &[u8; 8], reserves: &'p mut [u8; 8], has: &'p mut [u8; 8]) -> FirEntry
     ensures { MakesIn result given.now (pool_of reserves.old has.old) (pool_of reserves.new has.new) }
 {
-    answers::made(pools::make(given, reserves, has))
+    answers::grant(pools::make(given, reserves, has))
 }
 
 /// Begins a run of a loaded image under a number; a refusal writes nothing.
@@ -55,26 +55,25 @@ fn enter(
     numbers: &mut [i64; 2129],
     reserves: &[u8; 8],
     has: &mut [u8; 8],
-) -> Entry
+) -> Result<(), Denial>
     ensures { EntersIn result (program_in image.now table.now) (entrance at.level at.function at.version) words.now buffer.now
         (pool_of reserves.now has.old) at.number (stored bytes.old numbers.old)
         (stored bytes.new numbers.new) (pool_of reserves.now has.new) }
 {
     if pools::refuses(reserves, at.number) {
-        return Entry::Refused(pools::POOL, 0);
+        return Err(Denial {
+            question: pools::POOL,
+            at: 0,
+        });
     }
     let entrance = Entrance {
         level: at.level,
         function: at.function,
         version: at.version,
     };
-    match begin::begin(image, table, entrance, words, buffer, bytes, numbers) {
-        Entry::Refused(q, p) => Entry::Refused(q, p),
-        Entry::Begun => {
-            pools::settle(bytes, numbers, reserves, has, at.number);
-            Entry::Begun
-        }
-    }
+    begin::begin(image, table, entrance, words, buffer, bytes, numbers)?;
+    pools::settle(bytes, numbers, reserves, has, at.number);
+    Ok(())
 }
 
 /// Begins a run of a loaded image under a number.
@@ -93,7 +92,7 @@ pub fn begun<'s>(
         (pool_of reserves.now has.old) at.number (stored bytes.old numbers.old)
         (stored bytes.new numbers.new) (pool_of reserves.now has.new) }
 {
-    answers::entry(enter(
+    answers::grant(enter(
         image, table, at, words, buffer, bytes, numbers, reserves, has,
     ))
 }
@@ -174,8 +173,8 @@ pub fn run<'s>(
     match enter(
         image, table, at, words, buffer, bytes, numbers, reserves, has,
     ) {
-        Entry::Refused(q, p) => answers::refused(q, p),
-        Entry::Begun => budget(image, table, ask, buffer, bytes, numbers, reserves, has),
+        Err(why) => answers::refused(why.question, why.at),
+        Ok(()) => budget(image, table, ask, buffer, bytes, numbers, reserves, has),
     }
 }
 
@@ -188,20 +187,29 @@ pub fn change(
     number: usize,
 ) -> FirEntry
     ensures { (n : List ℤ) (hs : List ℕ)
-        → result ≡ changed_numbers (pool_change (pool_of reserves.now hs) number old.now new.now (state_in bytes.now n)) }
+        → result ≡ grant_numbers (pool_change (pool_of reserves.now hs) number old.now new.now (state_in bytes.now n)) }
 {
     if pools::refuses(reserves, number) {
-        return answers::changed(Changed::Refused(pools::POOL, 0));
+        return answers::grant(Err(Denial {
+            question: pools::POOL,
+            at: 0,
+        }));
     }
     parts::change(old, new, bytes)
 }
 
 /// 21, or 20: a state of a pool has no step behind it.
 pub fn back(reserves: &[u8; 8], number: usize) -> FirEntry
-    ensures { (hs : List ℕ) → result ≡ back_numbers (pool_back (pool_of reserves.now hs) number) }
+    ensures { (hs : List ℕ) → result ≡ grant_numbers (pool_back (pool_of reserves.now hs) number) }
 {
     if pools::refuses(reserves, number) {
-        return answers::back(Back::Refused(pools::POOL, 0));
+        return answers::grant(Err(Denial {
+            question: pools::POOL,
+            at: 0,
+        }));
     }
-    answers::back(Back::Refused(BEHIND, 0))
+    answers::grant(Err(Denial {
+        question: BEHIND,
+        at: 0,
+    }))
 }

@@ -66,7 +66,7 @@ pub fn change<'s, 't>(
         (kept bytes0.old numbers0.old steps.old past.old)
         (kept bytes0.new numbers0.new steps.new past.new) }
 {
-    answers::changed(trails::change(old, new, bytes, numbers, bytes0, numbers0, steps, past))
+    answers::grant(trails::change(old, new, bytes, numbers, bytes0, numbers0, steps, past))
 }
 
 /// A step back, or 20 where none lies behind.
@@ -84,5 +84,5 @@ pub fn back<'s>(
         (stored bytes.old numbers.old) (kept bytes0.now numbers0.now steps.old past.now)
         (stored bytes.new numbers.new) (kept bytes0.now numbers0.now steps.new past.now) }
 {
-    answers::back(trails::back(image, table, bytes, numbers, bytes0, numbers0, steps, past))
+    answers::grant(trails::back(image, table, bytes, numbers, bytes0, numbers0, steps, past))
 }

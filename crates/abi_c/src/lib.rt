@@ -28,7 +28,7 @@ ghost use Rattle.bounds.specs.Rows.{bounds_of, numbers_after, steps_after, unles
 ghost use Rattle.whereabouts.specs.Looks.{look_of};
 ghost use Rattle.whereabouts.specs.Where.{where_of};
 ghost use Rattle.words.specs.Words.{answer_text, question_text, written_of};
-ghost use Rattle.abi.specs.Answers.{back_numbers, changed_numbers, entry_numbers, form_of, joined_numbers, loaded_numbers, mended_numbers};
+ghost use Rattle.abi.specs.Answers.{grant_numbers, form_of, joined_numbers, loaded_numbers, mended_numbers};
 ghost use Rattle.abi.specs.Answers.{search_numbers, state_alignment, state_size, verdict_numbers, version_numbers, watched_numbers, where_numbers};
 ghost use Rattle.abi.specs.Calls.{BeginCall, BudgetCall, ChangeCall, Loads, PoolBeginCall, PoolBudgetCall, PoolChangeCall, PoolRunCall, PoolStepCall};
 ghost use Rattle.abi.specs.Calls.{RunCall, StepCall, TrailBackCall, TrailBudgetCall, TrailStepCall, WatchCall};
@@ -209,7 +209,7 @@ pub extern "C" fn fir_begin(
     buffer: &[i64],
     state: &mut FirState,
 ) -> FirEntry
-    ensures says { (result ≡ entry_numbers (entered_at (program_in image.now table.now) (entrance level function version) words.now buffer.now).entry)
+    ensures says { (result ≡ grant_numbers (entered_at (program_in image.now table.now) (entrance level function version) words.now buffer.now).entry)
         × Began (entered_at (program_in image.now table.now) (entrance level function version) words.now buffer.now).entry
         (program_in image.now table.now) (entrance level function version) words.now buffer.now
         state.old state.new }
@@ -275,7 +275,7 @@ pub extern "C" fn fir_run(
 /// is 0 the caller goes on with the new image, else with the old one.
 #[unsafe(no_mangle)]
 pub extern "C" fn fir_change(old: &[u8], new: &[u8], state: &FirState) -> FirEntry
-    ensures says { result ≡ changed_numbers (change_of old.now new.now (held state.now)) }
+    ensures says { result ≡ grant_numbers (change_of old.now new.now (held state.now)) }
     ensures call { ChangeCall old.now new.now result state.now }
 {
     abi::fir_change(old, new, state)
@@ -449,7 +449,7 @@ pub extern "C" fn fir_pool_change(
     pool: &Pool,
     number: usize,
 ) -> FirEntry
-    ensures says { result ≡ changed_numbers (pool_change pool.now number old.now new.now (held state.now)) }
+    ensures says { result ≡ grant_numbers (pool_change pool.now number old.now new.now (held state.now)) }
     ensures call { PoolChangeCall old.now new.now pool.now number result state.now }
 {
     abi::fir_pool_change(old, new, state, pool, number)
@@ -458,7 +458,7 @@ pub extern "C" fn fir_pool_change(
 /// A step back of the run that has the number: 21, or 20, since a state of a pool has no step behind it.
 #[unsafe(no_mangle)]
 pub extern "C" fn fir_pool_back(pool: &Pool, number: usize) -> FirEntry
-    ensures { result ≡ back_numbers (pool_back pool.now number) }
+    ensures { result ≡ grant_numbers (pool_back pool.now number) }
 {
     abi::fir_pool_back(pool, number)
 }

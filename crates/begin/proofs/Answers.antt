@@ -16,7 +16,6 @@ use Rattle.machine.specs.States.{ITEMS}
 use Rattle.machine.specs.Runs.{long_enough}
 use Rattle.machine.specs.Begin.{Given, arguments, entered_of, refused, run_level, question11, question12, question13, question19}
 use Rattle.machine.specs.declared.Begun.{Begun}
-use Rattle.machine.specs.declared.Entry.{Entry}
 use Rattle.machine.specs.declared.State.{State}
 use Rattle.loaded.specs.Loaded.{entry_in, numbered_in, program_in, version_in}
 use Rattle.loaded.specs.Answers.{version_of}
@@ -27,11 +26,11 @@ use Rattle.begin.specs.declared.Entrance.{Entrance}
 
 -- ---- question 13
 
-question13-by : (s : State) (buffer : List ℤ) → question13 s buffer ≡ cond (leb ITEMS (length buffer)) (record { state = s; entry = Entry.Begun }) (refused 13 0)
+question13-by : (s : State) (buffer : List ℤ) → question13 s buffer ≡ cond (leb ITEMS (length buffer)) (record { state = s; entry = Ok tt }) (refused 13 0)
 unfolding question13 long_enough
 question13-by s buffer = go (leb ITEMS (length buffer))
   where
-    go : (b : Bool) → ◌≡◌ {A = Begun} (elim b [ true ↦ record { state = s; entry = Entry.Begun } | false ↦ refused 13 0 ]) (cond b (record { state = s; entry = Entry.Begun }) (refused 13 0))
+    go : (b : Bool) → ◌≡◌ {A = Begun} (elim b [ true ↦ record { state = s; entry = Ok tt } | false ↦ refused 13 0 ]) (cond b (record { state = s; entry = Ok tt }) (refused 13 0))
     go true = refl
     go false = refl
 

@@ -7,7 +7,6 @@ use Prim.Native.Nat.{ℕ, ◌/◌, ◌%◌}
 use lib.IntN.{ℤ}
 use Rattle.machine.specs.Begin.{Given, arguments, refused}
 use Rattle.machine.specs.declared.Begun.{Begun}
-use Rattle.machine.specs.declared.Entry.{Entry}
 use Rattle.loaded.specs.Loaded.{program_in, version_in}
 use Rattle.store.specs.Store.{state_in}
 use Rattle.begin.specs.Arguments.{arguments_in, given_by, given_to}
@@ -15,16 +14,17 @@ use Rattle.begin.specs.Arrays.{first_bytes, first_numbers}
 use Rattle.begin.specs.Asking.{Asks, Begins, begun_with, entered_at}
 use Rattle.begin.specs.declared.Entrance.{Entrance}
 use Rattle.begin.proofs.Firsts.{first-state}
+use Rattle.machine.specs.Denials.{denied}
 
 module _ (s t : List ℕ) (e : Entrance) (words buffer : List ℤ) (b : List ℕ) (n : List ℤ) {a : Result ℕ ℕ} (A : Asks a s t e words buffer) where
   -- a refusal writes nothing
-  pub refusal : {q : ℕ} → a ≡ Err q → (Entry.Refused q 0 ≡ (entered_at (program_in s t) e words buffer).entry) × Begins (Entry.Refused q 0) (program_in s t) e words buffer b n b n
+  pub refusal : {q : ℕ} → a ≡ Err q → (Err (denied q 0) ≡ (entered_at (program_in s t) e words buffer).entry) × Begins (Err (denied q 0)) (program_in s t) e words buffer b n b n
   unfolding Asks Begins refused
   refusal h = let x = rw h at A in (sym (ap (λ (r : Begun). r.entry) x), (refl, refl))
 
   -- a run that is entered has its first arrays
   pub beginning : {k : ℕ} → a ≡ Ok k → {b' : List ℕ} {n' : List ℤ} → ((ts : List ℕ) (xs : List Given) → arguments ts words ≡ some xs → (b' ≡ first_bytes (k / 4) (k % 4) xs) × (n' ≡ first_numbers xs))
-      → (Entry.Begun ≡ (entered_at (program_in s t) e words buffer).entry) × Begins Entry.Begun (program_in s t) e words buffer b n b' n'
+      → (Ok tt ≡ (entered_at (program_in s t) e words buffer).entry) × Begins (Ok tt) (program_in s t) e words buffer b n b' n'
   unfolding Asks Begins begun_with given_by version_in
   beginning {k} h {b'} {n'} w =
       let x = rw h at A in

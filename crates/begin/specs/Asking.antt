@@ -5,16 +5,16 @@ use Rattle.program.specs.Program.{Program, Version, find_version, parameter_type
 use Rattle.machine.specs.Calls.{frame_for}
 use Rattle.machine.specs.Begin.{Given, arguments, entered_of, first_state, question19, refused, values_of, vectors_of}
 use Rattle.machine.specs.declared.Begun.{Begun}
-use Rattle.machine.specs.declared.Entry.{Entry}
 use Rattle.loaded.specs.Loaded.{program_in, version_in}
 use Rattle.store.specs.Store.{state_in}
 use Rattle.begin.specs.Arguments.{arguments_in, given_to}
 use Rattle.begin.specs.Arrays.{first_bytes, first_numbers}
 use Rattle.begin.specs.declared.Entrance.{Entrance}
+use Rattle.machine.specs.Denials.{Grant}
 
 -- a run of W that was begun with these arguments
 unfoldable pub begun_with : Version → List Given → Begun
-begun_with W xs = record { state = first_state (frame_for W (values_of xs 0) ∷ []) (vectors_of xs); entry = Entry.Begun }
+begun_with W xs = record { state = first_state (frame_for W (values_of xs 0) ∷ []) (vectors_of xs); entry = Ok tt }
 
 -- the words make arguments for W, and with them a run is begun
 abbrev pub Fitting : Begun → Version → List ℤ → Type 0
@@ -37,8 +37,8 @@ Asks (Ok k) s t e words buffer =
     × Fitting (entered_at (program_in s t) e words buffer) (version_in s t k) words
 
 -- What beginning leaves: a refusal the arrays as they were; else the first state, and every byte and number is told by program, entrance and words.
-unfoldable pub Begins : Entry → Program → Entrance → List ℤ → List ℤ → List ℕ → List ℤ → List ℕ → List ℤ → Type 0
-Begins (Entry.Refused q p) P e words buffer b n b' n' = (b' ≡ b) × (n' ≡ n)
-Begins Entry.Begun P e words buffer b n b' n' =
+unfoldable pub Begins : Grant → Program → Entrance → List ℤ → List ℤ → List ℕ → List ℤ → List ℕ → List ℤ → Type 0
+Begins (Err why) P e words buffer b n b' n' = (b' ≡ b) × (n' ≡ n)
+Begins (Ok _) P e words buffer b n b' n' =
     let xs = arguments_in P e.function e.version words in
     (state_in b' n' ≡ (entered_at P e words buffer).state) × (b' ≡ first_bytes e.function e.version xs) × (n' ≡ first_numbers xs)

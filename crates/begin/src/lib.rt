@@ -15,7 +15,7 @@ ghost use Rattle.begin.specs.Asking.{Allows, Asks, Begins};
 
 use layout::bounds;
 use loaded::lookup;
-use machine::{Entry, Vector};
+use machine::{Denial, Vector};
 use typing::types;
 
 /// What a run enters, and at which level.
@@ -307,16 +307,16 @@ pub fn begin(
     buffer: &[i64],
     bytes: &mut [u8; 2632],
     numbers: &mut [i64; 2129],
-) -> Entry
+) -> Result<(), Denial>
     ensures { (result ≡ (entered_of (program_in image.now table.now) at.level at.function at.version words.now buffer.now).entry)
         × Begins result (program_in image.now table.now) at words.now buffer.now
         bytes.old numbers.old bytes.new numbers.new }
 {
     match questions(image, table, at, words, buffer) {
-        Err(q) => Entry::Refused(q, 0),
+        Err(question) => Err(Denial { question, at: 0 }),
         Ok(k) => {
             start(k, words, bytes, numbers);
-            Entry::Begun
+            Ok(())
         }
     }
 }

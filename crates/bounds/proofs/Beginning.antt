@@ -17,7 +17,6 @@ use Rattle.machine.specs.States.{PROMISES, is_promise, refers, held, live_frames
 use Rattle.machine.specs.Calls.{frame_for}
 use Rattle.machine.specs.Runs.{long_enough}
 use Rattle.machine.specs.Begin.{Given, integer, vector, arguments, values_of, vectors_of, first_state, run_level, refused, question11, question12, question13, question19, entered_of, begin_after, begin_of, program_of}
-use Rattle.machine.specs.declared.Entry.{Entry}
 use Rattle.machine.specs.declared.State.{State}
 use Rattle.runs.proofs.Lives.{refused-begun}
 use Rattle.soundness.proofs.Cells.{frame_at}
@@ -36,37 +35,37 @@ pub record First (W : Version) (s : State) : Type 0 where
   pub given : List Given
   pub is : s ≡ first_state (frame_for W (values_of given 0) ∷ []) (vectors_of given)
 
-first-13 : (W : Version) (s : State) (buffer : List ℤ) → First W s → (question13 s buffer).entry ≡ Entry.Begun → First W (question13 s buffer).state
+first-13 : (W : Version) (s : State) (buffer : List ℤ) → First W s → (question13 s buffer).entry ≡ Ok tt → First W (question13 s buffer).state
 unfolding question13 refused
 first-13 W s buffer h g = go (long_enough buffer) refl g
   where
-    go : (b : Bool) → long_enough buffer ≡ b → (question13 s buffer).entry ≡ Entry.Begun → First W (question13 s buffer).state
+    go : (b : Bool) → long_enough buffer ≡ b → (question13 s buffer).entry ≡ Ok tt → First W (question13 s buffer).state
     go true e g = rw (e, question13) h
     go false e g = absurd (refused-begun 13 0 (rw (e, question13) at g))
 
-first-12 : (W : Version) (o : Option (List Given)) (buffer : List ℤ) → (question12 W o buffer).entry ≡ Entry.Begun → First W (question12 W o buffer).state
+first-12 : (W : Version) (o : Option (List Given)) (buffer : List ℤ) → (question12 W o buffer).entry ≡ Ok tt → First W (question12 W o buffer).state
 unfolding question12 refused
 first-12 W none buffer g = absurd (refused-begun 12 0 g)
 first-12 W (some xs) buffer g = first-13 W _ buffer (record { given = xs; is = refl }) g
 
-first-19 : (level : ℕ) (W : Version) (words buffer : List ℤ) → (question19 level W words buffer).entry ≡ Entry.Begun → First W (question19 level W words buffer).state
+first-19 : (level : ℕ) (W : Version) (words buffer : List ℤ) → (question19 level W words buffer).entry ≡ Ok tt → First W (question19 level W words buffer).state
 unfolding question19 refused
 first-19 level W words buffer g = go (leb W.level (run_level level)) refl g
   where
-    go : (b : Bool) → leb W.level (run_level level) ≡ b → (question19 level W words buffer).entry ≡ Entry.Begun → First W (question19 level W words buffer).state
+    go : (b : Bool) → leb W.level (run_level level) ≡ b → (question19 level W words buffer).entry ≡ Ok tt → First W (question19 level W words buffer).state
     go true e g = rw (e, question19) (first-12 W (arguments (parameter_types W) words) buffer (rw (e, question19) at g))
     go false e g = absurd (refused-begun 19 0 (rw (e, question19) at g))
 
-first-11 : (level : ℕ) (W : Version) (o : Option Version) (words buffer : List ℤ) → o ≡ some W → (question11 level o words buffer).entry ≡ Entry.Begun → First W (question11 level o words buffer).state
+first-11 : (level : ℕ) (W : Version) (o : Option Version) (words buffer : List ℤ) → o ≡ some W → (question11 level o words buffer).entry ≡ Ok tt → First W (question11 level o words buffer).state
 unfolding question11 refused
 first-11 level W none words buffer e g = absurd (refused-begun 11 0 g)
 first-11 level W (some v) words buffer e g = let q : v ≡ W = cc in subst (λ (x : Version). First x (question19 level v words buffer).state) q (first-19 level v words buffer g)
 
-pub first-state : (image : List ℕ) (level f v : ℕ) (words buffer : List ℤ) (W : Version) → find_version (program_of image) f v ≡ some W → (begin_of image level f v words buffer).entry ≡ Entry.Begun → First W (begin_of image level f v words buffer).state
+pub first-state : (image : List ℕ) (level f v : ℕ) (words buffer : List ℤ) (W : Version) → find_version (program_of image) f v ≡ some W → (begin_of image level f v words buffer).entry ≡ Ok tt → First W (begin_of image level f v words buffer).state
 unfolding begin_of begin_after refused entered_of
 first-state image level f v words buffer W e = go (verdict_of image)
   where
-    go : (a : Verdict) → (begin_after a (program_of image) level f v words buffer).entry ≡ Entry.Begun → First W (begin_after a (program_of image) level f v words buffer).state
+    go : (a : Verdict) → (begin_after a (program_of image) level f v words buffer).entry ≡ Ok tt → First W (begin_after a (program_of image) level f v words buffer).state
     go (Err why) h = absurd (refused-begun why.question why.at h)
     go (Ok n) h = first-11 level W (find_version (program_of image) f v) words buffer e h
 

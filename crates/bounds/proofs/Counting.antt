@@ -1,4 +1,5 @@
 -- Over every list of steps and budgets: no more steps are taken than are paid for.
+use Rattle.std.specs.Prelude.{Err, Ok}
 use mathlib.Core.Path.{◌≡◌, refl, sym, ap, ◌∙◌, subst}
 use mathlib.Core.List.{List, [], ◌∷◌}
 use mathlib.Core.Bool.{Bool, true, false, not, false≢true}
@@ -15,7 +16,6 @@ use Rattle.layout.proofs.Bools.{and_both}
 use Rattle.machine.specs.Begin.{program_of}
 use Rattle.machine.specs.Changes.{change_of}
 use Rattle.machine.specs.Events.{Run, Event, single, budget, change, became, in_force, handle, handle_to, replies_to}
-use Rattle.machine.specs.declared.Changed.{Changed}
 use Rattle.machine.specs.declared.End.{End}
 use Rattle.machine.specs.declared.Ran.{Ran}
 use Rattle.machine.specs.declared.Said.{Said}
@@ -32,6 +32,7 @@ use Rattle.bounds.specs.Claim.{taken, taken_by, taken_in, is_taken, unchanged}
 use Rattle.bounds.proofs.Potential.{Paid}
 use Rattle.bounds.proofs.Priced.{Priced}
 use Rattle.bounds.proofs.Running.{After, advance-falls, paid-one}
+use Rattle.machine.specs.Denials.{Grant}
 
 -- an end adds one step at most
 last_one : (e : End) → last_step e ≤ 1
@@ -133,10 +134,10 @@ module _ (P : Program) (sure : Sure P) (bound : Version → ℕ) (G : Version �
 -- ---- lists of events under one image
 
 -- one that is not changed goes on under its image
-not_taken : (c : Changed) (image new : List ℕ) → not (is_taken (became c)) ≡ true → in_force c image new ≡ image
+not_taken : (c : Grant) (image new : List ℕ) → not (is_taken (became c)) ≡ true → in_force c image new ≡ image
 unfolding is_taken in_force
-not_taken Changed.Taken image new h = absurd (false≢true h)
-not_taken (Changed.Refused q p) image new h = refl
+not_taken (Ok _) image new h = absurd (false≢true h)
+not_taken (Err why) image new h = refl
 
 module _ (image : List ℕ) (sure : Sure (program_of image)) (bound : Version → ℕ) (G : Version → Bool) (agree : Priced (program_of image) bound G) where
   abbrev run_in : State → Run

@@ -1,4 +1,5 @@
 -- A bound holds in a pool: what is asked under a number takes no more steps there than some list of events takes without a pool.
+use Rattle.std.specs.Prelude.{Err, Ok}
 use mathlib.Core.Path.{◌≡◌, refl, sym, ap, ◌∙◌, subst}
 use mathlib.Core.Logic.{◌⊎◌, inl, inr}
 use mathlib.Core.List.{List, [], ◌∷◌}
@@ -19,9 +20,7 @@ use Rattle.machine.specs.Allowed.{vectors_in, step_with, budget_with}
 use Rattle.machine.specs.Pools.{allowed, refuses21, said_in_pool, PoolStepped, pool_step, PoolRan, pool_budget, pool_change, overfull, started_in, PoolBegun, pool_begun_as, pool_begin}
 use Rattle.machine.specs.Houses.{Ask, start, go_on, Asked, Heard, began, changed, started_run, go_on_in, ask_in, House, serve, heard_under}
 use Rattle.machine.specs.declared.Answer.{Answer}
-use Rattle.machine.specs.declared.Changed.{Changed}
 use Rattle.machine.specs.declared.End.{End}
-use Rattle.machine.specs.declared.Entry.{Entry}
 use Rattle.machine.specs.declared.Pool.{Pool}
 use Rattle.machine.specs.declared.PoolSaid.{PoolSaid}
 use Rattle.machine.specs.declared.Ran.{Ran}
@@ -37,6 +36,7 @@ use Rattle.soundness.specs.Claim.{begun}
 use Rattle.bounds.specs.Claim.{taken, taken_by, taken_in, is_taken, unchanged, AtMost}
 use Rattle.bounds.specs.Pools.{taken_turn, taken_ask, taken_under, is_new, stays_under, AtMostPool}
 use Rattle.bounds.proofs.Bounded.{bound-holds}
+use Rattle.machine.specs.Denials.{Grant, denied}
 
 -- ---- one ask: it takes k steps, and leaves the run o
 
@@ -136,16 +136,16 @@ module _ (p : Pool) (i : ℕ) where
       s : State
       s = (pool_begin image level f v words buffer p i).begun.state
 
-      go : (e : Entry) → is_new (began e) ≡ false → Costs r 0 (started_run image s (some r) e)
-      go (Entry.Refused q o) g = idle refl refl
-      go Entry.Begun g = absurd (true≢false g)
+      go : (e : Grant) → is_new (began e) ≡ false → Costs r 0 (started_run image s (some r) e)
+      go (Err why) g = idle refl refl
+      go (Ok _) g = absurd (true≢false g)
   ask-costs (go_on single) r h = single-costs r
   ask-costs (go_on (budget n buffer)) r h = budget-costs n buffer r
   ask-costs (go_on (change new)) r h = go (pool_change p i r.image new r.state) h
     where
-      go : (c : Changed) → is_new (changed c) ≡ false → Costs r 0 (some (record { image = in_force c r.image new; state = r.state }))
-      go Changed.Taken g = absurd (true≢false g)
-      go (Changed.Refused q o) g = idle refl refl
+      go : (c : Grant) → is_new (changed c) ≡ false → Costs r 0 (some (record { image = in_force c r.image new; state = r.state }))
+      go (Ok _) g = absurd (true≢false g)
+      go (Err why) g = idle refl refl
 
 -- ---- a run that has ended takes none
 
@@ -270,19 +270,19 @@ overfull-status : (s : State) → (overfull s).status ≡ Status.Ended End.Vecto
 unfolding with_end
 overfull-status s = refl
 
-refused-begun : (q o : ℕ) → began (Entry.Refused q o) ≡ began Entry.Begun → ⊥
+refused-begun : (q o : ℕ) → began (Err (denied q o)) ≡ began (Ok tt) → ⊥
 refused-begun q o e = let z : ◌≡◌ {A = ℕ} 0 1 = cc in omega arith
 
 -- a start that is not refused: it begins without a pool, and its run is the first state or has stopped
 record Starts (p : Pool) (i : ℕ) (image : List ℕ) (level f v : ℕ) (words buffer : List ℤ) (o : Option Run) : Type 0 where
-  entered : (begin_of image level f v words buffer).entry ≡ Entry.Begun
+  entered : (begin_of image level f v words buffer).entry ≡ Ok tt
   run : (o ≡ some (begun image level f v words buffer)) ⊎ (o ≡ some (record { image = image; state = overfull (begin_of image level f v words buffer).state }))
 
-begun-starts : (p : Pool) (i : ℕ) (image : List ℕ) (level f v : ℕ) (words buffer : List ℤ) (o : Option Run) (e : Entry) → let b = begin_of image level f v words buffer in
-    b.entry ≡ e → let y = pool_begun_as p i b e in began y.begun.entry ≡ began Entry.Begun → Starts p i image level f v words buffer (started_run image y.begun.state o y.begun.entry)
+begun-starts : (p : Pool) (i : ℕ) (image : List ℕ) (level f v : ℕ) (words buffer : List ℤ) (o : Option Run) (e : Grant) → let b = begin_of image level f v words buffer in
+    b.entry ≡ e → let y = pool_begun_as p i b e in began y.begun.entry ≡ began (Ok tt) → Starts p i image level f v words buffer (started_run image y.begun.state o y.begun.entry)
 unfolding pool_begun_as started_run started_in
-begun-starts p i image level f v words buffer o (Entry.Refused q k) d h = absurd (refused-begun q k (ap began (sym d) ∙ h))
-begun-starts p i image level f v words buffer o Entry.Begun d h = record { entered = d; run = go (leb (vectors_in s) (allowed p i)) }
+begun-starts p i image level f v words buffer o (Err why) d h = absurd (refused-begun why.question why.at (ap began (sym d) ∙ h))
+begun-starts p i image level f v words buffer o (Ok _) d h = record { entered = d; run = go (leb (vectors_in s) (allowed p i)) }
   where
     s : State
     s = (begin_of image level f v words buffer).state
@@ -291,13 +291,13 @@ begun-starts p i image level f v words buffer o Entry.Begun d h = record { enter
     go true = inl refl
     go false = inr refl
 
-start-starts : (p : Pool) (i : ℕ) (image : List ℕ) (level f v : ℕ) (words buffer : List ℤ) (o : Option Run) → let y = pool_begin image level f v words buffer p i in began y.begun.entry ≡ began Entry.Begun
+start-starts : (p : Pool) (i : ℕ) (image : List ℕ) (level f v : ℕ) (words buffer : List ℤ) (o : Option Run) → let y = pool_begin image level f v words buffer p i in began y.begun.entry ≡ began (Ok tt)
     → Starts p i image level f v words buffer (started_run image y.begun.state o y.begun.entry)
 unfolding refused
 start-starts p i image level f v words buffer o = go (refuses21 p i) refl
   where
     At : PoolBegun → Type 0
-    At y = began y.begun.entry ≡ began Entry.Begun → Starts p i image level f v words buffer (started_run image y.begun.state o y.begun.entry)
+    At y = began y.begun.entry ≡ began (Ok tt) → Starts p i image level f v words buffer (started_run image y.begun.state o y.begun.entry)
 
     go : (b : Bool) → refuses21 p i ≡ b → At (pool_begin image level f v words buffer p i)
     go true e = subst At (sym (begin-21 p i e image level f v words buffer)) (λ h. absurd (refused-begun 21 0 h))

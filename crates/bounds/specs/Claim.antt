@@ -1,5 +1,5 @@
 -- 02, 12, how long at most: a run never takes more steps than a bound given for its entry; none exactly where a chain of dependence comes back. The statements alone.
-use Rattle.std.specs.Prelude.{◌≡◌, Bool, true, false, cond, not, ℕ, suc, ◌+◌, ◌≤◌, ◌<◌, ℤ, Ok}
+use Rattle.std.specs.Prelude.{◌≡◌, Bool, true, false, cond, not, ℕ, suc, ◌+◌, ◌≤◌, ◌<◌, ℤ, Ok, Err}
 use mathlib.Core.List.{List, [], ◌∷◌, Memᴰ}
 use Rattle.std.proofs.Math.Option.{some}
 use Rattle.program.specs.Program.{Version, Program, find_version}
@@ -7,8 +7,6 @@ use Rattle.checker.specs.Verdicts.{verdict_of}
 use Rattle.machine.specs.Runs.{last_step, step_of, budget_of}
 use Rattle.machine.specs.Begin.{begin_of, program_of}
 use Rattle.machine.specs.Events.{Run, Event, single, budget, change, Reply, said, gave, became, program_in, handle, replies}
-use Rattle.machine.specs.declared.Changed.{Changed}
-use Rattle.machine.specs.declared.Entry.{Entry}
 use Rattle.machine.specs.declared.Said.{Said}
 use Rattle.machine.specs.declared.Status.{Status}
 use Rattle.layout.specs.Tests.{all}
@@ -39,8 +37,8 @@ taken_in (e ∷ es) r = taken_by e r + taken_in es (handle e r).run
 unfoldable pub is_taken : Reply → Bool
 is_taken (said d) = false
 is_taken (gave a n buffer) = false
-is_taken (became Changed.Taken) = true
-is_taken (became (Changed.Refused q p)) = false
+is_taken (became (Ok _)) = true
+is_taken (became (Err why)) = false
 
 -- no change by 3) came between
 unfoldable pub unchanged : List Event → Run → Bool
@@ -49,7 +47,7 @@ unchanged events r = all (λ (x : Reply). not (is_taken x)) (replies events r)
 -- Shown for any arguments and budget, at any level, where no change by 3) came between: a run never takes more steps than a bound given for its entry
 unfoldable pub AtMost : Type 0
 AtMost =
-    (image : List ℕ) (level f v : ℕ) (words buffer : List ℤ) → (begin_of image level f v words buffer).entry ≡ Entry.Begun
+    (image : List ℕ) (level f v : ℕ) (words buffer : List ℤ) → (begin_of image level f v words buffer).entry ≡ Ok tt
     → (W : Version) → find_version (program_of image) f v ≡ some W → (n : ℕ) → bound_of (program_of image) W ≡ steps n
     → (events : List Event) → let r = begun image level f v words buffer in unchanged events r ≡ true → taken_in events r ≤ n
 

@@ -1,5 +1,5 @@
 -- 02, 12 in the pool of 02, 10: a run under a number never takes more steps than a bound given for its entry. The statement alone.
-use Rattle.std.specs.Prelude.{◌≡◌, List, [], ◌∷◌, Bool, true, false, cond, not, ℕ, ◌+◌, ◌≤◌, ℤ, eqb}
+use Rattle.std.specs.Prelude.{◌≡◌, List, [], ◌∷◌, Bool, true, false, cond, not, ℕ, ◌+◌, ◌≤◌, ℤ, eqb, Err, Ok}
 use Rattle.std.proofs.Math.Option.{Option, none, some}
 use Rattle.layout.specs.Tests.{all}
 use Rattle.program.specs.Program.{Version, find_version}
@@ -8,8 +8,6 @@ use Rattle.machine.specs.Begin.{program_of}
 use Rattle.machine.specs.Events.{Run, single, budget, change, program_in}
 use Rattle.machine.specs.Pools.{pool_step, pool_budget}
 use Rattle.machine.specs.Houses.{Ask, start, go_on, Asked, Heard, began, turned, spent, changed, nobody, House, serve, heard_under}
-use Rattle.machine.specs.declared.Changed.{Changed}
-use Rattle.machine.specs.declared.Entry.{Entry}
 use Rattle.machine.specs.declared.Pool.{Pool}
 use Rattle.machine.specs.declared.PoolSaid.{PoolSaid}
 use Rattle.machine.specs.declared.Status.{Status}
@@ -38,12 +36,12 @@ taken_under i (a ∷ l) w = cond (eqb a.number i) (taken_ask w.pool i a.ask (w.r
 
 -- another run or another image: a start that is not refused, or a change by 3) that is taken
 unfoldable pub is_new : Heard → Bool
-is_new (began Entry.Begun) = true
-is_new (began (Entry.Refused q p)) = false
+is_new (began (Ok _)) = true
+is_new (began (Err why)) = false
 is_new (turned t) = false
 is_new (spent a n buffer) = false
-is_new (changed Changed.Taken) = true
-is_new (changed (Changed.Refused q p)) = false
+is_new (changed (Ok _)) = true
+is_new (changed (Err why)) = false
 is_new nobody = false
 
 -- none of them came between, under i
@@ -55,5 +53,5 @@ stays_under i l w = all (λ (h : Heard). not (is_new h)) (heard_under i l w)
 unfoldable pub AtMostPool : Type 0
 AtMostPool =
     (w : House) (i : ℕ) (image : List ℕ) (level f v : ℕ) (words buffer : List ℤ) → let a : Asked = record { number = i; ask = start image level f v words buffer } in
-    (serve a w).heard ≡ began Entry.Begun → (W : Version) → find_version (program_of image) f v ≡ some W → (n : ℕ) → bound_of (program_of image) W ≡ steps n
+    (serve a w).heard ≡ began (Ok tt) → (W : Version) → find_version (program_of image) f v ≡ some W → (n : ℕ) → bound_of (program_of image) W ≡ steps n
     → (l : List Asked) → let u = (serve a w).house in stays_under i l u ≡ true → taken_under i l u ≤ n

@@ -14,7 +14,7 @@ ghost use Rattle.changes.specs.Parts.{end_at, part_at};
 use checker::questions;
 use layout::kinds;
 use layout::records::Records;
-use machine::Changed;
+use machine::Denial;
 use program::{Here, lookup, pass};
 
 /// How many frames a state has.
@@ -191,14 +191,20 @@ fn answer_15(old: &[u8], new: &[u8], bytes: &[u8; 2632]) -> Option<usize>
 
 /// Whether a state with these bytes goes on under the new image, whatever its numbers are. Nothing is written: the
 /// state is carried over whole, and stays under the old image where the new one is refused.
-pub fn change(old: &[u8], new: &[u8], bytes: &[u8; 2632]) -> Changed
+pub fn change(old: &[u8], new: &[u8], bytes: &[u8; 2632]) -> Result<(), Denial>
     ensures { (n : List ℤ) → result ≡ change_of old.now new.now (state_in bytes.now n) }
 {
     match questions::verdict(new) {
-        Err(why) => Changed::Refused(why.question, why.at as u16),
+        Err(why) => Err(Denial {
+            question: why.question,
+            at: why.at as u16,
+        }),
         Ok(_) => match answer_15(old, new, bytes) {
-            None => Changed::Taken,
-            Some(p) => Changed::Refused(15, p as u16),
+            None => Ok(()),
+            Some(p) => Err(Denial {
+                question: 15,
+                at: p as u16,
+            }),
         },
     }
 }

@@ -31,7 +31,6 @@ use Rattle.rules.specs.Flows.{question10}
 use Rattle.checker.specs.Verdicts.{verdict_of, Verdict, refused as refused_by}
 use Rattle.checker.proofs.Accepted.{Passed, passed, accept}
 use Rattle.machine.specs.Begin.{begin_of, begin_after, entered_of, question11, refused, run_after, run_after_to, run_of, run_of_to, program_of}
-use Rattle.machine.specs.declared.Entry.{Entry}
 use Rattle.joins.specs.Shifted.{shift_version, shift_program}
 use Rattle.joins.specs.Joins.{functions_in, versions_in, joined, in_bounds, join_after, join_of, raise_rec}
 use Rattle.joins.specs.Alongside.{Carries, Closed, SimRan, SimBegun}
@@ -43,6 +42,7 @@ use Rattle.joins.proofs.Questions.{asks6, asks7, asks8, asks18, asks9, asks10}
 use Rattle.joins.proofs.Together.{Below, below-records, names_in, carries-first, carries-second, first-joined, find-high}
 use Rattle.joins.proofs.Runs.{budget-sim, buffer-sim, events-sim, begun-sim}
 use Rattle.joins.specs.declared.JoinError.TheVariants.{Together}
+use Rattle.machine.specs.Denials.{Grant, denied}
 
 -- ---- what an accepted image gives
 
@@ -72,9 +72,9 @@ module _ (k o n : ℕ) (s t : List ℕ) (x y : ℕ) (va : verdict_of s ≡ Ok x)
   unfolding run_of_to run_after_to
   run-same level f v words m buffer h = go (begin_of s level f v words buffer).entry (begin_of t level (k + f) v words buffer).entry (begin-same level f v words buffer h).entries
     where
-      go : (p q : Entry) → q ≡ p → SimRan k n (run_after p (program_of s) (begin_of s level f v words buffer).state m buffer) (run_after q (program_of t) (begin_of t level (k + f) v words buffer).state m buffer)
-      go (Entry.Refused c d) q e = rw e (record { answers = refl; steps = refl; states = (begin-same level f v words buffer h).states })
-      go Entry.Begun q e = rw e (budget-sim k o n (program_of s) (program_of t) C D m buffer (begin_of s level f v words buffer).state (begin_of t level (k + f) v words buffer).state (begin-same level f v words buffer h).states)
+      go : (p q : Grant) → q ≡ p → SimRan k n (run_after p (program_of s) (begin_of s level f v words buffer).state m buffer) (run_after q (program_of t) (begin_of t level (k + f) v words buffer).state m buffer)
+      go (Err why) q e = rw e (record { answers = refl; steps = refl; states = (begin-same level f v words buffer h).states })
+      go (Ok _) q e = rw e (budget-sim k o n (program_of s) (program_of t) C D m buffer (begin_of s level f v words buffer).state (begin_of t level (k + f) v words buffer).state (begin-same level f v words buffer h).states)
 
   pub same_runs : (f : ℕ) → f < n → SameRuns k n s f t (k + f)
   same_runs f h = record {
@@ -191,7 +191,7 @@ module _ (a b : List ℕ) (n m room : ℕ) (va : verdict_of a ≡ Ok n) (vb : ve
   accepted-joined = accept passed-joined
 
   -- no version stands behind those of both
-  others-joined : (level f v : ℕ) (words buffer : List ℤ) → k + functions_in b ≤ f → (begin_of (joined a b) level f v words buffer).entry ≡ Entry.Refused 11 0
+  others-joined : (level f v : ℕ) (words buffer : List ℤ) → k + functions_in b ≤ f → (begin_of (joined a b) level f v words buffer).entry ≡ Err (denied 11 0)
   unfolding begin_of begin_after entered_of question11 refused
   others-joined level f v words buffer h = rw (accepted-joined, joined-program, find-high k (functions_in b) o (program_of a) (program_of b) below-a below-b f v h) refl
 

@@ -1,4 +1,5 @@
 -- Steps, budgets, lists of events and beginnings under a program, and under one in which it stands renumbered.
+use Rattle.std.specs.Prelude.{Ok}
 use mathlib.Core.Path.{◌≡◌, refl, sym, ap, subst}
 use mathlib.Core.List.{List, [], ◌∷◌}
 use mathlib.Core.Option.{Option, none, some}
@@ -17,7 +18,6 @@ use Rattle.machine.specs.Runs.{saying, settled, step_in, step_in_to, step_of, st
 use Rattle.machine.specs.Events.{Event, single, budget, change, handle_to, after, after_to, replies, replies_to}
 use Rattle.machine.specs.Begin.{Given, values_of, vectors_of, first_state, arguments, refused, question13, question12, question19, question11, run_level, entered_of, program_of}
 use Rattle.machine.specs.declared.Answer.{Answer}
-use Rattle.machine.specs.declared.Entry.{Entry}
 use Rattle.machine.specs.declared.Frame.{Frame}
 use Rattle.machine.specs.declared.Ran.{Ran}
 use Rattle.machine.specs.declared.Said.{Said}
@@ -105,8 +105,8 @@ module _ (k o n : ℕ) (P J : Program) (C : Carries k o n P J) (D : Closed n P) 
   begun-sim level f w words buffer h = subst (λ (x : Option Version). SimBegun k n (question11 level (find_version P f w) words buffer) (question11 level x words buffer)) (sym (C.look f w h)) (go (find_version P f w) refl)
     where
       third : (W : Version) (xs : List Given) (b : Bool) → W.function < n
-          → SimBegun k n (elim b [ true ↦ record { state = first_state (frame_for W (values_of xs 0) ∷ []) (vectors_of xs); entry = Entry.Begun } | false ↦ refused 13 0 ])
-          (elim b [ true ↦ record { state = first_state (frame_for (shift_version k o W) (values_of xs 0) ∷ []) (vectors_of xs); entry = Entry.Begun } | false ↦ refused 13 0 ])
+          → SimBegun k n (elim b [ true ↦ record { state = first_state (frame_for W (values_of xs 0) ∷ []) (vectors_of xs); entry = Ok tt } | false ↦ refused 13 0 ])
+          (elim b [ true ↦ record { state = first_state (frame_for (shift_version k o W) (values_of xs 0) ∷ []) (vectors_of xs); entry = Ok tt } | false ↦ refused 13 0 ])
       third W xs true l = record { entries = refl; states = first-sim W xs l }
       third W xs false l = refused-sim 13 0
 

@@ -1,12 +1,12 @@
 -- 02, 13: what is promised of a join that was written: the statements alone.
-use Rattle.std.specs.Prelude.{◌≡◌, List, [], ◌∷◌, ℕ, ◌+◌, ◌≤◌, ◌<◌, ℤ, length, Ok}
+use Rattle.std.specs.Prelude.{◌≡◌, List, [], ◌∷◌, ℕ, ◌+◌, ◌≤◌, ◌<◌, ℤ, length, Ok, Err}
 use Rattle.checker.specs.Verdicts.{verdict_of}
 use Rattle.machine.specs.Runs.{buffer_of}
 use Rattle.machine.specs.Events.{Run, Event, single, budget, change, after, replies}
 use Rattle.machine.specs.Begin.{begin_of, run_of}
-use Rattle.machine.specs.declared.Entry.{Entry}
 use Rattle.joins.specs.Joins.{functions_in, versions_in, joined, join_of}
 use Rattle.joins.specs.Alongside.{Sim}
+use Rattle.machine.specs.Denials.{denied}
 
 -- single steps and budgets alone: the run stays under its image
 unfoldable pub Stays : List Event → Type 0
@@ -41,7 +41,7 @@ pub record Joins (a b : List ℕ) (n : ℕ) : Type 0 where
   pub first : (f : ℕ) → f < functions_in a → SameRuns 0 (functions_in a) a f (joined a b) f
   pub second : (f : ℕ) → f < functions_in b → SameRuns (functions_in a) (functions_in b) b f (joined a b) (functions_in a + f)
   -- and there is no other: 11
-  pub others : (level f v : ℕ) (words buffer : List ℤ) → functions_in a + functions_in b ≤ f → (begin_of (joined a b) level f v words buffer).entry ≡ Entry.Refused 11 0
+  pub others : (level f v : ℕ) (words buffer : List ℤ) → functions_in a + functions_in b ≤ f → (begin_of (joined a b) level f v words buffer).entry ≡ Err (denied 11 0)
 
 -- of any two images and any lent buffer
 unfoldable pub JoinsWell : Type 0

@@ -1,5 +1,5 @@
 -- A loaded image runs as its program: begins, steps, budgets, steps back, searches, positions and records of the topmost call are the same, for every state, in a pool too.
-use Rattle.std.specs.Prelude.{Err, Ok}
+use Rattle.std.specs.Prelude.{Err, Ok, Result}
 use mathlib.Core.Path.{◌≡◌, refl, sym, ap, ap₂, ◌∙◌}
 use mathlib.Core.List.{List, [], ◌∷◌}
 use mathlib.Core.Bool.{Bool, true, false}
@@ -28,11 +28,9 @@ use Rattle.machine.specs.Values.{RANGE}
 use Rattle.machine.specs.Watches.{mark_in, newest, or_empty, or_zero, promise_row, row_of, rows_after, rows_at, rows_from, rows_of, watch_of, watched_of}
 use Rattle.machine.specs.declared.Activation.{Activation}
 use Rattle.machine.specs.declared.Answer.{Answer}
-use Rattle.machine.specs.declared.Back.{Back}
 use Rattle.machine.specs.declared.Begun.{Begun}
 use Rattle.machine.specs.declared.Behind.{Behind}
 use Rattle.machine.specs.declared.End.{End}
-use Rattle.machine.specs.declared.Entry.{Entry}
 use Rattle.machine.specs.declared.Frame.{Frame}
 use Rattle.machine.specs.declared.Opener.{Opener}
 use Rattle.machine.specs.declared.Pool.{Pool}
@@ -46,12 +44,13 @@ use Rattle.machine.specs.declared.Status.{Status}
 use Rattle.machine.specs.declared.Stepped.{Stepped}
 use Rattle.machine.specs.declared.Trail.{Trail}
 use Rattle.machine.specs.declared.Value.{Value}
-use Rattle.machine.specs.declared.Watch.{Watch}
 use Rattle.runs.specs.Alike.{AllAlike, bare_of}
 use Rattle.runs.proofs.Alike.{advance-alike, alike_self, bind-same, entered-alike, execute-alike, kind-alike}
 use Rattle.loaded.specs.Loaded.{program_in}
 use Rattle.loaded.specs.Loading.{Stands, answered, load_of}
 use Rattle.loaded.specs.Running.{run_in_to}
+use Rattle.machine.specs.declared.Denial.{Denial}
+use Rattle.machine.specs.Denials.{denied, Grant}
 
 -- two programs with the same versions under the same numbers, offsets too
 module _ (P Q : Program) (h : (f w : ℕ) → find_version P f w ≡ find_version Q f w) where
@@ -101,7 +100,7 @@ module _ (P Q : Program) (h : (f w : ℕ) → find_version P f w ≡ find_versio
   back-same t = go t.behind
     where
       again : ℕ → Ran → Returned
-      again m r = record { trail = record { start = t.start; behind = Behind.Steps m; state = r.state }; back = Back.Taken }
+      again m r = record { trail = record { start = t.start; behind = Behind.Steps m; state = r.state }; back = Ok tt }
 
       go : (b : Behind) → back_by P t b ≡ back_by Q t b
       go Behind.Past = refl
@@ -201,8 +200,8 @@ module _ (P Q : Program) (h : (f w : ℕ) → find_version P f w ≡ find_versio
   unfolding watched_of
   watched-same x n = ap filled (watch-same x)
     where
-      filled : List Row → Watch
-      filled rows = elim (leb (length rows) n) [ true ↦ Watch.Filled (length rows) | false ↦ Watch.Refused 22 0 ]
+      filled : List Row → Result ℕ Denial
+      filled rows = elim (leb (length rows) n) [ true ↦ Ok (length rows) | false ↦ Err (denied 22 0) ]
 
   pub rows-after-same : (x : State) (rows : List Row) → rows_after P x rows ≡ rows_after Q x rows
   unfolding rows_after
@@ -362,9 +361,9 @@ unfolding pool_run_as
 loaded-pool-run s t m n e h level f w words buffer p i k = let b = begin_of s level f w words buffer in ap (λ (x : Begun). pool_run_by (program_in s t) p i x k buffer)
     (loaded-begin s t m n e h level f w words buffer) ∙ go (pool_begun_by p i b) (pool_begun_by p i b).begun.entry
   where
-    go : (x : PoolBegun) (y : Entry) → pool_run_as (program_in s t) i k buffer x y ≡ pool_run_as (program_of s) i k buffer x y
-    go x (Entry.Refused q o) = refl
-    go x Entry.Begun = loaded-pool-budget s t n h x.pool i x.begun.state k buffer
+    go : (x : PoolBegun) (y : Grant) → pool_run_as (program_in s t) i k buffer x y ≡ pool_run_as (program_of s) i k buffer x y
+    go x (Err why) = refl
+    go x (Ok _) = loaded-pool-budget s t n h x.pool i x.begun.state k buffer
 
 -- a run from the start
 pub loaded-run : (s t : List ℕ) (m n : ℕ) → load_of s m ≡ Ok n → Stands s t (Ok n) → (R level f w : ℕ) (words : List ℤ) (k : ℕ) (buffer : List ℤ)
@@ -374,6 +373,6 @@ loaded-run s t m n e h R level f w words k buffer =
     let b = begin_of s level f w words buffer in
     ap (λ (x : Begun). run_after_to R x.entry (program_in s t) x.state k buffer) (loaded-begin s t m n e h level f w words buffer) ∙ go b.entry b.state
   where
-    go : (x : Entry) (y : State) → run_after_to R x (program_in s t) y k buffer ≡ run_after_to R x (program_of s) y k buffer
-    go (Entry.Refused q p) y = refl
-    go Entry.Begun y = loaded-budget s t n h R y k buffer
+    go : (x : Grant) (y : State) → run_after_to R x (program_in s t) y k buffer ≡ run_after_to R x (program_of s) y k buffer
+    go (Err why) y = refl
+    go (Ok _) y = loaded-budget s t n h R y k buffer

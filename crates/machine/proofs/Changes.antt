@@ -27,8 +27,8 @@ use Rattle.checker.proofs.Asks.{same_ahead, accepted-short}
 use Rattle.checker.proofs.Offsets.{first-low}
 use Rattle.machine.specs.Begin.{program_of}
 use Rattle.machine.specs.Changes.{start_of, slice, bytes_in, bytes_of, same_bytes, is_live, same_in, question15, all_there, missing, answer15, changed_by, change_after, change_of}
-use Rattle.machine.specs.declared.Changed.{Changed}
 use Rattle.machine.specs.declared.State.{State}
+use Rattle.machine.specs.Denials.{denied}
 
 -- ---- the bytes of a version, by its place
 
@@ -192,16 +192,16 @@ module _ (old new : List ℕ) (s : State) where
           last false k = let y : length new ≡ p = cc in omega arith
 
   -- the change, by the verdict on the new image and the answer
-  pub change-refused : (q p : ℕ) → verdict_of new ≡ Err (refused q p) → change_of old new s ≡ Changed.Refused q p
+  pub change-refused : (q p : ℕ) → verdict_of new ≡ Err (refused q p) → change_of old new s ≡ Err (denied q p)
   unfolding change_of change_after
   change-refused q p e = rw e refl
 
   module _ (k : ℕ) (e : verdict_of new ≡ Ok k) where
-    pub change-taken : answer15 old new s ≡ None → change_of old new s ≡ Changed.Taken
+    pub change-taken : answer15 old new s ≡ None → change_of old new s ≡ Ok tt
     unfolding change_of change_after changed_by
     change-taken h = rw (e, h) refl
 
-    pub change-differs : (p : ℕ) → answer15 old new s ≡ Some p → change_of old new s ≡ Changed.Refused 15 p
+    pub change-differs : (p : ℕ) → answer15 old new s ≡ Some p → change_of old new s ≡ Err (denied 15 p)
     unfolding change_of change_after changed_by
     change-differs p h = rw (e, h) refl
 

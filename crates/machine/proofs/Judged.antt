@@ -1,4 +1,5 @@
 -- Steps, computed: what each instruction leaves in a small state, what makes it stuck or UNDEF, and what block ends, DISPATCH, 19, changes and history come to. A wrong clause makes a row false.
+use Rattle.std.specs.Prelude.{Err, Ok}
 use mathlib.Core.Path.{◌≡◌, refl, ap, ◌∙◌}
 use mathlib.Core.List.{List, [], ◌∷◌, ◌++◌, map}
 use mathlib.Core.Bool.{true}
@@ -23,9 +24,7 @@ use Rattle.machine.specs.Changes.{change_of}
 use Rattle.machine.specs.Events.{Run, Event, program_in, single, budget, change, in_force, handle, handle_to, in_state, onward, tried_under, tried_in, tried_by, tried, history}
 use Rattle.machine.specs.declared.Activation.{Activation}
 use Rattle.machine.specs.declared.Cache.{Cache}
-use Rattle.machine.specs.declared.Changed.{Changed}
 use Rattle.machine.specs.declared.End.{End}
-use Rattle.machine.specs.declared.Entry.{Entry}
 use Rattle.machine.specs.declared.Frame.{Frame}
 use Rattle.machine.specs.declared.Opener.{Opener}
 use Rattle.machine.specs.declared.Promise.{Promise}
@@ -34,6 +33,7 @@ use Rattle.machine.specs.declared.State.{State}
 use Rattle.machine.specs.declared.Status.{Status}
 use Rattle.machine.specs.declared.Value.{Value}
 use Rattle.machine.specs.declared.Vector.{Vector}
+use Rattle.machine.specs.Denials.{denied, Grant}
 
 -- ---- a small state
 
@@ -192,21 +192,21 @@ unpicked-are = refl
 
 -- ---- 19: a run of a version of level 1, without parameters, at the levels 0, 1, 2 and 7
 
-entry_at : ℕ → Entry
+entry_at : ℕ → Grant
 entry_at level = (question19 level (version 0 0 (2 ∷ []) 0 1) [] (replicate 16 (pos 0))).entry
 
-levels-are : map entry_at (0 ∷ 1 ∷ 2 ∷ 7 ∷ []) ≡ Entry.Refused 19 0 ∷ Entry.Begun ∷ Entry.Begun ∷ Entry.Begun ∷ []
+levels-are : map entry_at (0 ∷ 1 ∷ 2 ∷ 7 ∷ []) ≡ Err (denied 19 0) ∷ (Ok tt) ∷ (Ok tt) ∷ (Ok tt) ∷ []
 unfolding entry_at version block question19 question12 question13 refused run_level arguments long_enough
 levels-are = refl
 
 -- ---- events, for every run
 
 -- a change that is refused leaves the run, one that is taken the state
-refused-change : (r : Run) (new : List ℕ) (q p : ℕ) → change_of r.image new r.state ≡ Changed.Refused q p → (handle (change new) r).run ≡ r
+refused-change : (r : Run) (new : List ℕ) (q p : ℕ) → change_of r.image new r.state ≡ Err (denied q p) → (handle (change new) r).run ≡ r
 unfolding handle_to in_force
 refused-change r new q p e = rw e refl
 
-taken-change : (r : Run) (new : List ℕ) → change_of r.image new r.state ≡ Changed.Taken → (handle (change new) r).run ≡ record { image = new; state = r.state }
+taken-change : (r : Run) (new : List ℕ) → change_of r.image new r.state ≡ Ok tt → (handle (change new) r).run ≡ record { image = new; state = r.state }
 unfolding handle_to in_force
 taken-change r new e = rw e refl
 

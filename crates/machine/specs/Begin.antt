@@ -13,7 +13,6 @@ use Rattle.machine.specs.Runs.{long_enough, budget_of_to}
 use Rattle.machine.specs.declared.Answer.{Answer}
 use Rattle.machine.specs.declared.Begun.{Begun}
 use Rattle.machine.specs.declared.Cache.{Cache}
-use Rattle.machine.specs.declared.Entry.{Entry}
 use Rattle.machine.specs.declared.Frame.{Frame}
 use Rattle.machine.specs.declared.Opener.{Opener}
 use Rattle.machine.specs.declared.Ran.{Ran}
@@ -21,6 +20,7 @@ use Rattle.machine.specs.declared.State.{State}
 use Rattle.machine.specs.declared.Status.{Status}
 use Rattle.machine.specs.declared.Value.{Value}
 use Rattle.machine.specs.declared.Vector.{Vector}
+use Rattle.machine.specs.Denials.{Grant, denied}
 
 -- ---- 12: arguments
 
@@ -87,11 +87,11 @@ first_state fs ws = record {
 
 -- a refusal; no call is live
 unfoldable pub refused : ℕ → ℕ → Begun
-refused q p = record { state = first_state [] []; entry = Entry.Refused q p }
+refused q p = record { state = first_state [] []; entry = Err (denied q p) }
 
 -- 13: has the result buffer at least 16 places?
 unfoldable pub question13 : State → List ℤ → Begun
-question13 s buffer = elim (long_enough buffer) [ true ↦ record { state = s; entry = Entry.Begun } | false ↦ refused 13 0 ]
+question13 s buffer = elim (long_enough buffer) [ true ↦ record { state = s; entry = Ok tt } | false ↦ refused 13 0 ]
 
 -- 12: do the argument words use up exactly, each argument matching its parameter's kind? `none` says no
 unfoldable pub question12 : Version → Option (List Given) → List ℤ → Begun
@@ -131,9 +131,9 @@ begin_of image level f v words buffer = begin_after (verdict_of image) (program_
 -- ---- from the start
 
 -- a budget given at the start counts as the first; a refusal takes no step
-unfoldable pub run_after_to : ℕ → Entry → Program → State → ℕ → List ℤ → Ran
-run_after_to R (Entry.Refused q p) P s n buffer = record { state = s; answer = Answer.Refused q p; steps = 0 }
-run_after_to R Entry.Begun P s n buffer = budget_of_to R P s n buffer
+unfoldable pub run_after_to : ℕ → Grant → Program → State → ℕ → List ℤ → Ran
+run_after_to R (Err why) P s n buffer = record { state = s; answer = Answer.Refused why.question why.at; steps = 0 }
+run_after_to R (Ok _) P s n buffer = budget_of_to R P s n buffer
 
 -- a run from the start: it is begun and gets its first budget
 unfoldable pub run_of_to : ℕ → List ℕ → ℕ → ℕ → ℕ → List ℤ → ℕ → List ℤ → Ran
@@ -141,7 +141,7 @@ run_of_to R image level f v words n buffer = let b = begin_of image level f v wo
 
 -- ---- in the range in force
 
-abbrev pub run_after : Entry → Program → State → ℕ → List ℤ → Ran
+abbrev pub run_after : Grant → Program → State → ℕ → List ℤ → Ran
 run_after e P s n buffer = run_after_to RANGE e P s n buffer
 
 abbrev pub run_of : List ℕ → ℕ → ℕ → ℕ → List ℤ → ℕ → List ℤ → Ran

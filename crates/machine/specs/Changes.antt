@@ -8,9 +8,9 @@ use Rattle.program.specs.Search.{Question, free, first}
 use Rattle.checker.specs.Verdicts.{verdict_of, Verdict}
 use Rattle.machine.specs.States.{live_frames}
 use Rattle.machine.specs.Begin.{program_of}
-use Rattle.machine.specs.declared.Changed.{Changed}
 use Rattle.machine.specs.declared.Frame.{Frame}
 use Rattle.machine.specs.declared.State.{State}
+use Rattle.machine.specs.Denials.{Grant, denied}
 
 -- ---- the bytes of a version
 
@@ -73,15 +73,15 @@ answer15 old new s = missing new s (first (question15 old new s) (program_of new
 -- ---- the change
 
 -- a no gives 15 and its offset
-unfoldable pub changed_by : Found → Changed
-changed_by None = Changed.Taken
-changed_by (Some p) = Changed.Refused 15 p
+unfoldable pub changed_by : Found → Grant
+changed_by None = Ok tt
+changed_by (Some p) = Err (denied 15 p)
 
 -- after the questions to the new image
-unfoldable pub change_after : Verdict → List ℕ → List ℕ → State → Changed
-change_after (Err why) old new s = Changed.Refused why.question why.at
+unfoldable pub change_after : Verdict → List ℕ → List ℕ → State → Grant
+change_after (Err why) old new s = Err (denied why.question why.at)
 change_after (Ok n) old new s = changed_by (answer15 old new s)
 
 -- 02, 3: from the old image to the new one, in the state s, which is carried over whole
-unfoldable pub change_of : List ℕ → List ℕ → State → Changed
+unfoldable pub change_of : List ℕ → List ℕ → State → Grant
 change_of old new s = change_after (verdict_of new) old new s

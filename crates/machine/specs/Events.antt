@@ -1,15 +1,15 @@
 -- What demand 3 speaks of: lists of single steps, budgets and changes of the image, and what each leaves.
-use Rattle.std.specs.Prelude.{List, [], ◌∷◌, ◌++◌, map, true, false, ℕ, zero, suc, ℤ}
+use Rattle.std.specs.Prelude.{List, [], ◌∷◌, ◌++◌, map, true, false, ℕ, zero, suc, ℤ, Err, Ok}
 use Rattle.program.specs.Program.{Program}
 use Rattle.machine.specs.Values.{RANGE}
 use Rattle.machine.specs.Runs.{long_enough, step_of, step_of_to, budget_of_to, buffer_of}
 use Rattle.machine.specs.Begin.{program_of}
 use Rattle.machine.specs.Changes.{change_of}
 use Rattle.machine.specs.declared.Answer.{Answer}
-use Rattle.machine.specs.declared.Changed.{Changed}
 use Rattle.machine.specs.declared.Said.{Said}
 use Rattle.machine.specs.declared.State.{State}
 use Rattle.machine.specs.declared.Status.{Status}
+use Rattle.machine.specs.Denials.{Grant}
 
 -- a run: its state, and the image in force
 pub record Run : Type 0 where
@@ -34,7 +34,7 @@ pub data Event : Type 0 where
 pub data Reply : Type 0 where
   said : Said → Reply
   gave : Answer → ℕ → List ℤ → Reply
-  became : Changed → Reply
+  became : Grant → Reply
 
 -- the run that an event returns or leaves, and its reply
 pub record Handled : Type 0 where
@@ -42,9 +42,9 @@ pub record Handled : Type 0 where
   pub reply : Reply
 
 -- the image in force after a change; any refusal leaves the state under the old one
-unfoldable pub in_force : Changed → List ℕ → List ℕ → List ℕ
-in_force Changed.Taken old new = new
-in_force (Changed.Refused q p) old new = old
+unfoldable pub in_force : Grant → List ℕ → List ℕ → List ℕ
+in_force (Ok _) old new = new
+in_force (Err why) old new = old
 
 -- what one event does to a run under the image in force, with integers in the range R, and its reply; a change carries the state over whole
 unfoldable pub handle_to : ℕ → Event → Run → Handled

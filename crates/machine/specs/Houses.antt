@@ -1,5 +1,5 @@
 -- 02, 10: where each number goes on from the state that the last start, step, budget or change under it gave, and nobody else writes the pool.
-use Rattle.std.specs.Prelude.{List, [], ◌∷◌, ◌++◌, map, true, false, cond, ℕ, ℤ, eqb}
+use Rattle.std.specs.Prelude.{List, [], ◌∷◌, ◌++◌, map, true, false, cond, ℕ, ℤ, eqb, Err, Ok}
 use Rattle.std.proofs.Math.Option.{Option, none, some}
 use Rattle.machine.specs.Runs.{buffer_of}
 use Rattle.machine.specs.Begin.{begin_of}
@@ -7,11 +7,10 @@ use Rattle.machine.specs.Events.{Run, program_in, in_state, Event, single, budge
 use Rattle.machine.specs.Allowed.{tried_by_with}
 use Rattle.machine.specs.Pools.{allowed, refuses21, said_in_pool, pool_step, pool_budget, pool_change, pool_begin}
 use Rattle.machine.specs.declared.Answer.{Answer}
-use Rattle.machine.specs.declared.Changed.{Changed}
-use Rattle.machine.specs.declared.Entry.{Entry}
 use Rattle.machine.specs.declared.Pool.{Pool}
 use Rattle.machine.specs.declared.State.{State}
 use Rattle.machine.specs.declared.PoolSaid.{PoolSaid}
+use Rattle.machine.specs.Denials.{Grant, denied}
 
 -- ---- what is asked under a number, and what is heard
 
@@ -26,18 +25,18 @@ pub record Asked : Type 0 where
 
 -- a start its entry, a single step its turn, a budget its answer, its steps and the lent buffer, a change whether it is taken; nobody under a number without a run, which has no state to go on from
 pub data Heard : Type 0 where
-  began : Entry → Heard
+  began : Grant → Heard
   turned : PoolSaid → Heard
   spent : Answer → ℕ → List ℤ → Heard
-  changed : Changed → Heard
+  changed : Grant → Heard
   nobody : Heard
 
 -- 21, at 0
 unfoldable pub heard21 : Ask → Heard
-heard21 (start image level f v words buffer) = began (Entry.Refused 21 0)
+heard21 (start image level f v words buffer) = began (Err (denied 21 0))
 heard21 (go_on single) = turned (PoolSaid.Refused 21 0)
 heard21 (go_on (budget n buffer)) = spent (Answer.Refused 21 0) 0 buffer
-heard21 (go_on (change new)) = changed (Changed.Refused 21 0)
+heard21 (go_on (change new)) = changed (Err (denied 21 0))
 
 -- ---- under one number
 
@@ -48,9 +47,9 @@ pub record Lodged : Type 0 where
   pub heard : Heard
 
 -- the run that has the number after a start; one that is refused leaves the run that had it, any other ends that one
-unfoldable pub started_run : List ℕ → State → Option Run → Entry → Option Run
-started_run image s o (Entry.Refused q p) = o
-started_run image s o Entry.Begun = some (record { image = image; state = s })
+unfoldable pub started_run : List ℕ → State → Option Run → Grant → Option Run
+started_run image s o (Err why) = o
+started_run image s o (Ok _) = some (record { image = image; state = s })
 
 -- a run that goes on
 unfoldable pub go_on_in : Pool → ℕ → Event → Run → Lodged

@@ -1,3 +1,4 @@
+pub mod Denials
 pub mod Try
 pub mod Values
 pub mod States

@@ -1,5 +1,5 @@
 -- 02, 10: eight scripts, one store. What each run reserves of 64 vectors and how many each has, and what is asked under a number.
-use Rattle.std.specs.Prelude.{List, [], ◌∷◌, Bool, true, false, cond, ◌||◌, ℕ, zero, suc, ◌+◌, ◌-◌, ℤ, get_or, set, replicate, leb, ltb}
+use Rattle.std.specs.Prelude.{List, [], ◌∷◌, Bool, true, false, cond, ◌||◌, ℕ, zero, suc, ◌+◌, ◌-◌, ℤ, get_or, set, replicate, leb, ltb, Err, Ok}
 use Rattle.program.specs.Program.{Program}
 use Rattle.machine.specs.States.{VECTORS, with_end}
 use Rattle.machine.specs.Calls.{closed}
@@ -7,18 +7,15 @@ use Rattle.machine.specs.Begin.{begin_of, refused}
 use Rattle.machine.specs.Changes.{change_of}
 use Rattle.machine.specs.Allowed.{vectors_in, step_with, budget_with}
 use Rattle.machine.specs.declared.Answer.{Answer}
-use Rattle.machine.specs.declared.Back.{Back}
 use Rattle.machine.specs.declared.Begun.{Begun}
-use Rattle.machine.specs.declared.Changed.{Changed}
 use Rattle.machine.specs.declared.End.{End}
-use Rattle.machine.specs.declared.Entry.{Entry}
-use Rattle.machine.specs.declared.Made.{Made}
 use Rattle.machine.specs.declared.Pool.{Pool}
 use Rattle.machine.specs.declared.Ran.{Ran}
 use Rattle.machine.specs.declared.Said.{Said}
 use Rattle.machine.specs.declared.State.{State}
 use Rattle.machine.specs.declared.Status.{Status}
 use Rattle.machine.specs.declared.PoolSaid.{PoolSaid}
+use Rattle.machine.specs.Denials.{Grant, denied}
 
 -- the numbers of runs: 0 to 7
 abbrev pub RUNS : ℕ
@@ -74,10 +71,10 @@ fresh reserves = record { reserves = reserves; has = replicate RUNS 0 }
 -- the lent pool after it is made, and the answer; 21 leaves the pool as it was
 pub record PoolMade : Type 0 where
   pub pool : Pool
-  pub made : Made
+  pub made : Grant
 
 unfoldable pub make_of : List ℕ → Pool → PoolMade
-make_of reserves p = elim (over_reserved reserves) [ true ↦ record { pool = p; made = Made.Refused 21 0 } | false ↦ record { pool = fresh reserves; made = Made.Ready } ]
+make_of reserves p = elim (over_reserved reserves) [ true ↦ record { pool = p; made = Err (denied 21 0) } | false ↦ record { pool = fresh reserves; made = Ok tt } ]
 
 -- ---- what a run has
 
@@ -129,13 +126,13 @@ pool_budget P p i s n buffer = elim (refuses21 p i) [
 
 -- ---- a change by 3 under the number i: the state is carried over whole, so the pool stays
 
-unfoldable pub pool_change : Pool → ℕ → List ℕ → List ℕ → State → Changed
-pool_change p i old new s = elim (refuses21 p i) [ true ↦ Changed.Refused 21 0 | false ↦ change_of old new s ]
+unfoldable pub pool_change : Pool → ℕ → List ℕ → List ℕ → State → Grant
+pool_change p i old new s = elim (refuses21 p i) [ true ↦ Err (denied 21 0) | false ↦ change_of old new s ]
 
 -- ---- a step back under the number i: a state in the pool has no step behind it by 8
 
-unfoldable pub pool_back : Pool → ℕ → Back
-pool_back p i = elim (refuses21 p i) [ true ↦ Back.Refused 21 0 | false ↦ Back.Refused 20 0 ]
+unfoldable pub pool_back : Pool → ℕ → Grant
+pool_back p i = elim (refuses21 p i) [ true ↦ Err (denied 21 0) | false ↦ Err (denied 20 0) ]
 
 -- ---- a start under the number i
 
@@ -152,9 +149,9 @@ pub record PoolBegun : Type 0 where
   pub begun : Begun
 
 -- a start that is refused leaves the pool
-unfoldable pub pool_begun_as : Pool → ℕ → Begun → Entry → PoolBegun
-pool_begun_as p i b (Entry.Refused q o) = record { pool = p; begun = b }
-pool_begun_as p i b Entry.Begun = let s = started_in p i b.state in record { pool = noted p i s; begun = record { state = s; entry = Entry.Begun } }
+unfoldable pub pool_begun_as : Pool → ℕ → Begun → Grant → PoolBegun
+pool_begun_as p i b (Err why) = record { pool = p; begun = b }
+pool_begun_as p i b (Ok _) = let s = started_in p i b.state in record { pool = noted p i s; begun = record { state = s; entry = Ok tt } }
 
 -- a start, by what beginning comes to without a pool; 21 is asked first
 abbrev pub pool_begun_by : Pool → ℕ → Begun → PoolBegun
@@ -165,9 +162,9 @@ pool_begin image level f v words buffer p i = pool_begun_by p i (begin_of image 
 
 -- ---- a start and its first budget under the number i
 
-unfoldable pub pool_run_as : Program → ℕ → ℕ → List ℤ → PoolBegun → Entry → PoolRan
-pool_run_as P i n buffer x (Entry.Refused q o) = record { pool = x.pool; ran = record { state = x.begun.state; answer = Answer.Refused q o; steps = 0 } }
-pool_run_as P i n buffer x Entry.Begun = pool_budget P x.pool i x.begun.state n buffer
+unfoldable pub pool_run_as : Program → ℕ → ℕ → List ℤ → PoolBegun → Grant → PoolRan
+pool_run_as P i n buffer x (Err why) = record { pool = x.pool; ran = record { state = x.begun.state; answer = Answer.Refused why.question why.at; steps = 0 } }
+pool_run_as P i n buffer x (Ok _) = pool_budget P x.pool i x.begun.state n buffer
 
 abbrev pub pool_run_by : Program → Pool → ℕ → Begun → ℕ → List ℤ → PoolRan
 pool_run_by P p i b n buffer = let x = pool_begun_by p i b in pool_run_as P i n buffer x x.begun.entry

@@ -1,18 +1,17 @@
 -- 02, request 8: a state with its start kept, which is a trail, and the step back.
-use Rattle.std.specs.Prelude.{List, [], ◌∷◌, ◌++◌, map, cond, ℕ, zero, suc, ◌+◌, ℤ, leb}
+use Rattle.std.specs.Prelude.{List, [], ◌∷◌, ◌++◌, map, cond, ℕ, zero, suc, ◌+◌, ℤ, leb, Err, Ok}
 use Rattle.program.specs.Program.{Program}
 use Rattle.machine.specs.Runs.{step_of, last_step, budget_in, budget_of, buffer_of}
 use Rattle.machine.specs.Begin.{program_of}
 use Rattle.machine.specs.Changes.{change_of}
 use Rattle.machine.specs.Events.{Run, Event, single, budget, change, Reply, said, gave, became, in_force, in_state, tried_in, tried}
-use Rattle.machine.specs.declared.Back.{Back}
 use Rattle.machine.specs.declared.Behind.{Behind}
-use Rattle.machine.specs.declared.Changed.{Changed}
 use Rattle.machine.specs.declared.Returned.{Returned}
 use Rattle.machine.specs.declared.Said.{Said}
 use Rattle.machine.specs.declared.State.{State}
 use Rattle.machine.specs.declared.Status.{Status}
 use Rattle.machine.specs.declared.Trail.{Trail}
+use Rattle.machine.specs.Denials.{Grant, denied}
 
 -- ---- what lies behind
 
@@ -51,9 +50,9 @@ unfoldable pub budget_on : Program → Trail → ℕ → List ℤ → Trail
 budget_on P t n buffer = let r = budget_of P t.state n buffer in record { start = t.start; behind = further t.behind r.steps; state = r.state }
 
 -- after a change of the image by request 3: one that is taken is a new start, one that is refused leaves all
-unfoldable pub change_on : Trail → Changed → Trail
-change_on t Changed.Taken = started t.state
-change_on t (Changed.Refused q p) = t
+unfoldable pub change_on : Trail → Grant → Trail
+change_on t (Ok _) = started t.state
+change_on t (Err why) = t
 
 -- ---- the step back
 
@@ -63,13 +62,13 @@ state_after P s n = (budget_in P s n s.status).state
 
 -- 20 when no step lies behind, at 0, and all stays
 abbrev pub refused20 : Trail → Returned
-refused20 t = record { trail = t; back = Back.Refused 20 0 }
+refused20 t = record { trail = t; back = Err (denied 20 0) }
 
 -- after n steps the state that n − 1 steps give, whole, and n − 1 lie behind
 unfoldable pub back_by : Program → Trail → Behind → Returned
 back_by P t Behind.Past = refused20 t
 back_by P t (Behind.Steps zero) = refused20 t
-back_by P t (Behind.Steps (suc m)) = record { trail = record { start = t.start; behind = Behind.Steps m; state = state_after P t.start m }; back = Back.Taken }
+back_by P t (Behind.Steps (suc m)) = record { trail = record { start = t.start; behind = Behind.Steps m; state = state_after P t.start m }; back = Ok tt }
 
 -- 02, request 8: the step back
 unfoldable pub back_of : Program → Trail → Returned
@@ -105,7 +104,7 @@ pub data Move : Type 0 where
 -- what a move says: what its event says, or whether the step back is taken
 pub data MoveReply : Type 0 where
   replied : Reply → MoveReply
-  returned : Back → MoveReply
+  returned : Grant → MoveReply
 
 -- the visit after a move, and its reply
 pub record Went : Type 0 where

@@ -1,5 +1,5 @@
 -- 02, request 11: the registers of the topmost call, as records for a service screen.
-use Rattle.std.specs.Prelude.{List, [], ◌∷◌, true, false, ℕ, ◌+◌, ◌-◌, ℤ, pos, length, replicate, take, leb}
+use Rattle.std.specs.Prelude.{List, [], ◌∷◌, true, false, ℕ, ◌+◌, ◌-◌, ℤ, pos, length, replicate, take, leb, Err, Ok, Result}
 use Rattle.std.proofs.Math.Option.{Option, none, some}
 use Rattle.std.proofs.Math.ListN.{get_elem?}
 use Rattle.layout.specs.Bounds.{REGISTERS}
@@ -11,7 +11,8 @@ use Rattle.machine.specs.declared.Row.{Row}
 use Rattle.machine.specs.declared.State.{State}
 use Rattle.machine.specs.declared.Value.{Value}
 use Rattle.machine.specs.declared.Vector.{Vector}
-use Rattle.machine.specs.declared.Watch.{Watch}
+use Rattle.machine.specs.declared.Denial.{Denial}
+use Rattle.machine.specs.Denials.{denied}
 
 -- ---- one record: the declared type, what is held, and 0 in all other numbers
 
@@ -96,8 +97,8 @@ watch_of P s = rows_at P s (newest s)
 -- ---- into a lent list
 
 -- how many are filled of a list of n records; 22, at 0, where it is too short
-unfoldable pub watched_of : Program → State → ℕ → Watch
-watched_of P s n = elim (leb (length (watch_of P s)) n) [ true ↦ Watch.Filled (length (watch_of P s)) | false ↦ Watch.Refused 22 0 ]
+unfoldable pub watched_of : Program → State → ℕ → Result ℕ Denial
+watched_of P s n = elim (leb (length (watch_of P s)) n) [ true ↦ Ok (length (watch_of P s)) | false ↦ Err (denied 22 0) ]
 
 -- the list after it: records past the last register are untouched; all of them where it is too short
 unfoldable pub rows_after : Program → State → List Row → List Row

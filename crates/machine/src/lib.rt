@@ -132,18 +132,11 @@ pub struct Ran {
     pub steps: u32,
 }
 
-/// Whether a run has begun, or a refusal's number and offset.
-#[derive(Clone, Copy)]
-pub enum Entry {
-    Begun,
-    Refused(u8, u16),
-}
-
-/// Whether a state goes on under a new image, or a refusal's number and offset.
-#[derive(Clone, Copy)]
-pub enum Changed {
-    Taken,
-    Refused(u8, u16),
+/// The refusal of a call that begins, runs, changes or watches: the number of the question that says no, and the offset.
+#[derive(Clone, Copy, Debug, PartialEq, Eq)]
+pub struct Denial {
+    pub question: u8,
+    pub at: u16,
 }
 
 /// Where a run stands at a DISPATCH: how many versions its search looks at, and how many the function has.
@@ -157,7 +150,7 @@ pub enum Search {
 #[derive(Drop)]
 pub struct Begun {
     pub state: State,
-    pub entry: Entry,
+    pub entry: Result<(), Denial>,
 }
 
 /// 02, request 8: how many steps lie behind a state since its start or the last change of its image; past 4,294,967,295 none does any more.
@@ -175,18 +168,11 @@ pub struct Trail {
     pub state: State,
 }
 
-/// Whether a step back is taken, or a refusal's number and offset.
-#[derive(Drop)]
-pub enum Back {
-    Taken,
-    Refused(u8, u16),
-}
-
 /// A step back: the trail after it, as it was where it is refused.
 #[derive(Drop)]
 pub struct Returned {
     pub trail: Trail,
-    pub back: Back,
+    pub back: Result<(), Denial>,
 }
 
 /// What each of eight runs reserves of 64 vectors, and how many each has; in the layout of C.
@@ -195,13 +181,6 @@ pub struct Returned {
 pub struct Pool {
     pub reserves: [u8; 8],
     pub has: [u8; 8],
-}
-
-/// Whether a pool is made, or a refusal's number and offset.
-#[derive(Clone, Copy)]
-pub enum Made {
-    Ready,
-    Refused(u8, u16),
 }
 
 /// What a single step in a pool says: a refusal's number and offset, or what a single step says.
@@ -224,13 +203,6 @@ pub struct Row {
     pub holds: u8,
     pub length: u8,
     pub mark: u8,
-}
-
-/// How many records of the topmost call were filled, or a refusal's number and offset.
-#[derive(Clone, Copy)]
-pub enum Watch {
-    Filled(u8),
-    Refused(u8, u16),
 }
 
 impl Vector {

@@ -1,4 +1,5 @@
 -- A pool that is made, and what a run has by the arrays of its state.
+use Rattle.std.specs.Prelude.{Err, Ok}
 use mathlib.Core.Path.{◌≡◌, refl, sym, ap, ◌∙◌, subst}
 use mathlib.Core.List.{List, [], ◌∷◌}
 use mathlib.Core.Bool.{Bool, true, false, cond}
@@ -10,7 +11,6 @@ use borrow.Author.Tests.{le-leb, lt-leb}
 use Rattle.layout.specs.Records.{◌!◌}
 use Rattle.machine.specs.Allowed.{vectors_in}
 use Rattle.machine.specs.Pools.{PoolMade, allowed, fresh, has_in, make_of, over_reserved, overfull}
-use Rattle.machine.specs.declared.Made.{Made}
 use Rattle.machine.specs.declared.State.{State}
 use Rattle.machine.specs.declared.Status.{Status}
 use Rattle.store.specs.Store.{ENDING, STATUS, ◌#◌, state_in, status_of}
@@ -19,18 +19,19 @@ use Rattle.store.proofs.InUse.{vectors-used}
 use Rattle.store.proofs.Statuses.{ended_by}
 use Rattle.ending.specs.Ends.{closed_bytes}
 use Rattle.pools.specs.Shares.{Caps, Makes, Settles, has_now, pool_of}
+use Rattle.machine.specs.Denials.{denied}
 
 -- ---- making
 
 module _ (given rs hs : List ℕ) {t : Bool} (e : t ≡ over_reserved given) where
   made : Bool → PoolMade
-  made x = elim x [ true ↦ record { pool = pool_of rs hs; made = Made.Refused 21 0 } | false ↦ record { pool = fresh given; made = Made.Ready } ]
+  made x = elim x [ true ↦ record { pool = pool_of rs hs; made = Err (denied 21 0) } | false ↦ record { pool = fresh given; made = Ok tt } ]
 
-  pub make-refused : t ≡ true → Makes (Made.Refused 21 0) given rs hs rs hs
+  pub make-refused : t ≡ true → Makes (Err (denied 21 0)) given rs hs rs hs
   unfolding make_of made
   make-refused h = ap made (sym h ∙ e)
 
-  pub make-ready : t ≡ false → Makes Made.Ready given rs hs given (replicate 8 0)
+  pub make-ready : t ≡ false → Makes (Ok tt) given rs hs given (replicate 8 0)
   unfolding make_of made
   make-ready h = ap made (sym h ∙ e)
 

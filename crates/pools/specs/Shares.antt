@@ -2,10 +2,10 @@
 use Rattle.std.specs.Prelude.{ℕ, suc, ◌+◌, ◌-◌, ◌≤◌, ◌<◌, cond, List, [], ◌∷◌, ◌≡◌, eqb, leb, ℤ, set}
 use Rattle.machine.specs.Allowed.{vectors_in}
 use Rattle.machine.specs.Pools.{allowed, has_in, make_of, overfull}
-use Rattle.machine.specs.declared.Made.{Made}
 use Rattle.machine.specs.declared.Pool.{Pool}
 use Rattle.store.specs.Store.{state_in}
 use Rattle.ending.specs.Ends.{closed_bytes}
+use Rattle.machine.specs.Denials.{Grant}
 
 -- a pool of its parts
 abbrev pub pool_of : List ℕ → List ℕ → Pool
@@ -22,7 +22,7 @@ shares j i (r ∷ rs) [] = 0
 shares j i (r ∷ rs) (h ∷ hs) = share_of j i r h + shares (suc j) i rs hs
 
 -- a pool that is made of its parts
-abbrev pub Makes : Made → List ℕ → List ℕ → List ℕ → List ℕ → List ℕ → Type 0
+abbrev pub Makes : Grant → List ℕ → List ℕ → List ℕ → List ℕ → List ℕ → Type 0
 Makes r given rs hs rs' hs' = record { pool = pool_of rs' hs'; made = r } ≡ make_of given (pool_of rs hs)
 
 -- what the run of the arrays has

@@ -8,7 +8,7 @@ ghost use Rattle.machine.specs.Pools.{RUNS, allowed, larger, over_reserved};
 ghost use Rattle.store.specs.Store.{state_in};
 ghost use Rattle.pools.specs.Shares.{Caps, Makes, Settles, has_now, pool_of, share_of};
 
-use machine::Made;
+use machine::Denial;
 use store::heap;
 
 /// How many runs a pool has.
@@ -106,15 +106,18 @@ pub fn may_have(reserves: &[u8; 8], has: &[u8; 8], i: usize) -> u8
 }
 
 /// Makes a pool of the given reserves, in which no number has a run; 21 leaves it as it was.
-pub fn make(given: &[u8; 8], reserves: &mut [u8; 8], has: &mut [u8; 8]) -> Made
+pub fn make(given: &[u8; 8], reserves: &mut [u8; 8], has: &mut [u8; 8]) -> Result<(), Denial>
     ensures { Makes result given.now reserves.old has.old reserves.new has.new }
 {
     if over_reserved(given) {
-        return Made::Refused(POOL, 0);
+        return Err(Denial {
+            question: POOL,
+            at: 0,
+        });
     }
     *reserves = *given;
     *has = [0u8; 8];
-    Made::Ready
+    Ok(())
 }
 
 // ---- what a run has

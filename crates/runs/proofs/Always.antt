@@ -1,4 +1,5 @@
 -- What every step keeps holds after every budget and list of events, and wherever a step was tried.
+use Rattle.std.specs.Prelude.{Err, Ok}
 use mathlib.Core.Path.{◌≡◌, refl, sym, subst}
 use mathlib.Core.List.{List, [], ◌∷◌, ◌++◌, map, Memᴰ}
 use mathlib.Core.Bool.{Bool, true, false}
@@ -8,11 +9,11 @@ use Rattle.program.specs.Program.{Program}
 use Rattle.machine.specs.Changes.{change_of}
 use Rattle.machine.specs.Events.{Run, Event, single, budget, change, program_in, in_state, in_force, handle, handle_to, after, after_to, onward, tried_under, tried_in, tried_by, tried, history}
 use Rattle.machine.specs.Runs.{step_of, continued, run_from, run_from_to, budget_in, budget_in_to, long_enough, budget_of, budget_of_to}
-use Rattle.machine.specs.declared.Changed.{Changed}
 use Rattle.machine.specs.declared.Ran.{Ran}
 use Rattle.machine.specs.declared.Said.{Said}
 use Rattle.machine.specs.declared.State.{State}
 use Rattle.machine.specs.declared.Status.{Status}
+use Rattle.machine.specs.Denials.{Grant}
 
 -- ---- what holds of every element of a list
 
@@ -99,15 +100,15 @@ module _ (P : Program) (Q : State → Type 0) (keeps : (s : State) → Q s → Q
 
 module _ (I : Run → Type 0)
     (steps : (r : Run) → I r → I (in_state r (step_of (program_in r) r.state).state))
-    (taken : (new : List ℕ) (r : Run) → I r → change_of r.image new r.state ≡ Changed.Taken → I (record { image = new; state = r.state })) where
+    (taken : (new : List ℕ) (r : Run) → I r → change_of r.image new r.state ≡ Ok tt → I (record { image = new; state = r.state })) where
   -- under one image
   under : (r : Run) → (s : State) → I (in_state r s) → I (in_state r (step_of (program_in r) s).state)
   under r s i = steps (in_state r s) i
 
-  changed : (new : List ℕ) (r : Run) → I r → (c : Changed) → change_of r.image new r.state ≡ c → I (record { image = in_force c r.image new; state = r.state })
+  changed : (new : List ℕ) (r : Run) → I r → (c : Grant) → change_of r.image new r.state ≡ c → I (record { image = in_force c r.image new; state = r.state })
   unfolding in_force
-  changed new r i Changed.Taken e = taken new r i e
-  changed new r i (Changed.Refused q p) e = i
+  changed new r i (Ok _) e = taken new r i e
+  changed new r i (Err why) e = i
 
   pub handle-keeps : (e : Event) (r : Run) → I r → I (handle e r).run
   unfolding handle_to

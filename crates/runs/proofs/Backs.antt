@@ -1,4 +1,5 @@
 -- A trail counts the steps between its start and its state, and a step back gives one less: after every list of steps, budgets, changes and steps back.
+use Rattle.std.specs.Prelude.{Ok, Err}
 use mathlib.Core.Path.{◌≡◌, refl, sym, ap, ◌∙◌, subst}
 use mathlib.Core.List.{List, [], ◌∷◌, ◌++◌, map}
 use mathlib.Core.Bool.{Bool, true, false, cond, true≢false}
@@ -14,9 +15,7 @@ use Rattle.machine.specs.Runs.{step_of, budget_in, budget_in_to, long_enough, bu
 use Rattle.machine.specs.Changes.{change_of}
 use Rattle.machine.specs.Events.{Run, Event, single, budget, change, program_in, in_state, in_force, handle, handle_to, after, after_to}
 use Rattle.machine.specs.Trails.{REACH, behind_by, further, steps_by, step_on, budget_on, change_on, state_after, back_by, back_of, Visit, visit_program, run_now, run_then, visit_of, Move, event, step_back, move, visit_after}
-use Rattle.machine.specs.declared.Back.{Back}
 use Rattle.machine.specs.declared.Behind.{Behind}
-use Rattle.machine.specs.declared.Changed.{Changed}
 use Rattle.machine.specs.declared.Ran.{Ran}
 use Rattle.machine.specs.declared.Returned.{Returned}
 use Rattle.machine.specs.declared.Said.{Said}
@@ -26,6 +25,7 @@ use Rattle.machine.specs.declared.Trail.{Trail}
 use Rattle.runs.specs.Backs.{At, gone, stopped, taken_of, Kept, Counts, GoesBack, StepsBack, Undoes, Redoes, is_taken, takes, count_back, count_on, count_after, NoneTaken, Since, steps_of, steps_in, OneLess, Straight}
 use Rattle.runs.proofs.Splits.{budget-long}
 use Rattle.runs.proofs.Counted.{lent, lent-long, after_more, after_one, after_none, at_goes, at-step, at-budget, one-taken, taken-most, then-taken, less-taken, taken_more}
+use Rattle.machine.specs.Denials.{Grant}
 
 -- ---- what lies behind
 
@@ -64,10 +64,10 @@ more-behind b n k e = ap (λ (x : Behind). further x k) e ∙ behind-further n k
 started-keeps : (r : Run) → Kept (visit_of r)
 started-keeps r = record { steps = 0; behind = sym (within-reach 0 (omega arith)); taken = omega (arith, taken-most (program_in r) r.state 0); stands = gone (sym (after_none (program_in r) r.state)) }
 
-change-keeps : (v : Visit) (new : List ℕ) (c : Changed) → Kept v → Kept (record { image = in_force c v.image new; trail = change_on v.trail c })
+change-keeps : (v : Visit) (new : List ℕ) (c : Grant) → Kept v → Kept (record { image = in_force c v.image new; trail = change_on v.trail c })
 unfolding in_force change_on
-change-keeps v new Changed.Taken k = started-keeps (record { image = new; state = v.trail.state })
-change-keeps v new (Changed.Refused q p) k = k
+change-keeps v new (Ok _) k = started-keeps (record { image = new; state = v.trail.state })
+change-keeps v new (Err why) k = k
 
 back-keeps : (v : Visit) (b : Behind) → v.trail.behind ≡ b → Kept v → Kept (record { image = v.image; trail = (back_by (visit_program v) v.trail b).trail })
 unfolding back_by
@@ -122,10 +122,10 @@ visit-keeps (m ∷ ms) v k = visit-keeps ms (move m v).visit (move-keeps m v k)
 
 -- ---- as many as the moves come to
 
-change-counts : (v : Visit) (new : List ℕ) (c : Changed) (k : Kept v) → (change-keeps v new c k).steps ≡ cond (is_taken c) 0 (k.steps + 0)
-unfolding change-keeps started-keeps is_taken
-change-counts v new Changed.Taken k = refl
-change-counts v new (Changed.Refused q p) k = sym (add-zero k.steps)
+change-counts : (v : Visit) (new : List ℕ) (c : Grant) (k : Kept v) → (change-keeps v new c k).steps ≡ cond (is_taken c) 0 (k.steps + 0)
+unfolding change-keeps started-keeps
+change-counts v new (Ok _) k = refl
+change-counts v new (Err why) k = sym (add-zero k.steps)
 
 back-counts : (v : Visit) (b : Behind) (e : v.trail.behind ≡ b) (k : Kept v) → (back-keeps v b e k).steps ≡ count_back (back_by (visit_program v) v.trail b).back k.steps
 unfolding back-keeps back_by count_back
@@ -172,7 +172,7 @@ counts-running Status.Running d h = refl
 counts-running (Status.Ended e) d h = absurd (omega (arith, h))
 
 undone : (v : Visit) → Kept v → (n : ℕ) → v.trail.behind ≡ Behind.Steps n → n < REACH → steps_by v.trail.state.status (step_of (visit_program v) v.trail.state).said ≡ 1
-    → back_of (visit_program v) (step_on (visit_program v) v.trail) ≡ record { trail = v.trail; back = Back.Taken }
+    → back_of (visit_program v) (step_on (visit_program v) v.trail) ≡ record { trail = v.trail; back = Ok tt }
 unfolding back_of back_by step_on further
 undone v k n b l c =
     let P = visit_program v in
@@ -183,7 +183,7 @@ undone v k n b l c =
     let one : further t.behind (steps_by t.state.status (step_of P t.state).said) ≡ Behind.Steps (suc n) = ap (λ (x : Behind). further x (steps_by t.state.status (step_of P t.state).said)) b ∙ ap (further (Behind.Steps n)) c ∙ ap behind_by (add-one n) ∙ within-reach (suc n) (omega (arith, l)) in
     ap (back_by P (step_on P t)) one ∙ same t n b (state_after P t.start n) here
   where
-    same : (t : Trail) (n : ℕ) → t.behind ≡ Behind.Steps n → (s : State) → t.state ≡ s → ◌≡◌ {A = Returned} (record { trail = record { start = t.start; behind = Behind.Steps n; state = s }; back = Back.Taken }) (record { trail = t; back = Back.Taken })
+    same : (t : Trail) (n : ℕ) → t.behind ≡ Behind.Steps n → (s : State) → t.state ≡ s → ◌≡◌ {A = Returned} (record { trail = record { start = t.start; behind = Behind.Steps n; state = s }; back = Ok tt }) (record { trail = t; back = Ok tt })
     same t n b s e = rw (sym b, sym e) refl
 
 -- THE LAW: a counted step, taken back
@@ -230,16 +230,16 @@ redoes r ms m b e = redone (visit_after ms (visit_of r)) (visit-keeps ms (visit_
 
 -- ---- the start, and the last change
 
-taken-anew : (v : Visit) (new : List ℕ) (c : Changed) → c ≡ Changed.Taken → ◌≡◌ {A = Visit} (record { image = in_force c v.image new; trail = change_on v.trail c }) (visit_of (record { image = new; state = v.trail.state }))
+taken-anew : (v : Visit) (new : List ℕ) (c : Grant) → c ≡ Ok tt → ◌≡◌ {A = Visit} (record { image = in_force c v.image new; trail = change_on v.trail c }) (visit_of (record { image = new; state = v.trail.state }))
 unfolding in_force change_on
-taken-anew v new Changed.Taken e = refl
-taken-anew v new (Changed.Refused q p) e = let z : ◌≡◌ {A = ℕ} 0 1 = cc in absurd (omega arith)
+taken-anew v new (Ok _) e = refl
+taken-anew v new (Err why) e = let z : ◌≡◌ {A = ℕ} 0 1 = cc in absurd (omega arith)
 
 -- a change that is refused leaves all
-refused-same : (v : Visit) (new : List ℕ) (c : Changed) → is_taken c ≡ false → ◌≡◌ {A = Visit} (record { image = in_force c v.image new; trail = change_on v.trail c }) v
-unfolding in_force change_on is_taken
-refused-same v new Changed.Taken e = absurd (true≢false e)
-refused-same v new (Changed.Refused q p) e = refl
+refused-same : (v : Visit) (new : List ℕ) (c : Grant) → is_taken c ≡ false → ◌≡◌ {A = Visit} (record { image = in_force c v.image new; trail = change_on v.trail c }) v
+unfolding in_force change_on
+refused-same v new (Ok _) e = absurd (true≢false e)
+refused-same v new (Err why) e = refl
 
 -- a step back leaves the start
 back_start : (P : Program) (t : Trail) (b : Behind) → (back_by P t b).trail.start ≡ t.start
@@ -268,10 +268,10 @@ since = record { same = start-same; anew = λ new v e. taken-anew v new (change_
 -- ---- counted from the start
 
 -- an event leaves the run that it leaves without a trail
-now-changed : (v : Visit) (new : List ℕ) (c : Changed) → ◌≡◌ {A = Run} (record { image = in_force c v.image new; state = (change_on v.trail c).state }) (record { image = in_force c v.image new; state = v.trail.state })
+now-changed : (v : Visit) (new : List ℕ) (c : Grant) → ◌≡◌ {A = Run} (record { image = in_force c v.image new; state = (change_on v.trail c).state }) (record { image = in_force c v.image new; state = v.trail.state })
 unfolding in_force change_on
-now-changed v new Changed.Taken = refl
-now-changed v new (Changed.Refused q p) = refl
+now-changed v new (Ok _) = refl
+now-changed v new (Err why) = refl
 
 now-handled : (e : Event) (v : Visit) → run_now (move (event e) v).visit ≡ (handle e (run_now v)).run
 unfolding move handle_to step_on budget_on
@@ -348,14 +348,14 @@ now-comes r v k c = go k.stands
     go (gone e) = (there.0, there.1 ∙ ap (λ (x : State). record { image = v.image; state = x }) (sym e))
     go (stopped x q z e) = comes-more r (record { image = v.image; state = state_after P u n }) (run_now v) (single ∷ []) there (after-single (record { image = v.image; state = state_after P u n }) ∙ ap (λ (x : State). record { image = v.image; state = x }) (sym e))
 
-after-taken : (v : Visit) (new : List ℕ) → change_of v.image new v.trail.state ≡ Changed.Taken → after (change new ∷ []) (run_now v) ≡ record { image = new; state = v.trail.state }
+after-taken : (v : Visit) (new : List ℕ) → change_of v.image new v.trail.state ≡ Ok tt → after (change new ∷ []) (run_now v) ≡ record { image = new; state = v.trail.state }
 unfolding after_to handle_to in_force
-after-taken v new e = ap (λ (c : Changed). record { image = in_force c v.image new; state = v.trail.state }) e
+after-taken v new e = ap (λ (c : Grant). record { image = in_force c v.image new; state = v.trail.state }) e
 
-change-comes : (r : Run) (v : Visit) (new : List ℕ) → Kept v → Comes r (run_then v) → (c : Changed) → change_of v.image new v.trail.state ≡ c → Comes r (run_then (record { image = in_force c v.image new; trail = change_on v.trail c }))
+change-comes : (r : Run) (v : Visit) (new : List ℕ) → Kept v → Comes r (run_then v) → (c : Grant) → change_of v.image new v.trail.state ≡ c → Comes r (run_then (record { image = in_force c v.image new; trail = change_on v.trail c }))
 unfolding in_force change_on
-change-comes r v new k p Changed.Taken e = comes-more r (run_now v) _ (change new ∷ []) (now-comes r v k p) (after-taken v new e)
-change-comes r v new k p (Changed.Refused q o) e = p
+change-comes r v new k p (Ok _) e = comes-more r (run_now v) _ (change new ∷ []) (now-comes r v k p) (after-taken v new e)
+change-comes r v new k p (Err why) e = p
 
 move-comes : (r : Run) (m : Move) (v : Visit) → Kept v → Comes r (run_then v) → Comes r (run_then (move m v).visit)
 unfolding move step_on budget_on back_of

@@ -1,4 +1,5 @@
 -- All that is heard under a number of the pool, beside what is heard without a pool; and what refusals leave.
+use Rattle.std.specs.Prelude.{Err, Ok}
 use mathlib.Core.Path.{◌≡◌, refl, sym, ap, ◌∙◌, subst}
 use mathlib.Core.Logic.{◌⊎◌, inl, inr}
 use mathlib.Core.List.{List, [], ◌∷◌, ◌++◌, append_assoc, append-nil}
@@ -21,9 +22,7 @@ use Rattle.machine.specs.Pools.{RUNS, allowed, over_reserved, refuses21, fresh, 
 use Rattle.machine.specs.Houses.{Ask, start, go_on, Asked, Heard, began, turned, spent, changed, nobody, heard21, started_run, go_on_in, ask_in, House, opened, placed, serve, house_after, heard_under, asks_under, heard_as, ask_alone, heard_alone, run_alone}
 use Rattle.machine.specs.declared.Answer.{Answer}
 use Rattle.machine.specs.declared.Begun.{Begun}
-use Rattle.machine.specs.declared.Changed.{Changed}
 use Rattle.machine.specs.declared.End.{End}
-use Rattle.machine.specs.declared.Entry.{Entry}
 use Rattle.machine.specs.declared.Pool.{Pool}
 use Rattle.machine.specs.declared.Ran.{Ran}
 use Rattle.machine.specs.declared.Said.{Said}
@@ -35,6 +34,7 @@ use Rattle.runs.specs.Company.{stopped_by, Alone, stopped_after, InCompany, same
 use Rattle.runs.proofs.Caps.{step-64, budget-64, vectors-most}
 use Rattle.runs.proofs.Rules.{StepWays, its, stops, nowhere, step-ways, budgets}
 use Rattle.runs.proofs.Stores.{Order, placed_same, placed-other, serve-keeps, opened-order, may-64, none-refused}
+use Rattle.machine.specs.Denials.{Grant, denied}
 
 -- ---- what is asked under a number that 21 does not refuse
 
@@ -57,8 +57,8 @@ module _ (p : Pool) (i : ℕ) (passes : refuses21 p i ≡ false) where
   unfolding pool_change
   change-is old new s = ap outcome passes
     where
-      outcome : Bool → Changed
-      outcome b = elim b [ true ↦ Changed.Refused 21 0 | false ↦ change_of old new s ]
+      outcome : Bool → Grant
+      outcome b = elim b [ true ↦ Err (denied 21 0) | false ↦ change_of old new s ]
 
   pub begin-is : (image : List ℕ) (level f v : ℕ) (words buffer : List ℤ) → pool_begin image level f v words buffer p i ≡ let b = begin_of image level f v words buffer in pool_begun_as p i b b.entry
   unfolding pool_begin
@@ -79,10 +79,10 @@ module _ (p : Pool) (i : ℕ) (passes : refuses21 p i ≡ false) (all : allowed 
   unfolding started_in
   started-64 s = ap (λ (b : Bool). cond b s (overfull s)) (le-leb (vectors_in s) (allowed p i) (omega (arith, all, vectors-most s)))
 
-  begun-64 : (image : List ℕ) (x : Option Run) (s : State) (e : Entry) → let y = pool_begun_as p i (record { state = s; entry = e }) e in (began y.begun.entry ≡ began e) × (started_run image y.begun.state x y.begun.entry ≡ started_run image s x e)
+  begun-64 : (image : List ℕ) (x : Option Run) (s : State) (e : Grant) → let y = pool_begun_as p i (record { state = s; entry = e }) e in (began y.begun.entry ≡ began e) × (started_run image y.begun.state x y.begun.entry ≡ started_run image s x e)
   unfolding pool_begun_as started_run
-  begun-64 image x s (Entry.Refused q o) = (refl, refl)
-  begun-64 image x s Entry.Begun = (refl, ap (λ (t : State). some (record { image = image; state = t })) (started-64 s))
+  begun-64 image x s (Err why) = (refl, refl)
+  begun-64 image x s (Ok _) = (refl, ap (λ (t : State). some (record { image = image; state = t })) (started-64 s))
 
   event-64 : (e : Event) (r : Run) → Equal p i (go_on e) (some r)
   unfolding ask_in go_on_in ask_alone handle_to heard_as
@@ -96,7 +96,7 @@ module _ (p : Pool) (i : ℕ) (passes : refuses21 p i ≡ false) (all : allowed 
       (ap (λ (x : PoolRan). spent x.ran.answer x.ran.steps (buffer_of x.ran buffer)) z ∙ ap (λ (x : Ran). spent x.answer x.steps (buffer_of x buffer)) q, ap (λ (x : PoolRan). some (in_state r x.ran.state)) z ∙ ap (λ (x : Ran). some (in_state r x.state)) q)
   event-64 (change new) r =
       let z = change-is p i passes r.image new r.state in
-      (ap changed z, ap (λ (c : Changed). some (record { image = in_force c r.image new; state = r.state })) z)
+      (ap changed z, ap (λ (c : Grant). some (record { image = in_force c r.image new; state = r.state })) z)
 
   ask-64 : (a : Ask) (x : Option Run) → Equal p i a x
   unfolding ask_in ask_alone
@@ -265,35 +265,35 @@ module _ (p : Pool) (i : ℕ) (passes : refuses21 p i ≡ false) where
     first = begin_of image level f v words buffer
 
     -- what it comes to without a pool
-    begun-alone : (y : Option Run) (e : Entry) → first.entry ≡ e → (ask_alone a y).run ≡ started_run image first.state y e
+    begun-alone : (y : Option Run) (e : Grant) → first.entry ≡ e → (ask_alone a y).run ≡ started_run image first.state y e
     unfolding ask_alone
     begun-alone y e d = ap (started_run image first.state y) d
 
-    begun-next : (q : Pace) (o : Option Run) → Rel pre q o → (e : Entry) → first.entry ≡ e → let y = pool_begun_as p i first e in y.begun.entry ≡ e → Next pre q a (began e) (began e) (started_run image y.begun.state o e)
+    begun-next : (q : Pace) (o : Option Run) → Rel pre q o → (e : Grant) → first.entry ≡ e → let y = pool_begun_as p i first e in y.begun.entry ≡ e → Next pre q a (began e) (began e) (started_run image y.begun.state o e)
     unfolding pool_begun_as started_run started_in Rel run_alone
-    begun-next (in_step y) o t (Entry.Refused k n) d g = record { pace = in_step (ask_alone a y).run; rel = (t.0 ∙ sym (begun-alone y (Entry.Refused k n) d), alone-next pre a y t.1); link = λ l hs gs b. same y a (began (Entry.Refused k n)) l hs gs b }
-    begun-next (stopped r) o t (Entry.Refused k n) d g = record { pace = stopped r; rel = (t.0, t.1, grow pre a r r t.2 (begun-alone (some r) (Entry.Refused k n) d) refl); link = λ l hs gs b. refused_start r image level f v words buffer k n l hs gs b }
-    begun-next q o rel Entry.Begun d g = go (leb (vectors_in first.state) (allowed p i))
+    begun-next (in_step y) o t (Err why) d g = record { pace = in_step (ask_alone a y).run; rel = (t.0 ∙ sym (begun-alone y (Err (denied why.question why.at)) d), alone-next pre a y t.1); link = λ l hs gs b. same y a (began (Err (denied why.question why.at))) l hs gs b }
+    begun-next (stopped r) o t (Err why) d g = record { pace = stopped r; rel = (t.0, t.1, grow pre a r r t.2 (begun-alone (some r) (Err (denied why.question why.at)) d) refl); link = λ l hs gs b. refused_start r image level f v words buffer why.question why.at l hs gs b }
+    begun-next q o rel (Ok _) d g = go (leb (vectors_in first.state) (allowed p i))
       where
         its : Run
         its = record { image = image; state = first.state }
 
-        fits : (q : Pace) → Rel pre q o → Next pre q a (began Entry.Begun) (began Entry.Begun) (some its)
-        fits (in_step y) (oo, xx) = record { pace = in_step (ask_alone a y).run; rel = (sym (begun-alone y Entry.Begun d), alone-next pre a y xx); link = λ l hs gs b. same y a (began Entry.Begun) l hs gs b }
-        fits (stopped r) (oo, h, st) = record { pace = in_step (some its); rel = (refl, alone-snoc pre a none ∙ begun-alone (run_alone pre none) Entry.Begun d); link = λ l hs gs b. anew r image level f v words buffer l hs gs b }
+        fits : (q : Pace) → Rel pre q o → Next pre q a (began (Ok tt)) (began (Ok tt)) (some its)
+        fits (in_step y) (oo, xx) = record { pace = in_step (ask_alone a y).run; rel = (sym (begun-alone y (Ok tt) d), alone-next pre a y xx); link = λ l hs gs b. same y a (began (Ok tt)) l hs gs b }
+        fits (stopped r) (oo, h, st) = record { pace = in_step (some its); rel = (refl, alone-snoc pre a none ∙ begun-alone (run_alone pre none) (Ok tt) d); link = λ l hs gs b. anew r image level f v words buffer l hs gs b }
 
         full : Run
         full = record { image = image; state = overfull first.state }
 
-        go : (b : Bool) → Next pre q a (began Entry.Begun) (began Entry.Begun) (some (record { image = image; state = cond b first.state (overfull first.state) }))
+        go : (b : Bool) → Next pre q a (began (Ok tt)) (began (Ok tt)) (some (record { image = image; state = cond b first.state (overfull first.state) }))
         go true = fits q rel
         go false = record { pace = stopped full; rel = (refl, overfull-status first.state, at_start pre image level f v words buffer [] refl d refl refl); link = λ l hs gs b. at_once image level f v words buffer q l hs gs b }
 
     -- a start has the same entry
-    same-entry : (e : Entry) → first.entry ≡ e → (pool_begun_as p i first e).begun.entry ≡ e
+    same-entry : (e : Grant) → first.entry ≡ e → (pool_begun_as p i first e).begun.entry ≡ e
     unfolding pool_begun_as
-    same-entry (Entry.Refused k n) d = d
-    same-entry Entry.Begun d = refl
+    same-entry (Err why) d = d
+    same-entry (Ok _) d = refl
 
     start-next : (q : Pace) (o x : Option Run) → Rel pre q o → Next pre q a (ask_in p i a o).heard (ask_alone a x).heard (ask_in p i a o).run
     unfolding ask_in ask_alone
@@ -302,7 +302,7 @@ module _ (p : Pool) (i : ℕ) (passes : refuses21 p i ≡ false) where
         let s = (pool_begun_as p i first e).begun.state in
         let g = same-entry e refl in
         subst (λ (y : PoolBegun). Next pre q a (began y.begun.entry) (began e) (started_run image y.begun.state o y.begun.entry)) (sym (begin-is p i passes image level f v words buffer))
-        (subst (λ (c : Entry). Next pre q a (began c) (began e) (started_run image s o c)) (sym g) (begun-next q o r e refl g))
+        (subst (λ (c : Grant). Next pre q a (began c) (began e) (started_run image s o c)) (sym g) (begun-next q o r e refl g))
 
   -- ---- in step
 
@@ -367,9 +367,9 @@ module _ (p : Pool) (i : ℕ) (passes : refuses21 p i ≡ false) where
       go (earlier a k s) = stop-at mine a s (by_budget n buffer mine.steps own.steps own.answer (buffer_of own buffer) k)
       go (before_stuck a e k s) = stop-at mine a s (stuck_at mine e k)
   event-next pre (change new) r was =
-      subst (λ (c : Changed). Next pre (in_step (some r)) (go_on (change new)) (changed c) (changed own) (some (record { image = in_force c r.image new; state = r.state }))) (sym (change-is p i passes r.image new r.state)) (next-same pre (go_on (change new)) (some r) was)
+      subst (λ (c : Grant). Next pre (in_step (some r)) (go_on (change new)) (changed c) (changed own) (some (record { image = in_force c r.image new; state = r.state }))) (sym (change-is p i passes r.image new r.state)) (next-same pre (go_on (change new)) (some r) was)
     where
-      own : Changed
+      own : Grant
       own = change_of r.image new r.state
 
   -- ---- once it has stopped
@@ -410,7 +410,7 @@ module _ (p : Pool) (i : ℕ) (passes : refuses21 p i ≡ false) where
       go false k = its (Answer.Refused 13 0) (short (allowed p i) (program_in r) r.state n buffer k) (refused-buffer _ buffer 13 0 refl) (a_refusal n buffer k)
   ended-event (change new) r h =
       let z = change-is p i passes r.image new r.state in
-      record { says = changed (change_of r.image new r.state); heard = ap changed z; again = a_change new; run = ap (λ (c : Changed). some (record { image = in_force c r.image new; state = r.state })) z; stays = refl }
+      record { says = changed (change_of r.image new r.state); heard = ap changed z; again = a_change new; run = ap (λ (c : Grant). some (record { image = in_force c r.image new; state = r.state })) z; stays = refl }
 
   stopped-next : (pre : List Ask) (e : Event) (r : Run) (g : Heard) → r.state.status ≡ Status.Ended End.Vectors → Stopped pre r → let a = go_on e in Next pre (stopped r) a (ask_in p i a (some r)).heard g (ask_in p i a (some r)).run
   unfolding Rel ask_alone

@@ -1,5 +1,5 @@
 -- No step enters a version above the level of the calls that are live, and none is begun above the run's level.
-use Rattle.std.specs.Prelude.{None}
+use Rattle.std.specs.Prelude.{None, Ok}
 use mathlib.Core.Path.{◌≡◌, refl, sym, ap, ◌∙◌, subst}
 use mathlib.Core.Logic.{◌≢◌, ◌⊎◌, inl, inr}
 use mathlib.Core.List.{List, [], ◌∷◌}
@@ -29,7 +29,6 @@ use Rattle.machine.specs.Begin.{Given, arguments, values_of, vectors_of, first_s
 use Rattle.machine.specs.declared.Activation.{Activation}
 use Rattle.machine.specs.declared.Begun.{Begun}
 use Rattle.machine.specs.declared.End.{End}
-use Rattle.machine.specs.declared.Entry.{Entry}
 use Rattle.machine.specs.declared.State.{State}
 use Rattle.machine.specs.declared.Status.{Status}
 use Rattle.machine.specs.declared.Value.{Value}
@@ -289,27 +288,27 @@ module _ (P : Program) (l : ℕ) where
       let z : ◌≡◌ {A = Option (ℕ × ℕ)} none (some (g, y)) = sym (call-out (first_state (frame_for W vs ∷ []) ws) (suc k) (omega arith)) ∙ c in
       let w : ◌≡◌ {A = ℕ} 0 1 = cc in absurd (omega arith)
 
-  begun-none : (W : Version) (o : Option (List Given)) (buffer : List ℤ) → find_version P W.function W.version ≡ some W → W.level ≤ l → (question12 W o buffer).entry ≡ Entry.Begun → NoneAbove P l (question12 W o buffer).state
+  begun-none : (W : Version) (o : Option (List Given)) (buffer : List ℤ) → find_version P W.function W.version ≡ some W → W.level ≤ l → (question12 W o buffer).entry ≡ Ok tt → NoneAbove P l (question12 W o buffer).state
   unfolding question12 question13 refused
   begun-none W none buffer e h g = absurd (refused-begun 12 0 g)
   begun-none W (some xs) buffer e h g = go (long_enough buffer) refl g
     where
-      go : (b : Bool) → long_enough buffer ≡ b → (question13 (first_state (frame_for W (values_of xs 0) ∷ []) (vectors_of xs)) buffer).entry ≡ Entry.Begun → NoneAbove P l (question13 (first_state (frame_for W (values_of xs 0) ∷ []) (vectors_of xs)) buffer).state
+      go : (b : Bool) → long_enough buffer ≡ b → (question13 (first_state (frame_for W (values_of xs 0) ∷ []) (vectors_of xs)) buffer).entry ≡ Ok tt → NoneAbove P l (question13 (first_state (frame_for W (values_of xs 0) ∷ []) (vectors_of xs)) buffer).state
       go true x g = rw (x, question13) (first-none W (values_of xs 0) (vectors_of xs) e h)
       go false x g = absurd (refused-begun 13 0 (rw (x, question13) at g))
 
 -- ---- what is begun
 
 -- THE LAW: a begun run has one call, of its entry, which is not above
-pub entered-low : (P : Program) (level f v : ℕ) (words buffer : List ℤ) → (entered_of P level f v words buffer).entry ≡ Entry.Begun → NoneAbove P (run_level level) (entered_of P level f v words buffer).state
+pub entered-low : (P : Program) (level f v : ℕ) (words buffer : List ℤ) → (entered_of P level f v words buffer).entry ≡ Ok tt → NoneAbove P (run_level level) (entered_of P level f v words buffer).state
 unfolding entered_of question11 question19 refused
 entered-low P level f v words buffer e = go (find_version P f v) refl e
   where
-    low : (W : Version) → find_version P f v ≡ some W → (b : Bool) → leb W.level (run_level level) ≡ b → (question19 level W words buffer).entry ≡ Entry.Begun → NoneAbove P (run_level level) (question19 level W words buffer).state
+    low : (W : Version) → find_version P f v ≡ some W → (b : Bool) → leb W.level (run_level level) ≡ b → (question19 level W words buffer).entry ≡ Ok tt → NoneAbove P (run_level level) (question19 level W words buffer).state
     low W w true x g = rw (x, question19) (begun-none P (run_level level) W (arguments (parameter_types W) words) buffer (find-own P f v W w) (leb-true W.level (run_level level) x) (rw (x, question19) at g))
     low W w false x g = absurd (refused-begun 19 0 (rw (x, question19) at g))
 
-    go : (o : Option Version) → find_version P f v ≡ o → (question11 level o words buffer).entry ≡ Entry.Begun → NoneAbove P (run_level level) (question11 level o words buffer).state
+    go : (o : Option Version) → find_version P f v ≡ o → (question11 level o words buffer).entry ≡ Ok tt → NoneAbove P (run_level level) (question11 level o words buffer).state
     go none w g = absurd (refused-begun 11 0 g)
     go (some W) w g = low W w (leb W.level (run_level level)) refl g
 
@@ -325,14 +324,14 @@ level-up l m h = go (ltb l LEVELS) (ltb m LEVELS) refl refl
     go false false x y = omega arith
 
 -- THE LAW: a run begun at one level is begun in the same state at each higher one
-pub entered-above : (P : Program) (l m f v : ℕ) (words buffer : List ℤ) → l ≤ m → (entered_of P l f v words buffer).entry ≡ Entry.Begun → entered_of P m f v words buffer ≡ entered_of P l f v words buffer
+pub entered-above : (P : Program) (l m f v : ℕ) (words buffer : List ℤ) → l ≤ m → (entered_of P l f v words buffer).entry ≡ Ok tt → entered_of P m f v words buffer ≡ entered_of P l f v words buffer
 unfolding entered_of question11 question19 refused
 entered-above P l m f v words buffer h e = go (find_version P f v) e
   where
-    low : (W : Version) (b : Bool) → leb W.level (run_level l) ≡ b → (question19 l W words buffer).entry ≡ Entry.Begun → question19 m W words buffer ≡ question19 l W words buffer
+    low : (W : Version) (b : Bool) → leb W.level (run_level l) ≡ b → (question19 l W words buffer).entry ≡ Ok tt → question19 m W words buffer ≡ question19 l W words buffer
     low W true x y = let z = le-leb W.level (run_level m) (omega (arith, level-up l m h, leb-true W.level (run_level l) x)) in rw (x, z, question19) refl
     low W false x y = absurd (refused-begun 19 0 (rw (x, question19) at y))
 
-    go : (o : Option Version) → (question11 l o words buffer).entry ≡ Entry.Begun → question11 m o words buffer ≡ question11 l o words buffer
+    go : (o : Option Version) → (question11 l o words buffer).entry ≡ Ok tt → question11 m o words buffer ≡ question11 l o words buffer
     go none g = refl
     go (some W) g = low W (leb W.level (run_level l)) refl g

@@ -29,7 +29,6 @@ use Rattle.machine.specs.Begin.{Given, arguments, values_of, vectors_of, first_s
 use Rattle.machine.specs.declared.Activation.{Activation}
 use Rattle.machine.specs.declared.Cache.{Cache}
 use Rattle.machine.specs.declared.End.{End}
-use Rattle.machine.specs.declared.Entry.{Entry}
 use Rattle.machine.specs.declared.Frame.{Frame}
 use Rattle.machine.specs.declared.Opener.{Opener}
 use Rattle.machine.specs.declared.Promise.{Promise}
@@ -41,9 +40,10 @@ use Rattle.runs.specs.Lives.{numbers, call_at, Enters, Leaves, is_done, Finishes
 use Rattle.runs.proofs.Keeps.{Gives, gives_then, gives-next, gives_after, gives-weaken, gives-got, test-true, call-in, call-out, Keeps, keeps-trans, keeps-stays, assign-keeps, opened-keeps, passed-keeps, emptied-keeps, execute-keeps}
 use Rattle.program.proofs.Held.{find-numbers}
 use Rattle.runs.proofs.Stops.{Halts, advance-halts}
+use Rattle.machine.specs.Denials.{denied, Grant}
 
 -- a refusal is no beginning
-pub refused-begun : (q p : ℕ) → Entry.Refused q p ≡ Entry.Begun → ⊥
+pub refused-begun : (q p : ℕ) → ◌≡◌ {A = Grant} (Err (denied q p)) (Ok tt) → ⊥
 refused-begun q p e = let z : ◌≡◌ {A = ℕ} 0 1 = cc in omega arith
 
 -- ---- entering a call
@@ -298,28 +298,28 @@ unfolding first_state frame_for call_at live_frames numbers over
 first-call W vs ws = (refl, refl)
 
 -- behind question 13
-first-13 : (f v : ℕ) (s : State) (buffer : List ℤ) → First f v s → (question13 s buffer).entry ≡ Entry.Begun → First f v (question13 s buffer).state
+first-13 : (f v : ℕ) (s : State) (buffer : List ℤ) → First f v s → (question13 s buffer).entry ≡ Ok tt → First f v (question13 s buffer).state
 unfolding question13 refused
 first-13 f v s buffer h g = go (long_enough buffer) refl g
   where
-    go : (b : Bool) → long_enough buffer ≡ b → (question13 s buffer).entry ≡ Entry.Begun → First f v (question13 s buffer).state
+    go : (b : Bool) → long_enough buffer ≡ b → (question13 s buffer).entry ≡ Ok tt → First f v (question13 s buffer).state
     go true e g = rw (e, question13) h
     go false e g = absurd (refused-begun 13 0 (rw (e, question13) at g))
 
 -- behind 11, 19 and 12
-first-entered : (P : Program) (level f v : ℕ) (words buffer : List ℤ) → (entered_of P level f v words buffer).entry ≡ Entry.Begun → First f v (entered_of P level f v words buffer).state
+first-entered : (P : Program) (level f v : ℕ) (words buffer : List ℤ) → (entered_of P level f v words buffer).entry ≡ Ok tt → First f v (entered_of P level f v words buffer).state
 unfolding entered_of question11 question19 question12 refused
 first-entered P level f v words buffer h = go (find_version P f v) refl h
   where
-    given : (W : Version) → (W.function ≡ f) × (W.version ≡ v) → (o : Option (List Given)) → (question12 W o buffer).entry ≡ Entry.Begun → First f v (question12 W o buffer).state
+    given : (W : Version) → (W.function ≡ f) × (W.version ≡ v) → (o : Option (List Given)) → (question12 W o buffer).entry ≡ Ok tt → First f v (question12 W o buffer).state
     given W n none g = absurd (refused-begun 12 0 g)
     given W n (some xs) g = first-13 f v _ buffer (rw (sym n.0, sym n.1) (first-call W (values_of xs 0) (vectors_of xs))) g
 
-    low : (W : Version) → find_version P f v ≡ some W → (b : Bool) → leb W.level (run_level level) ≡ b → (question19 level W words buffer).entry ≡ Entry.Begun → First f v (question19 level W words buffer).state
+    low : (W : Version) → find_version P f v ≡ some W → (b : Bool) → leb W.level (run_level level) ≡ b → (question19 level W words buffer).entry ≡ Ok tt → First f v (question19 level W words buffer).state
     low W e true l g = rw (l, question19) (given W (find-numbers P f v W e) (arguments (parameter_types W) words) (rw (l, question19) at g))
     low W e false l g = absurd (refused-begun 19 0 (rw (l, question19) at g))
 
-    go : (o : Option Version) → find_version P f v ≡ o → (question11 level o words buffer).entry ≡ Entry.Begun → First f v (question11 level o words buffer).state
+    go : (o : Option Version) → find_version P f v ≡ o → (question11 level o words buffer).entry ≡ Ok tt → First f v (question11 level o words buffer).state
     go none e g = absurd (refused-begun 11 0 g)
     go (some W) e g = low W e (leb W.level (run_level level)) refl g
 
@@ -328,6 +328,6 @@ pub first-enters : FirstCall
 unfolding FirstCall begin_of begin_after refused
 first-enters image level f v words buffer = go (verdict_of image)
   where
-    go : (a : Verdict) → (begin_after a (program_of image) level f v words buffer).entry ≡ Entry.Begun → First f v (begin_after a (program_of image) level f v words buffer).state
+    go : (a : Verdict) → (begin_after a (program_of image) level f v words buffer).entry ≡ Ok tt → First f v (begin_after a (program_of image) level f v words buffer).state
     go (Err why) h = absurd (refused-begun why.question why.at h)
     go (Ok n) h = first-entered (program_of image) level f v words buffer h

@@ -1,4 +1,5 @@
 -- What every start, step, stop and change that is taken keeps holds of the run under a number of the pool, after every list, and wherever a step was tried, in a budget too.
+use Rattle.std.specs.Prelude.{Err, Ok}
 use mathlib.Core.Path.{◌≡◌, refl, sym, ap, ◌∙◌, subst}
 use mathlib.Core.Logic.{◌⊎◌, inl, inr}
 use mathlib.Core.List.Memᴰ
@@ -19,8 +20,6 @@ use Rattle.machine.specs.Allowed.{vectors_in, step_with, run_with, budget_in_wit
 use Rattle.machine.specs.Pools.{allowed, refuses21, PoolStepped, pool_step, PoolRan, pool_budget, pool_change, overfull, started_in, PoolBegun, pool_begun_as, pool_begin}
 use Rattle.machine.specs.Houses.{Ask, start, go_on, Asked, started_run, go_on_in, ask_in, House, serve, house_after, asks_under, TriedIn, tried_by, tried_ask, history_under}
 use Rattle.machine.specs.declared.Answer.{Answer}
-use Rattle.machine.specs.declared.Changed.{Changed}
-use Rattle.machine.specs.declared.Entry.{Entry}
 use Rattle.machine.specs.declared.Ran.{Ran}
 use Rattle.machine.specs.declared.Said.{Said}
 use Rattle.machine.specs.declared.State.{State}
@@ -32,6 +31,7 @@ use Rattle.runs.proofs.Always.{All, all_none, all_cons, all_append, all_map}
 use Rattle.runs.proofs.Rules.{step-or}
 use Rattle.runs.proofs.Company.{step_is, budget-is, change-is, begin-is, runs-at, runs_other}
 use Rattle.runs.proofs.Refusals.{step-21, budget-21, change-21, begin-21}
+use Rattle.machine.specs.Denials.{Grant, denied}
 
 -- ---- states of one program, under steps that may stop with VECTORS
 
@@ -129,14 +129,14 @@ refused-run image x q o i = i
 none-some : (r : Run) → none ≡ some r → ⊥
 none-some r e = let z : ◌≡◌ {A = ℕ} 0 1 = cc in omega arith
 
-refused-begun : (refused 21 0).entry ≡ Entry.Begun → ⊥
+refused-begun : (refused 21 0).entry ≡ Ok tt → ⊥
 unfolding refused
 refused-begun e = let z : ◌≡◌ {A = ℕ} 0 1 = cc in omega arith
 
 module _ (I : Run → Type 0) (ok : Ask → Type 0)
-    (begins : (image : List ℕ) (level f v : ℕ) (words buffer : List ℤ) → ok (start image level f v words buffer) → (begin_of image level f v words buffer).entry ≡ Entry.Begun → I (record { image = image; state = (begin_of image level f v words buffer).state }))
+    (begins : (image : List ℕ) (level f v : ℕ) (words buffer : List ℤ) → ok (start image level f v words buffer) → (begin_of image level f v words buffer).entry ≡ Ok tt → I (record { image = image; state = (begin_of image level f v words buffer).state }))
     (steps : (r : Run) → I r → I (in_state r (step_of (program_in r) r.state).state))
-    (taken : (new : List ℕ) (r : Run) → I r → change_of r.image new r.state ≡ Changed.Taken → I (record { image = new; state = r.state }))
+    (taken : (new : List ℕ) (r : Run) → I r → change_of r.image new r.state ≡ Ok tt → I (record { image = new; state = r.state }))
     (stops : (r : Run) → I r → I (in_state r (stopped_by r.state).state))
     (empties : (r : Run) → I r → I (in_state r (overfull r.state))) where
   under : (r : Run) (s : State) → I (in_state r s) → I (in_state r (step_of (program_in r) s).state)
@@ -147,12 +147,12 @@ module _ (I : Run → Type 0) (ok : Ask → Type 0)
 
   -- ---- an event
 
-  changed-of : (new : List ℕ) (r : Run) → I r → (c : Changed) → change_of r.image new r.state ≡ c → I (record { image = in_force c r.image new; state = r.state })
+  changed-of : (new : List ℕ) (r : Run) → I r → (c : Grant) → change_of r.image new r.state ≡ c → I (record { image = in_force c r.image new; state = r.state })
   unfolding in_force
-  changed-of new r i Changed.Taken e = taken new r i e
-  changed-of new r i (Changed.Refused q o) e = i
+  changed-of new r i (Ok _) e = taken new r i e
+  changed-of new r i (Err why) e = i
 
-  refused-of : (new : List ℕ) (r : Run) (q o : ℕ) → I r → I (record { image = in_force (Changed.Refused q o) r.image new; state = r.state })
+  refused-of : (new : List ℕ) (r : Run) (q o : ℕ) → I r → I (record { image = in_force (Err (denied q o)) r.image new; state = r.state })
   unfolding in_force
   refused-of new r q o i = i
 
@@ -170,7 +170,7 @@ module _ (I : Run → Type 0) (ok : Ask → Type 0)
       go false e = subst (λ (x : PoolRan). I (in_state r x.ran.state)) (sym (budget-is p n e (program_in r) r.state m buffer)) (budget-keeps (allowed p n) (program_in r) (λ (s : State). I (in_state r s)) (under r) (stop-under r) r.state m buffer i)
   event-of p n (change new) r i = of_some I _ (go (refuses21 p n) refl)
     where
-      after : Changed → Type 0
+      after : Grant → Type 0
       after c = I (record { image = in_force c r.image new; state = r.state })
 
       go : (b : Bool) → refuses21 p n ≡ b → after (pool_change p n r.image new r.state)
@@ -179,10 +179,10 @@ module _ (I : Run → Type 0) (ok : Ask → Type 0)
 
   -- ---- a start
 
-  begun-of : (p : Pool) (n : ℕ) (image : List ℕ) (x : Option Run) → Of I x → (s : State) (e : Entry) → (e ≡ Entry.Begun → I (record { image = image; state = s })) → let y = pool_begun_as p n (record { state = s; entry = e }) e in Of I (started_run image y.begun.state x y.begun.entry)
+  begun-of : (p : Pool) (n : ℕ) (image : List ℕ) (x : Option Run) → Of I x → (s : State) (e : Grant) → (e ≡ Ok tt → I (record { image = image; state = s })) → let y = pool_begun_as p n (record { state = s; entry = e }) e in Of I (started_run image y.begun.state x y.begun.entry)
   unfolding pool_begun_as started_run started_in
-  begun-of p n image x i s (Entry.Refused q o) h = i
-  begun-of p n image x i s Entry.Begun h = of_some I _ (go (leb (vectors_in s) (allowed p n)))
+  begun-of p n image x i s (Err why) h = i
+  begun-of p n image x i s (Ok _) h = of_some I _ (go (leb (vectors_in s) (allowed p n)))
     where
       go : (b : Bool) → I (record { image = image; state = cond b s (overfull s) })
       go true = h refl
@@ -199,12 +199,12 @@ module _ (I : Run → Type 0) (ok : Ask → Type 0)
       go false e = let b = begin_of image level f v words buffer in subst (λ (y : PoolBegun). Of I (run y)) (sym (begin-is p n e image level f v words buffer)) (begun-of p n image x i b.state b.entry (begins image level f v words buffer k))
 
   -- a start that is not refused: whatever run the number had
-  begun-new : (p : Pool) (n : ℕ) (image : List ℕ) (x : Option Run) (s : State) (e : Entry) → let y = pool_begun_as p n (record { state = s; entry = e }) e in y.begun.entry ≡ Entry.Begun → (e ≡ Entry.Begun → I (record { image = image; state = s })) → Of I (started_run image y.begun.state x y.begun.entry)
+  begun-new : (p : Pool) (n : ℕ) (image : List ℕ) (x : Option Run) (s : State) (e : Grant) → let y = pool_begun_as p n (record { state = s; entry = e }) e in y.begun.entry ≡ Ok tt → (e ≡ Ok tt → I (record { image = image; state = s })) → Of I (started_run image y.begun.state x y.begun.entry)
   unfolding pool_begun_as started_run
-  begun-new p n image x s (Entry.Refused q o) b h = let z : ◌≡◌ {A = ℕ} 0 1 = cc in absurd (omega arith)
-  begun-new p n image x s Entry.Begun b h = begun-of p n image none (λ r q. absurd (none-some r q)) s Entry.Begun h
+  begun-new p n image x s (Err why) b h = let z : ◌≡◌ {A = ℕ} 0 1 = cc in absurd (omega arith)
+  begun-new p n image x s (Ok _) b h = begun-of p n image none (λ r q. absurd (none-some r q)) s (Ok tt) h
 
-  pub start-new : (p : Pool) (n : ℕ) (image : List ℕ) (level f v : ℕ) (words buffer : List ℤ) (x : Option Run) → ok (start image level f v words buffer) → (pool_begin image level f v words buffer p n).begun.entry ≡ Entry.Begun → let y = pool_begin image level f v words buffer p n in Of I (started_run image y.begun.state x y.begun.entry)
+  pub start-new : (p : Pool) (n : ℕ) (image : List ℕ) (level f v : ℕ) (words buffer : List ℤ) (x : Option Run) → ok (start image level f v words buffer) → (pool_begin image level f v words buffer p n).begun.entry ≡ Ok tt → let y = pool_begin image level f v words buffer p n in Of I (started_run image y.begun.state x y.begun.entry)
   start-new p n image level f v words buffer x k h = go (refuses21 p n) refl
     where
       run : PoolBegun → Option Run

@@ -1,4 +1,5 @@
 -- In the pool 21 comes before all else, a refusal leaves pool and runs, and a start that needs more than it may have stops at once.
+use Rattle.std.specs.Prelude.{Err, Ok}
 use mathlib.Core.Path.{◌≡◌, refl, sym, ap, ◌∙◌}
 use mathlib.Core.List.{List}
 use mathlib.Core.Option.{Option, none, some}
@@ -20,12 +21,8 @@ use Rattle.machine.specs.Allowed.{vectors_in, step_with, budget_with}
 use Rattle.machine.specs.Pools.{RUNS, sum, allowed, over_reserved, refuses21, fresh, PoolMade, make_of, said_in_pool, PoolStepped, pool_step, noted, noted_after, PoolRan, pool_budget, pool_change, overfull, pool_back, started_in, PoolBegun, pool_begun_as, pool_begin}
 use Rattle.machine.specs.Houses.{Ask, start, go_on, Asked, began, turned, spent, changed, nobody, heard21, started_run, go_on_in, ask_in, House, opened, placed, serve, house_after}
 use Rattle.machine.specs.declared.Answer.{Answer}
-use Rattle.machine.specs.declared.Back.{Back}
 use Rattle.machine.specs.declared.Begun.{Begun}
-use Rattle.machine.specs.declared.Changed.{Changed}
 use Rattle.machine.specs.declared.End.{End}
-use Rattle.machine.specs.declared.Entry.{Entry}
-use Rattle.machine.specs.declared.Made.{Made}
 use Rattle.machine.specs.declared.Pool.{Pool}
 use Rattle.machine.specs.declared.Ran.{Ran}
 use Rattle.machine.specs.declared.Said.{Said}
@@ -35,6 +32,7 @@ use Rattle.machine.specs.declared.PoolSaid.{PoolSaid}
 use Rattle.runs.specs.Company.{is_refusal, Refusals, Overfulls, Fits, Makings, NoneBehind}
 use Rattle.runs.proofs.Company.{step_is, budget-is, begin-is, ended-long}
 use Rattle.runs.proofs.Stores.{placed_same, placed-other, refused-same, house-keeps, zeros-at, opened-order, none-refused}
+use Rattle.machine.specs.Denials.{denied, Grant}
 
 -- ---- 21
 
@@ -53,12 +51,12 @@ module _ (p : Pool) (i : ℕ) (no21 : refuses21 p i ≡ true) where
       outcome : Bool → PoolRan
       outcome b = elim b [ true ↦ record { pool = p; ran = record { state = s; answer = Answer.Refused 21 0; steps = 0 } } | false ↦ let r = budget_with (allowed p i) P s n buffer in record { pool = noted_after p i r r.answer; ran = r } ]
 
-  pub change-21 : (old new : List ℕ) (s : State) → pool_change p i old new s ≡ Changed.Refused 21 0
+  pub change-21 : (old new : List ℕ) (s : State) → pool_change p i old new s ≡ Err (denied 21 0)
   unfolding pool_change
   change-21 old new s = ap outcome no21
     where
-      outcome : Bool → Changed
-      outcome b = elim b [ true ↦ Changed.Refused 21 0 | false ↦ change_of old new s ]
+      outcome : Bool → Grant
+      outcome b = elim b [ true ↦ Err (denied 21 0) | false ↦ change_of old new s ]
 
   pub begin-21 : (image : List ℕ) (level f v : ℕ) (words buffer : List ℤ) → pool_begin image level f v words buffer p i ≡ record { pool = p; begun = refused 21 0 }
   unfolding pool_begin
@@ -122,15 +120,15 @@ module _ (p : Pool) (i : ℕ) where
           let t = answers own.answer refl g in
           (ap (λ (y : PoolRan). y.pool) z ∙ t.0, ap (λ (y : PoolRan). some (in_state r y.ran.state)) z ∙ t.1)
 
-  change-stays : (new : List ℕ) (r : Run) (c : Changed) → is_refusal (changed c) ≡ true → ◌≡◌ {A = Option Run} (some (record { image = in_force c r.image new; state = r.state })) (some r)
+  change-stays : (new : List ℕ) (r : Run) (c : Grant) → is_refusal (changed c) ≡ true → ◌≡◌ {A = Option Run} (some (record { image = in_force c r.image new; state = r.state })) (some r)
   unfolding is_refusal in_force
-  change-stays new r Changed.Taken h = absurd (false≢true h)
-  change-stays new r (Changed.Refused q o) h = refl
+  change-stays new r (Ok _) h = absurd (false≢true h)
+  change-stays new r (Err why) h = refl
 
-  begun-stays : (image : List ℕ) (x : Option Run) (s : State) (e : Entry) → let y = pool_begun_as p i (record { state = s; entry = e }) e in is_refusal (began y.begun.entry) ≡ true → Stays p x y.pool (started_run image y.begun.state x y.begun.entry)
+  begun-stays : (image : List ℕ) (x : Option Run) (s : State) (e : Grant) → let y = pool_begun_as p i (record { state = s; entry = e }) e in is_refusal (began y.begun.entry) ≡ true → Stays p x y.pool (started_run image y.begun.state x y.begun.entry)
   unfolding pool_begun_as started_run is_refusal
-  begun-stays image x s (Entry.Refused q o) h = (refl, refl)
-  begun-stays image x s Entry.Begun h = absurd (false≢true h)
+  begun-stays image x s (Err why) h = (refl, refl)
+  begun-stays image x s (Ok _) h = absurd (false≢true h)
 
   start-stays : (image : List ℕ) (level f v : ℕ) (words buffer : List ℤ) (x : Option Run) → let y = pool_begin image level f v words buffer p i in is_refusal (began y.begun.entry) ≡ true → Stays p x y.pool (started_run image y.begun.state x y.begun.entry)
   unfolding refused started_run
@@ -185,10 +183,10 @@ overfull-ended : (s : State) → (overfull s).status ≡ Status.Ended End.Vector
 unfolding with_end
 overfull-ended s = refl
 
-begun-overfull : (p : Pool) (i : ℕ) (s : State) (e : Entry) → e ≡ Entry.Begun → allowed p i < vectors_in s → (pool_begun_as p i (record { state = s; entry = e }) e).begun ≡ record { state = overfull s; entry = Entry.Begun }
+begun-overfull : (p : Pool) (i : ℕ) (s : State) (e : Grant) → e ≡ Ok tt → allowed p i < vectors_in s → (pool_begun_as p i (record { state = s; entry = e }) e).begun ≡ record { state = overfull s; entry = Ok tt }
 unfolding pool_begun_as started_in
-begun-overfull p i s (Entry.Refused q o) h l = let z : ◌≡◌ {A = ℕ} 0 1 = cc in absurd (omega arith)
-begun-overfull p i s Entry.Begun h l = ap (λ (b : Bool). record { state = cond b s (overfull s); entry = Entry.Begun }) (lt-leb (vectors_in s) (allowed p i) l)
+begun-overfull p i s (Err why) h l = let z : ◌≡◌ {A = ℕ} 0 1 = cc in absurd (omega arith)
+begun-overfull p i s (Ok _) h l = ap (λ (b : Bool). record { state = cond b s (overfull s); entry = Ok tt }) (lt-leb (vectors_in s) (allowed p i) l)
 
 -- THE LAW: it stops with VECTORS, whatever its budget
 pub overfulls : Overfulls
@@ -206,7 +204,7 @@ overfulls p i image level f v words buffer ok begun l = record {
     s : State
     s = (pool_begin image level f v words buffer p i).begun.state
 
-    is : (pool_begin image level f v words buffer p i).begun ≡ record { state = overfull b.state; entry = Entry.Begun }
+    is : (pool_begin image level f v words buffer p i).begun ≡ record { state = overfull b.state; entry = Ok tt }
     is = ap (λ (y : PoolBegun). y.begun) (begin-is p i ok image level f v words buffer) ∙ begun-overfull p i b.state b.entry begun l
 
     ended : s.status ≡ Status.Ended End.Vectors
@@ -214,13 +212,13 @@ overfulls p i image level f v words buffer ok begun l = record {
 
 -- ---- one that needs no more
 
-begun-fits : (p : Pool) (i : ℕ) (b : Begun) (e : Entry) → b.entry ≡ e → e ≡ Entry.Begun → vectors_in b.state ≤ allowed p i → pool_begun_as p i b e ≡ record { pool = noted p i b.state; begun = b }
+begun-fits : (p : Pool) (i : ℕ) (b : Begun) (e : Grant) → b.entry ≡ e → e ≡ Ok tt → vectors_in b.state ≤ allowed p i → pool_begun_as p i b e ≡ record { pool = noted p i b.state; begun = b }
 unfolding pool_begun_as started_in
-begun-fits p i b (Entry.Refused q o) d h l = let z : ◌≡◌ {A = ℕ} 0 1 = cc in absurd (omega arith)
-begun-fits p i b Entry.Begun d h l = ap outcome (le-leb (vectors_in b.state) (allowed p i) l) ∙ ap (λ (x : Entry). record { pool = noted p i b.state; begun = record { state = b.state; entry = x } }) (sym d)
+begun-fits p i b (Err why) d h l = let z : ◌≡◌ {A = ℕ} 0 1 = cc in absurd (omega arith)
+begun-fits p i b (Ok _) d h l = ap outcome (le-leb (vectors_in b.state) (allowed p i) l) ∙ ap (λ (x : Grant). record { pool = noted p i b.state; begun = record { state = b.state; entry = x } }) (sym d)
   where
     outcome : Bool → PoolBegun
-    outcome x = let s = cond x b.state (overfull b.state) in record { pool = noted p i s; begun = record { state = s; entry = Entry.Begun } }
+    outcome x = let s = cond x b.state (overfull b.state) in record { pool = noted p i s; begun = record { state = s; entry = Ok tt } }
 
 -- THE LAW: it begins as without a pool
 pub fits : Fits
@@ -235,9 +233,9 @@ unfolding make_of over_reserved
 makings = record { over = λ reserves p e. ap (outcome reserves p) e; only = λ reserves p q o h. refuses reserves p q o (over_reserved reserves) refl h; ready = λ reserves p e. ap (outcome reserves p) e; empty = λ reserves i. zeros-at RUNS i }
   where
     outcome : List ℕ → Pool → Bool → PoolMade
-    outcome reserves p b = elim b [ true ↦ record { pool = p; made = Made.Refused 21 0 } | false ↦ record { pool = fresh reserves; made = Made.Ready } ]
+    outcome reserves p b = elim b [ true ↦ record { pool = p; made = Err (denied 21 0) } | false ↦ record { pool = fresh reserves; made = Ok tt } ]
 
-    refuses : (reserves : List ℕ) (p : Pool) (q o : ℕ) (b : Bool) → over_reserved reserves ≡ b → (outcome reserves p b).made ≡ Made.Refused q o → VECTORS < sum reserves
+    refuses : (reserves : List ℕ) (p : Pool) (q o : ℕ) (b : Bool) → over_reserved reserves ≡ b → (outcome reserves p b).made ≡ Err (denied q o) → VECTORS < sum reserves
     refuses reserves p q o true e h = ltb-true VECTORS (sum reserves) e
     refuses reserves p q o false e h = let z : ◌≡◌ {A = ℕ} 0 1 = cc in absurd (omega arith)
 
@@ -253,5 +251,5 @@ none-behind = record {
   trail = λ P s. refl;
 }
   where
-    outcome : Bool → Back
-    outcome b = elim b [ true ↦ Back.Refused 21 0 | false ↦ Back.Refused 20 0 ]
+    outcome : Bool → Grant
+    outcome b = elim b [ true ↦ Err (denied 21 0) | false ↦ Err (denied 20 0) ]

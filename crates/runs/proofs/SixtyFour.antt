@@ -1,5 +1,5 @@
 -- 02, 5: an accepted image and its bytes with each literal of 64 bits have the same runs but where the old range ends in UNDEF.
-use Rattle.std.specs.Prelude.{Ok}
+use Rattle.std.specs.Prelude.{Ok, Err}
 use mathlib.Core.Path.{◌≡◌, refl, sym, ap, ◌∙◌, subst}
 use mathlib.Core.Logic.{◌≢◌}
 use mathlib.Core.List.{List}
@@ -18,7 +18,6 @@ use Rattle.machine.specs.Begin.{begin_after, begin_of, entered_of, program_of, r
 use Rattle.machine.specs.declared.Answer.{Answer}
 use Rattle.machine.specs.declared.Begun.{Begun}
 use Rattle.machine.specs.declared.End.{End}
-use Rattle.machine.specs.declared.Entry.{Entry}
 use Rattle.machine.specs.declared.Ran.{Ran}
 use Rattle.machine.specs.declared.State.{State}
 use Rattle.runs.specs.Alike.{AllAlike}
@@ -27,6 +26,7 @@ use Rattle.runs.proofs.Alike.{entered-alike}
 use Rattle.runs.proofs.Moved.{all_known, records-wider}
 use Rattle.runs.proofs.WiderRuns.{wider-budget}
 use Rattle.runs.proofs.Widened.{Widened, forms-alike}
+use Rattle.machine.specs.Denials.{Grant}
 
 -- the records of an accepted image in both forms
 pub new-records : (image : List ℕ) → ((i : ℕ) → image ! i < 256) → (n : ℕ) → verdict_in Form.Narrow image ≡ Ok n → Widened (records image) (records (moved Form.Narrow (records image)))
@@ -39,9 +39,9 @@ module _ (P Q : Program) (A : AllAlike P Q) (n : ℕ) (buffer : List ℤ) where
   unfolding run_after_to WiderBudget
   started-same b = go b.entry b.state
     where
-      go : (e : Entry) (s : State) → (run_after_to NARROW-RANGE e P s n buffer).answer ≢ Answer.Ended End.Undef → run_after_to RANGE e Q s n buffer ≡ run_after_to NARROW-RANGE e P s n buffer
-      go (Entry.Refused q p) s u = refl
-      go Entry.Begun s u = wider-budget NARROW-RANGE RANGE (omega arith) P Q A s n buffer u
+      go : (e : Grant) (s : State) → (run_after_to NARROW-RANGE e P s n buffer).answer ≢ Answer.Ended End.Undef → run_after_to RANGE e Q s n buffer ≡ run_after_to NARROW-RANGE e P s n buffer
+      go (Err why) s u = refl
+      go (Ok _) s u = wider-budget NARROW-RANGE RANGE (omega arith) P Q A s n buffer u
 
 -- the programs of both forms
 pub both-forms-alike : FormsAlike

@@ -1,4 +1,5 @@
 -- The store of 64 vectors: what eight runs have never exceeds it.
+use Rattle.std.specs.Prelude.{Err, Ok}
 use mathlib.Core.Path.{◌≡◌, refl, sym, ap, ap₂, ◌∙◌, subst}
 use mathlib.Core.Logic.{◌≢◌}
 use mathlib.Core.List.{List, [], ◌∷◌}
@@ -24,7 +25,6 @@ use Rattle.machine.specs.Houses.{Ask, start, go_on, Asked, started_run, go_on_in
 use Rattle.machine.specs.declared.Answer.{Answer}
 use Rattle.machine.specs.declared.Begun.{Begun}
 use Rattle.machine.specs.declared.End.{End}
-use Rattle.machine.specs.declared.Entry.{Entry}
 use Rattle.machine.specs.declared.Pool.{Pool}
 use Rattle.machine.specs.declared.Ran.{Ran}
 use Rattle.machine.specs.declared.Said.{Said}
@@ -35,6 +35,7 @@ use Rattle.machine.specs.declared.PoolSaid.{PoolSaid}
 use Rattle.runs.specs.Stores.{has_of, goes_on, lives, Housed, Stores}
 use Rattle.runs.proofs.Caps.{step_count, budget-count}
 use Rattle.runs.proofs.Reserves.{reserve-in, Ordered, in-allowed, most-allowed, reserved-64, set-ordered, unused-at}
+use Rattle.machine.specs.Denials.{Grant, denied}
 
 -- ---- a house in order
 
@@ -225,15 +226,15 @@ module _ (reserves : List ℕ) (w : House) (o : Order reserves w) (i : ℕ) wher
       go false e = overfull-none s (allowed w.pool i)
 
   -- one that is refused leaves all
-  refused-keeps : (image : List ℕ) (x : PoolBegun) (e : Entry) (q p : ℕ) → e ≡ Entry.Refused q p → x.pool ≡ w.pool → Keeps x.pool (started_run image x.begun.state (w.runs i) e)
+  refused-keeps : (image : List ℕ) (x : PoolBegun) (e : Grant) (q p : ℕ) → e ≡ Err (denied q p) → x.pool ≡ w.pool → Keeps x.pool (started_run image x.begun.state (w.runs i) e)
   unfolding started_run
-  refused-keeps image x (Entry.Refused q' p') q p e k = rw k self-keeps
-  refused-keeps image x Entry.Begun q p e k = let z : ◌≡◌ {A = ℕ} 0 1 = cc in absurd (omega arith)
+  refused-keeps image x (Err why) q p e k = rw k self-keeps
+  refused-keeps image x (Ok _) q p e k = let z : ◌≡◌ {A = ℕ} 0 1 = cc in absurd (omega arith)
 
-  begun-keeps : (image : List ℕ) (b : Begun) (e : Entry) → b.entry ≡ e → i < RUNS → let x = pool_begun_as w.pool i b e in Keeps x.pool (started_run image x.begun.state (w.runs i) x.begun.entry)
+  begun-keeps : (image : List ℕ) (b : Begun) (e : Grant) → b.entry ≡ e → i < RUNS → let x = pool_begun_as w.pool i b e in Keeps x.pool (started_run image x.begun.state (w.runs i) x.begun.entry)
   unfolding pool_begun_as started_run
-  begun-keeps image b (Entry.Refused q p) d l = refused-keeps image (record { pool = w.pool; begun = b }) b.entry q p d refl
-  begun-keeps image b Entry.Begun d l = noted-keeps (record { image = image; state = started_in w.pool i b.state }) l (started-fits b.state)
+  begun-keeps image b (Err why) d l = refused-keeps image (record { pool = w.pool; begun = b }) b.entry why.question why.at d refl
+  begun-keeps image b (Ok _) d l = noted-keeps (record { image = image; state = started_in w.pool i b.state }) l (started-fits b.state)
 
   start-keeps : (image : List ℕ) (level f v : ℕ) (words buffer : List ℤ) → let x = pool_begin image level f v words buffer w.pool i in Keeps x.pool (started_run image x.begun.state (w.runs i) x.begun.entry)
   unfolding pool_begin refused
@@ -246,7 +247,7 @@ module _ (reserves : List ℕ) (w : House) (o : Order reserves w) (i : ℕ) wher
       outcome x = elim x [ true ↦ record { pool = w.pool; begun = refused 21 0 } | false ↦ pool_begun_as w.pool i b b.entry ]
 
       go : (x : Bool) → refuses21 w.pool i ≡ x → Keeps (outcome x).pool (started_run image (outcome x).begun.state (w.runs i) (outcome x).begun.entry)
-      go true e = refused-keeps image (outcome true) (Entry.Refused 21 0) 21 0 refl refl
+      go true e = refused-keeps image (outcome true) (Err (denied 21 0)) 21 0 refl refl
       go false e = begun-keeps image b b.entry refl (number_in w.pool i e)
 
   ask-keeps : (a : Ask) (x : Option Run) → w.runs i ≡ x → let y = ask_in w.pool i a x in Keeps y.pool y.run

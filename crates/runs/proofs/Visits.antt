@@ -1,4 +1,5 @@
 -- What every step and every change that is taken keeps holds after every list of moves, steps back among them, and wherever a step was tried.
+use Rattle.std.specs.Prelude.{Err, Ok}
 use mathlib.Core.Path.{◌≡◌, refl}
 use mathlib.Core.List.{List, [], ◌∷◌}
 use Prim.Native.Nat.{ℕ, zero, suc}
@@ -7,9 +8,9 @@ use Rattle.machine.specs.Events.{Run, single, budget, change, program_in, in_sta
 use Rattle.machine.specs.Runs.{step_of}
 use Rattle.machine.specs.Trails.{step_on, budget_on, change_on, back_by, back_of, Visit, visit_program, run_now, run_then, visit_of, Move, event, step_back, move, visit_after, retried, tried_on, visit_history}
 use Rattle.machine.specs.declared.Behind.{Behind}
-use Rattle.machine.specs.declared.Changed.{Changed}
 use Rattle.machine.specs.declared.State.{State}
 use Rattle.runs.proofs.Always.{All, all_none, all_append, all_map, in-keeps, in_all, budget-keeps, tried-keeps}
+use Rattle.machine.specs.Denials.{Grant}
 
 -- of the run that it has come to, and of the one that it goes back to at most
 abbrev pub Both : (Run → Type 0) → Visit → Type 0
@@ -17,14 +18,14 @@ Both I v = I (run_now v) × I (run_then v)
 
 module _ (I : Run → Type 0)
     (steps : (r : Run) → I r → I (in_state r (step_of (program_in r) r.state).state))
-    (taken : (new : List ℕ) (r : Run) → I r → change_of r.image new r.state ≡ Changed.Taken → I (record { image = new; state = r.state })) where
+    (taken : (new : List ℕ) (r : Run) → I r → change_of r.image new r.state ≡ Ok tt → I (record { image = new; state = r.state })) where
   under : (r : Run) → (s : State) → I (in_state r s) → I (in_state r (step_of (program_in r) s).state)
   under r s i = steps (in_state r s) i
 
-  change-both : (new : List ℕ) (v : Visit) → Both I v → (c : Changed) → change_of v.image new v.trail.state ≡ c → Both I (record { image = in_force c v.image new; trail = change_on v.trail c })
+  change-both : (new : List ℕ) (v : Visit) → Both I v → (c : Grant) → change_of v.image new v.trail.state ≡ c → Both I (record { image = in_force c v.image new; trail = change_on v.trail c })
   unfolding in_force change_on
-  change-both new v i Changed.Taken e = (taken new (run_now v) i.0 e, taken new (run_now v) i.0 e)
-  change-both new v i (Changed.Refused q p) e = i
+  change-both new v i (Ok _) e = (taken new (run_now v) i.0 e, taken new (run_now v) i.0 e)
+  change-both new v i (Err why) e = i
 
   back-both : (v : Visit) → Both I v → (b : Behind) → Both I (record { image = v.image; trail = (back_by (visit_program v) v.trail b).trail })
   unfolding back_by

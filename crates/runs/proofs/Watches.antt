@@ -1,4 +1,5 @@
 -- 02, request 11: watching the topmost call fills the first records of the lent list and leaves the others.
+use Rattle.std.specs.Prelude.{Err, Ok, Result}
 use mathlib.Core.Path.{◌≡◌, refl, ap, ◌∙◌}
 use mathlib.Core.List.{List, [], ◌∷◌}
 use mathlib.Core.Option.{Option, none, some}
@@ -16,9 +17,10 @@ use Rattle.machine.specs.Watches.{row_of, or_empty, rows_from, rows_of, rows_at,
 use Rattle.machine.specs.declared.Frame.{Frame}
 use Rattle.machine.specs.declared.Row.{Row}
 use Rattle.machine.specs.declared.State.{State}
-use Rattle.machine.specs.declared.Watch.{Watch}
 use Rattle.machine.proofs.Overlays.{length_over, over-in, over-past}
 use Rattle.runs.specs.Watches.{Fills, Watching}
+use Rattle.machine.specs.declared.Denial.{Denial}
+use Rattle.machine.specs.Denials.{denied}
 
 -- ---- the records
 
@@ -51,22 +53,22 @@ no_call P s h = ap (rows_at P s) (ap (λ (n : ℕ). get_elem? (take n s.frames) 
 -- ---- the lent list
 
 module _ (P : Program) (s : State) (rows : List Row) where
-  is-filled : length (watch_of P s) ≤ length rows → (watched_of P s (length rows) ≡ Watch.Filled (length (watch_of P s))) × (rows_after P s rows ≡ over (watch_of P s) rows)
+  is-filled : length (watch_of P s) ≤ length rows → (watched_of P s (length rows) ≡ Ok (length (watch_of P s))) × (rows_after P s rows ≡ over (watch_of P s) rows)
   unfolding watched_of rows_after
   is-filled h = let e = le-leb (length (watch_of P s)) (length rows) h in (ap answer e, ap list e)
     where
-      answer : Bool → Watch
-      answer b = elim b [ true ↦ Watch.Filled (length (watch_of P s)) | false ↦ Watch.Refused 22 0 ]
+      answer : Bool → Result ℕ Denial
+      answer b = elim b [ true ↦ Ok (length (watch_of P s)) | false ↦ Err (denied 22 0) ]
 
       list : Bool → List Row
       list b = elim b [ true ↦ over (watch_of P s) rows | false ↦ rows ]
 
-  is-short : length rows < length (watch_of P s) → (watched_of P s (length rows) ≡ Watch.Refused 22 0) × (rows_after P s rows ≡ rows)
+  is-short : length rows < length (watch_of P s) → (watched_of P s (length rows) ≡ Err (denied 22 0)) × (rows_after P s rows ≡ rows)
   unfolding watched_of rows_after
   is-short h = let e = lt-leb (length (watch_of P s)) (length rows) h in (ap answer e, ap list e)
     where
-      answer : Bool → Watch
-      answer b = elim b [ true ↦ Watch.Filled (length (watch_of P s)) | false ↦ Watch.Refused 22 0 ]
+      answer : Bool → Result ℕ Denial
+      answer b = elim b [ true ↦ Ok (length (watch_of P s)) | false ↦ Err (denied 22 0) ]
 
       list : Bool → List Row
       list b = elim b [ true ↦ over (watch_of P s) rows | false ↦ rows ]
@@ -79,13 +81,13 @@ module _ (P : Program) (s : State) (rows : List Row) where
       go true e = f (leb-true (length (watch_of P s)) (length rows) e)
       go false e = g (leb-false (length (watch_of P s)) (length rows) e)
 
-  nothing : s.calls ≡ 0 → (watched_of P s (length rows) ≡ Watch.Filled 0) × (rows_after P s rows ≡ rows)
+  nothing : s.calls ≡ 0 → (watched_of P s (length rows) ≡ Ok 0) × (rows_after P s rows ≡ rows)
   unfolding over
   nothing h =
       let e = no_call P s h in
       let n : length (watch_of P s) ≡ 0 = ap (λ (l : List Row). length l) e in
       let t = is-filled (omega (arith, n)) in
-      (t.0 ∙ ap Watch.Filled n, t.1 ∙ ap (λ (l : List Row). over l rows) e)
+      (t.0 ∙ ap Ok n, t.1 ∙ ap (λ (l : List Row). over l rows) e)
 
   fills : Fills P s rows
   unfolding watch_of

@@ -1,17 +1,17 @@
 -- 02, request 8: what a trail keeps, and what a step back gives, after every list of steps, budgets, changes and steps back. The statements alone.
-use Rattle.std.specs.Prelude.{◌≡◌, List, [], ◌∷◌, map, Bool, true, false, cond, ℕ, suc, ◌+◌, ◌-◌, ◌≤◌, ◌<◌}
+use Rattle.std.specs.Prelude.{◌≡◌, List, [], ◌∷◌, map, Bool, true, false, cond, ℕ, suc, ◌+◌, ◌-◌, ◌≤◌, ◌<◌, Err, Ok}
+use Rattle.std.specs.Result.{is_ok}
 use Rattle.program.specs.Program.{Program}
 use Rattle.machine.specs.Runs.{step_of, last_step, budget_in, budget_of}
 use Rattle.machine.specs.Changes.{change_of}
 use Rattle.machine.specs.Events.{Run, Event, single, budget, change, program_in, handle, after}
 use Rattle.machine.specs.Trails.{REACH, behind_by, steps_by, step_on, state_after, refused20, back_of, Visit, visit_program, run_now, run_then, visit_of, Move, event, step_back, move, visit_after}
-use Rattle.machine.specs.declared.Back.{Back}
 use Rattle.machine.specs.declared.Behind.{Behind}
-use Rattle.machine.specs.declared.Changed.{Changed}
 use Rattle.machine.specs.declared.End.{End}
 use Rattle.machine.specs.declared.Said.{Said}
 use Rattle.machine.specs.declared.State.{State}
 use Rattle.machine.specs.declared.Trail.{Trail}
+use Rattle.machine.specs.Denials.{Grant}
 
 -- s is the state that n steps give from the start; or the stop, which does not count, of the step tried there
 pub data At (P : Program) (start : State) (n : ℕ) (s : State) : Type 0 where
@@ -32,9 +32,8 @@ pub record Kept (v : Visit) : Type 0 where
 -- ---- how many steps lie behind
 
 -- the move is a change that is taken
-unfoldable pub is_taken : Changed → Bool
-is_taken Changed.Taken = true
-is_taken (Changed.Refused q p) = false
+abbrev pub is_taken : Grant → Bool
+is_taken c = is_ok c
 
 unfoldable pub takes : Move → Visit → Bool
 takes (event single) v = false
@@ -49,9 +48,9 @@ steps_of (budget n buffer) r = (budget_of (program_in r) r.state n buffer).steps
 steps_of (change new) r = 0
 
 -- a step back that is taken is one step less
-unfoldable pub count_back : Back → ℕ → ℕ
-count_back Back.Taken n = n - 1
-count_back (Back.Refused q p) n = n
+unfoldable pub count_back : Grant → ℕ → ℕ
+count_back (Ok _) n = n - 1
+count_back (Err why) n = n
 
 -- behind a move, where n lay behind before it: a change that is taken is a start
 unfoldable pub count_on : Move → Visit → ℕ → ℕ
@@ -71,7 +70,7 @@ Counts = (r : Run) (ms : List Move) → (k : Kept (visit_after ms (visit_of r)))
 
 -- one step less: with n from 1 to REACH counted steps behind, the state that n − 1 steps give, whole; else 20 at 0, and all stays
 pub record GoesBack (P : Program) (start : State) (n : ℕ) (t : Trail) : Type 0 where
-  pub one : (m : ℕ) → n ≡ suc m → n ≤ REACH → back_of P t ≡ record { trail = record { start = start; behind = Behind.Steps m; state = state_after P start m }; back = Back.Taken }
+  pub one : (m : ℕ) → n ≡ suc m → n ≤ REACH → back_of P t ≡ record { trail = record { start = start; behind = Behind.Steps m; state = state_after P start m }; back = Ok tt }
   pub none : n ≡ 0 → back_of P t ≡ refused20 t
   pub past : REACH < n → back_of P t ≡ refused20 t
 
@@ -84,7 +83,7 @@ unfoldable pub Undoes : Type 0
 Undoes =
     (r : Run) (ms : List Move) (n : ℕ) → let v = visit_after ms (visit_of r) in
     v.trail.behind ≡ Behind.Steps n → n < REACH → steps_by v.trail.state.status (step_of (visit_program v) v.trail.state).said ≡ 1
-    → back_of (visit_program v) (step_on (visit_program v) v.trail) ≡ record { trail = v.trail; back = Back.Taken }
+    → back_of (visit_program v) (step_on (visit_program v) v.trail) ≡ record { trail = v.trail; back = Ok tt }
 
 -- and a step forward behind a step back leads to the trail again, whole, unless the run was stopped there
 unfoldable pub Redoes : Type 0
@@ -103,7 +102,7 @@ pub record Since : Type 0 where
   -- Where none is taken, image and start stay;
   pub same : (ms : List Move) (v : Visit) → NoneTaken ms v → run_then (visit_after ms v) ≡ run_then v
   -- one that is taken is a new start, under its image and with no step behind.
-  pub anew : (new : List ℕ) (v : Visit) → change_of v.image new v.trail.state ≡ Changed.Taken → (move (event (change new)) v).visit ≡ visit_of (record { image = new; state = v.trail.state })
+  pub anew : (new : List ℕ) (v : Visit) → change_of v.image new v.trail.state ≡ Ok tt → (move (event (change new)) v).visit ≡ visit_of (record { image = new; state = v.trail.state })
 
 -- ---- counted from the start
 

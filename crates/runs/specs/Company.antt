@@ -1,5 +1,5 @@
 -- 02, 10: what a run in the pool has of one without a pool, and what refusals leave. The statements.
-use Rattle.std.specs.Prelude.{◌≡◌, ◌≢◌, ◌⊎◌, Bool, true, false, ℕ, ◌≤◌, ◌<◌, ℤ, length, get_or, replicate}
+use Rattle.std.specs.Prelude.{◌≡◌, ◌≢◌, ◌⊎◌, Bool, true, false, ℕ, ◌≤◌, ◌<◌, ℤ, length, get_or, replicate, Err, Ok}
 use mathlib.Core.List.{List, [], ◌∷◌, ◌++◌, map, Memᴰ}
 use Rattle.std.proofs.Math.Option.{Option, none, some}
 use Rattle.layout.specs.Bounds.{REGISTERS}
@@ -18,11 +18,7 @@ use Rattle.machine.specs.Pools.{RUNS, sum, gets, allowed, over_reserved, refuses
 use Rattle.machine.specs.Houses.{Ask, start, go_on, Asked, Heard, began, turned, spent, changed, nobody, heard21}
 use Rattle.machine.specs.Houses.{House, opened, serve, house_after, heard_under, asks_under, ask_alone, heard_alone, run_alone, TriedIn, tried_ask, history_under}
 use Rattle.machine.specs.declared.Answer.{Answer}
-use Rattle.machine.specs.declared.Back.{Back}
-use Rattle.machine.specs.declared.Changed.{Changed}
 use Rattle.machine.specs.declared.End.{End}
-use Rattle.machine.specs.declared.Entry.{Entry}
-use Rattle.machine.specs.declared.Made.{Made}
 use Rattle.machine.specs.declared.Pool.{Pool}
 use Rattle.machine.specs.declared.Ran.{Ran}
 use Rattle.machine.specs.declared.Said.{Said}
@@ -30,6 +26,7 @@ use Rattle.machine.specs.declared.State.{State}
 use Rattle.machine.specs.declared.Status.{Status}
 use Rattle.machine.specs.declared.Stepped.{Stepped}
 use Rattle.machine.specs.declared.PoolSaid.{PoolSaid}
+use Rattle.machine.specs.Denials.{denied}
 
 -- ---- the rule, at a step that needs a vector
 
@@ -157,15 +154,15 @@ pub data Beside (S : Type 0) : Pace → List Ask → List Heard → List Heard �
   -- or it comes at once: a start that needs more than it may have
   at_once : (image : List ℕ) (level f v : ℕ) (words buffer : List ℤ) (q : Pace) (l : List Ask) (hs gs : List Heard)
       → Beside S (stopped (record { image = image; state = overfull (begin_of image level f v words buffer).state })) l hs gs
-      → Beside S q (start image level f v words buffer ∷ l) (began Entry.Begun ∷ hs) (began Entry.Begun ∷ gs)
+      → Beside S q (start image level f v words buffer ∷ l) (began (Ok tt) ∷ hs) (began (Ok tt) ∷ gs)
   -- it has come
   again : (r : Run) (e : Event) (h g : Heard) (l : List Ask) (hs gs : List Heard) → Again r e h → Beside S (stopped (handle e r).run) l hs gs
       → Beside S (stopped r) (go_on e ∷ l) (h ∷ hs) (g ∷ gs)
   refused : (r : Run) (image : List ℕ) (level f v : ℕ) (words buffer : List ℤ) (k o : ℕ) (l : List Ask) (hs gs : List Heard) → Beside S (stopped r) l hs gs
-      → Beside S (stopped r) (start image level f v words buffer ∷ l) (began (Entry.Refused k o) ∷ hs) (began (Entry.Refused k o) ∷ gs)
+      → Beside S (stopped r) (start image level f v words buffer ∷ l) (began (Err (denied k o)) ∷ hs) (began (Err (denied k o)) ∷ gs)
   anew : (r : Run) (image : List ℕ) (level f v : ℕ) (words buffer : List ℤ) (l : List Ask) (hs gs : List Heard)
       → Beside S (in_step (some (record { image = image; state = (begin_of image level f v words buffer).state }))) l hs gs
-      → Beside S (stopped r) (start image level f v words buffer ∷ l) (began Entry.Begun ∷ hs) (began Entry.Begun ∷ gs)
+      → Beside S (stopped r) (start image level f v words buffer ∷ l) (began (Ok tt) ∷ hs) (began (Ok tt) ∷ gs)
 
 -- Under every number, whatever is asked under the others in between
 unfoldable pub CompanyBut : Type 0 → Type 0
@@ -184,7 +181,7 @@ pub data Stopped (asks : List Ask) (r : Run) : Type 0 where
       → some r ≡ run_alone ys (some (in_state u r.state)) → Stopped asks r
   -- or by its start, in its first state
   at_start : (xs : List Ask) (image : List ℕ) (level f v : ℕ) (words buffer : List ℤ) (ys : List Ask) → asks ≡ xs ++ (start image level f v words buffer ∷ ys)
-      → (begin_of image level f v words buffer).entry ≡ Entry.Begun → r.state ≡ overfull (begin_of image level f v words buffer).state
+      → (begin_of image level f v words buffer).entry ≡ Ok tt → r.state ≡ overfull (begin_of image level f v words buffer).state
       → some r ≡ run_alone ys (some (record { image = image; state = r.state })) → Stopped asks r
 
 -- and its run is the one that it would be without a pool, or has stopped with VECTORS in a state that this one came to
@@ -197,8 +194,8 @@ SameRuns =
 -- ---- refusals
 
 unfoldable pub is_refusal : Heard → Bool
-is_refusal (began Entry.Begun) = false
-is_refusal (began (Entry.Refused q p)) = true
+is_refusal (began (Ok _)) = false
+is_refusal (began (Err why)) = true
 is_refusal (turned (PoolSaid.Refused q p)) = true
 is_refusal (turned PoolSaid.GoesOn) = false
 is_refusal (turned (PoolSaid.Ended e)) = false
@@ -207,8 +204,8 @@ is_refusal (spent (Answer.Refused q p) n buffer) = true
 is_refusal (spent Answer.Steps n buffer) = false
 is_refusal (spent (Answer.Ended e) n buffer) = false
 is_refusal (spent Answer.Stuck n buffer) = false
-is_refusal (changed Changed.Taken) = false
-is_refusal (changed (Changed.Refused q p)) = true
+is_refusal (changed (Ok _)) = false
+is_refusal (changed (Err why)) = true
 is_refusal nobody = false
 
 pub record Refusals : Type 0 where
@@ -225,7 +222,7 @@ StartNeeds = (W : Version) (xs : List Given) → length xs ≤ REGISTERS → vec
 
 -- a start whose arguments need more than it may have is begun and stopped with VECTORS, with no live call
 pub record Overfull (p : Pool) (i : ℕ) (image : List ℕ) (level f v : ℕ) (words buffer : List ℤ) : Type 0 where
-  pub entry : (pool_begin image level f v words buffer p i).begun.entry ≡ Entry.Begun
+  pub entry : (pool_begin image level f v words buffer p i).begun.entry ≡ Ok tt
   pub no_call : (pool_begin image level f v words buffer p i).begun.state.calls ≡ 0
   pub ended : (pool_begin image level f v words buffer p i).begun.state.status ≡ Status.Ended End.Vectors
   -- whatever its budget, 0 too, in whatever pool: 0 steps, and the state stays
@@ -234,23 +231,23 @@ pub record Overfull (p : Pool) (i : ℕ) (image : List ℕ) (level f v : ℕ) (w
 
 unfoldable pub Overfulls : Type 0
 Overfulls =
-    (p : Pool) (i : ℕ) (image : List ℕ) (level f v : ℕ) (words buffer : List ℤ) → refuses21 p i ≡ false → (begin_of image level f v words buffer).entry ≡ Entry.Begun
+    (p : Pool) (i : ℕ) (image : List ℕ) (level f v : ℕ) (words buffer : List ℤ) → refuses21 p i ≡ false → (begin_of image level f v words buffer).entry ≡ Ok tt
     → allowed p i < vectors_in (begin_of image level f v words buffer).state → Overfull p i image level f v words buffer
 
 -- One that needs no more begins as without a pool, with the same entry and the same state, and the pool notes it: a run always gets vectors up to its reserve, and no other start stops
 unfoldable pub Fits : Type 0
 Fits =
     (p : Pool) (i : ℕ) (image : List ℕ) (level f v : ℕ) (words buffer : List ℤ) → refuses21 p i ≡ false → let b = begin_of image level f v words buffer in
-    b.entry ≡ Entry.Begun → vectors_in b.state ≤ allowed p i → pool_begin image level f v words buffer p i ≡ record { pool = noted p i b.state; begun = b }
+    b.entry ≡ Ok tt → vectors_in b.state ≤ allowed p i → pool_begin image level f v words buffer p i ≡ record { pool = noted p i b.state; begun = b }
 
 -- ---- a pool that is made
 
 pub record Makings : Type 0 where
   -- 21, at 0, exactly when the reserves sum above 64; the lent pool is as it was
-  pub over : (reserves : List ℕ) (p : Pool) → over_reserved reserves ≡ true → make_of reserves p ≡ record { pool = p; made = Made.Refused 21 0 }
-  pub only : (reserves : List ℕ) (p : Pool) (q o : ℕ) → (make_of reserves p).made ≡ Made.Refused q o → VECTORS < sum reserves
+  pub over : (reserves : List ℕ) (p : Pool) → over_reserved reserves ≡ true → make_of reserves p ≡ record { pool = p; made = Err (denied 21 0) }
+  pub only : (reserves : List ℕ) (p : Pool) (q o : ℕ) → (make_of reserves p).made ≡ Err (denied q o) → VECTORS < sum reserves
   -- else it has these reserves, whatever it was before,
-  pub ready : (reserves : List ℕ) (p : Pool) → over_reserved reserves ≡ false → make_of reserves p ≡ record { pool = fresh reserves; made = Made.Ready }
+  pub ready : (reserves : List ℕ) (p : Pool) → over_reserved reserves ≡ false → make_of reserves p ≡ record { pool = fresh reserves; made = Ok tt }
   -- and every number has 0.
   pub empty : (reserves : List ℕ) (i : ℕ) → get_or (fresh reserves).has i 0 ≡ 0
 
@@ -258,11 +255,11 @@ pub record Makings : Type 0 where
 
 pub record NoneBehind : Type 0 where
   -- 21 is asked first, of every pool and every number;
-  pub first : (p : Pool) (i : ℕ) → refuses21 p i ≡ true → pool_back p i ≡ Back.Refused 21 0
+  pub first : (p : Pool) (i : ℕ) → refuses21 p i ≡ true → pool_back p i ≡ Err (denied 21 0)
   -- else it is 20, at 0.
-  pub else : (p : Pool) (i : ℕ) → refuses21 p i ≡ false → pool_back p i ≡ Back.Refused 20 0
+  pub else : (p : Pool) (i : ℕ) → refuses21 p i ≡ false → pool_back p i ≡ Err (denied 20 0)
   -- So it is after every list, under every number up to 7, whatever was asked under it.
   pub always : (reserves : List ℕ) → length reserves ≡ RUNS → over_reserved reserves ≡ false → (l : List Asked) (i : ℕ) → i < RUNS
-      → pool_back (house_after l (opened (fresh reserves))).pool i ≡ Back.Refused 20 0
+      → pool_back (house_after l (opened (fresh reserves))).pool i ≡ Err (denied 20 0)
   -- And a trail that begins at a state has no step behind it.
   pub trail : (P : Program) (s : State) → back_of P (started s) ≡ refused20 (started s)

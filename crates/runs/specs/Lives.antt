@@ -1,5 +1,5 @@
 -- What a step does to the live calls, for every program and every state, as the section "What demand 3 speaks of" has it: the statement alone.
-use Rattle.std.specs.Prelude.{◌≡◌, ◌≢◌, ◌⊎◌, List, Bool, true, false, not, ℕ, ◌+◌, ℤ}
+use Rattle.std.specs.Prelude.{◌≡◌, ◌≢◌, ◌⊎◌, List, Bool, true, false, not, ℕ, ◌+◌, ℤ, Ok}
 use Rattle.std.proofs.Math.Option.{Option, none, some}
 use Rattle.std.proofs.Math.ListN.{get_elem?}
 use Rattle.program.specs.Program.{Argument, Instr, LIT, MOVE, USE, DUP, VEC, LEN, GET, SET, ARITH, SELECT, CAST, NAMED, STORE, PROM, FORCE, PEEK, POKE, CALL, DISPATCH, SKIP, Program}
@@ -10,7 +10,6 @@ use Rattle.machine.specs.Runs.{step_of}
 use Rattle.machine.specs.Begin.{begin_of}
 use Rattle.machine.specs.declared.Activation.{Activation}
 use Rattle.machine.specs.declared.End.{End}
-use Rattle.machine.specs.declared.Entry.{Entry}
 use Rattle.machine.specs.declared.Frame.{Frame}
 use Rattle.machine.specs.declared.Opener.{Opener}
 use Rattle.machine.specs.declared.Said.{Said}
@@ -131,7 +130,7 @@ idle Status.Running Said.Stuck = true
 
 -- The first call is entered as the run begins, of the version v of the function f.
 unfoldable pub FirstCall : Type 0
-FirstCall = (image : List ℕ) (level f v : ℕ) (words buffer : List ℤ) → let b = begin_of image level f v words buffer in b.entry ≡ Entry.Begun → (b.state.calls ≡ 1)
+FirstCall = (image : List ℕ) (level f v : ℕ) (words buffer : List ℤ) → let b = begin_of image level f v words buffer in b.entry ≡ Ok tt → (b.state.calls ≡ 1)
     × (call_at b.state 0 ≡ some (f, v))
 
 -- Each step that has a result t

@@ -13,7 +13,6 @@ use Rattle.machine.specs.Runs.{budget_of}
 use Rattle.machine.specs.Values.{RANGE}
 use Rattle.machine.specs.declared.Answer.{Answer}
 use Rattle.machine.specs.declared.Begun.{Begun}
-use Rattle.machine.specs.declared.Entry.{Entry}
 use Rattle.machine.specs.declared.Ran.{Ran}
 use Rattle.machine.specs.declared.State.{State}
 use Rattle.loaded.specs.Loaded.{program_in}
@@ -21,7 +20,7 @@ use Rattle.loaded.specs.Loading.{Stands, load_of}
 use Rattle.loaded.proofs.Runs.{loaded-begin, loaded-run}
 use Rattle.begin.specs.Asking.{Begins}
 use Rattle.soundness.specs.Claim.{begun}
-use Rattle.abi.specs.Answers.{answer_numbers, answer_with, entry_numbers, loaded_numbers}
+use Rattle.abi.specs.Answers.{answer_numbers, answer_with, grant_numbers, loaded_numbers}
 use Rattle.abi.specs.Exits.{Answers, Began, Left, entrance}
 use Rattle.abi.specs.Held.{held}
 use Rattle.abi.specs.declared.answers.FirAnswer.{FirAnswer}
@@ -32,6 +31,7 @@ use Rattle.sessions.specs.Lent.{Starts, TableOf, by_begin, by_run, run_in}
 use Rattle.sessions.proofs.Numbers.{entered-numbered, zero-begun}
 use Rattle.loaded.specs.declared.LoadError.{LoadError}
 use Rattle.loaded.specs.declared.LoadError.TheVariants.{Short, Refused}
+use Rattle.machine.specs.Denials.{Grant}
 
 -- ---- tables
 
@@ -65,7 +65,7 @@ left-state Answer.Stuck n s before S h l = l
 
 -- a start has begun, and its state is that of the begun run after the first events
 pub record Started (image : List ℕ) (level f v : ℕ) (words buffer : List ℤ) (S : FirState) (first : List Event) : Type 0 where
-  pub entry : (begin_of image level f v words buffer).entry ≡ Entry.Begun
+  pub entry : (begin_of image level f v words buffer).entry ≡ Ok tt
   pub run : run_in image S ≡ after first (begun image level f v words buffer)
 
 module _ (image : List ℕ) (level f v : ℕ) (words buffer : List ℤ) where
@@ -73,15 +73,15 @@ module _ (image : List ℕ) (level f v : ℕ) (words buffer : List ℤ) where
   B = begin_of image level f v words buffer
 
   by-begin : (S : FirState) (table : List ℕ) (before : FirState) (r : FirEntry) → Filled image table
-      → (r ≡ entry_numbers (entered_of (program_in image table) level f v words buffer).entry)
+      → (r ≡ grant_numbers (entered_of (program_in image table) level f v words buffer).entry)
       → Began (entered_of (program_in image table) level f v words buffer).entry (program_in image table) (entrance level f v) words buffer before S
       → r.question ≡ 0 → Started image level f v words buffer S []
   unfolding after_to Begins
   by-begin S table before r t e b z =
       let x = entered_of (program_in image table) level f v words buffer in
       let same : x ≡ B = loaded-begin image table t.size t.count t.ready t.stands level f v words buffer in
-      let begins : x.entry ≡ Entry.Begun = zero-begun x.entry (entered-numbered (program_in image table) level f v words buffer) (ap (λ (q : FirEntry). q.question) (sym e) ∙ z) in
-      let told = subst (λ (y : Entry). Began y (program_in image table) (entrance level f v) words buffer before S) begins b in
+      let begins : x.entry ≡ (Ok tt) = zero-begun x.entry (entered-numbered (program_in image table) level f v words buffer) (ap (λ (q : FirEntry). q.question) (sym e) ∙ z) in
+      let told = subst (λ (y : Grant). Began y (program_in image table) (entrance level f v) words buffer before S) begins b in
       record {
         entry = ap (λ (y : Begun). y.entry) (sym same) ∙ begins;
         run = ap (λ (s : State). record { image = image; state = s }) (told.0 ∙ ap (λ (y : Begun). y.state) same);
@@ -92,12 +92,12 @@ module _ (image : List ℕ) (level f v : ℕ) (words buffer : List ℤ) where
   unfolding after_to handle_to run_of_to run_after_to answer_numbers
   by-run S table before n last r t a h = go B.entry refl a.numbers a.state
     where
-      ran : Entry → Ran
+      ran : Grant → Ran
       ran x = run_after_to RANGE x (program_of image) B.state n buffer
 
-      go : (x : Entry) → B.entry ≡ x → r ≡ answer_numbers (ran x).answer (ran x).steps → Left (ran x).answer (ran x).state before S → Started image level f v words buffer S (budget n buffer ∷ [])
-      go (Entry.Refused q p) e m l = absurd (h (ap (λ (y : FirAnswer). y.code) m))
-      go Entry.Begun e m l =
+      go : (x : Grant) → B.entry ≡ x → r ≡ answer_numbers (ran x).answer (ran x).steps → Left (ran x).answer (ran x).state before S → Started image level f v words buffer S (budget n buffer ∷ [])
+      go (Err why) e m l = absurd (h (ap (λ (y : FirAnswer). y.code) m))
+      go (Ok _) e m l =
           let b = budget_of (program_of image) B.state n buffer in
           let code : (answer_numbers b.answer b.steps).code ≢ 8 = λ z. h (ap (λ (y : FirAnswer). y.code) m ∙ z) in
           record { entry = e; run = ap (λ (s : State). record { image = image; state = s }) (left-state b.answer b.steps b.state before S code l) }

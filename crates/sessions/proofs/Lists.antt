@@ -1,4 +1,5 @@
 -- A list of calls of the C functions on one state is the list of its events: by induction, one call at a time.
+use Rattle.std.specs.Prelude.{Err, Ok}
 use mathlib.Core.Path.{◌≡◌, refl, sym, ap, ap₂, ◌∙◌, subst}
 use mathlib.Core.List.{List, [], ◌∷◌, ◌++◌, map}
 use mathlib.Core.Bool.{Bool, true, false, cond}
@@ -13,7 +14,6 @@ use Rattle.machine.specs.Events.{Run, Event, in_force, handle, handle_to, after,
 use Rattle.machine.specs.Runs.{budget_in_to, budget_of, budget_of_to, continued, long_enough, run_from, run_from_to, step_of}
 use Rattle.machine.specs.Values.{RANGE}
 use Rattle.machine.specs.declared.Answer.{Answer}
-use Rattle.machine.specs.declared.Changed.{Changed}
 use Rattle.machine.specs.declared.Ran.{Ran}
 use Rattle.machine.specs.declared.Said.{Said}
 use Rattle.machine.specs.declared.State.{State}
@@ -22,7 +22,7 @@ use Rattle.machine.specs.declared.Stepped.{Stepped}
 use Rattle.loaded.proofs.Runs.{loaded-budget, loaded-step}
 use Rattle.soundness.specs.Claim.{Safe, begun, Demand3}
 use Rattle.soundness.proofs.Demand.{demand3}
-use Rattle.abi.specs.Answers.{changed_numbers, said_numbers}
+use Rattle.abi.specs.Answers.{grant_numbers, said_numbers}
 use Rattle.abi.specs.Exits.{Answers, Left}
 use Rattle.abi.specs.Held.{held}
 use Rattle.abi.specs.declared.answers.FirEntry.{FirEntry}
@@ -31,13 +31,14 @@ use Rattle.sessions.specs.Lent.{Starts, run_in}
 use Rattle.sessions.specs.Lists.{Call, step, steps, update, Meets, lent_after, Session, empty, next, event_of, events_of, by_steps, by_budget, by_change, told_by, in_numbers, CallsAreEvents, Demand3InC}
 use Rattle.sessions.proofs.Numbers.{Changes, change-numbered}
 use Rattle.sessions.proofs.Lent.{filled, started}
+use Rattle.machine.specs.Denials.{Grant}
 
 -- ---- a change: what its answer in numbers says is what is in force
 
-pub in-force : (old new : List ℕ) (c : Changed) → Changes c → cond (eqb (changed_numbers c).question 0) new old ≡ in_force c old new
-unfolding Changes changed_numbers in_force
-in-force old new Changed.Taken h = refl
-in-force old new (Changed.Refused q p) h = rw h refl
+pub in-force : (old new : List ℕ) (c : Grant) → Changes c → cond (eqb (grant_numbers c).question 0) new old ≡ in_force c old new
+unfolding Changes grant_numbers in_force
+in-force old new (Ok _) h = refl
+in-force old new (Err why) h = rw h refl
 
 -- ---- a budget: one that is refused leaves its state
 

@@ -17,12 +17,11 @@ use Rattle.machine.specs.Pools.{PoolBegun, pool_begun_as, pool_begun_by, pool_ch
 use Rattle.machine.specs.Runs.{long_enough}
 use Rattle.machine.specs.declared.Answer.{Answer}
 use Rattle.machine.specs.declared.Begun.{Begun}
-use Rattle.machine.specs.declared.Changed.{Changed}
 use Rattle.machine.specs.declared.End.{End}
-use Rattle.machine.specs.declared.Entry.{Entry}
 use Rattle.machine.specs.declared.Pool.{Pool}
 use Rattle.machine.specs.declared.State.{State}
-use Rattle.abi.specs.Answers.{answer_numbers, answer_with, end_numbers, entry_numbers, plain_numbers, said_numbers}
+use Rattle.abi.specs.Answers.{answer_numbers, answer_with, end_numbers, grant_numbers, plain_numbers, said_numbers}
+use Rattle.machine.specs.Denials.{Grant, denied}
 
 -- ---- the number of a refusal is not 0
 
@@ -30,13 +29,13 @@ unfoldable Asked : Verdict → Type 0
 Asked (Err why) = eqb why.question 0 ≡ false
 Asked (Ok n) = Unit {0}
 
-unfoldable pub Enters : Entry → Type 0
-Enters (Entry.Refused q p) = eqb q 0 ≡ false
-Enters Entry.Begun = Unit {0}
+unfoldable pub Enters : Grant → Type 0
+Enters (Err why) = eqb why.question 0 ≡ false
+Enters (Ok _) = Unit {0}
 
-unfoldable pub Changes : Changed → Type 0
-Changes (Changed.Refused q p) = eqb q 0 ≡ false
-Changes Changed.Taken = Unit {0}
+unfoldable pub Changes : Grant → Type 0
+Changes (Err why) = eqb why.question 0 ≡ false
+Changes (Ok _) = Unit {0}
 
 -- ---- images
 
@@ -69,7 +68,7 @@ pub pool-change-numbered : (p : Pool) (i : ℕ) (old new : List ℕ) (s : State)
 unfolding pool_change Changes
 pool-change-numbered p i old new s = go (refuses21 p i)
   where
-    go : (b : Bool) → Changes (elim b [ true ↦ Changed.Refused 21 0 | false ↦ change_of old new s ])
+    go : (b : Bool) → Changes (elim b [ true ↦ Err (denied 21 0) | false ↦ change_of old new s ])
     go true = refl
     go false = change-numbered old new s
 
@@ -80,7 +79,7 @@ unfolding entered_of question11 question19 question12 question13 refused Enters
 entered-numbered P level f v words buffer = eleven (find_version P f v)
   where
     by13 : State → Bool → Begun
-    by13 s b = elim b [ true ↦ record { state = s; entry = Entry.Begun } | false ↦ refused 13 0 ]
+    by13 s b = elim b [ true ↦ record { state = s; entry = Ok tt } | false ↦ refused 13 0 ]
 
     thirteen : (s : State) (b : Bool) → Enters (by13 s b).entry
     thirteen s true = tt
@@ -105,9 +104,9 @@ pub pool-begun-numbered : (p : Pool) (i : ℕ) (b : Begun) → Enters b.entry �
 unfolding pool_begun_as refused Enters
 pool-begun-numbered p i b h = go (refuses21 p i)
   where
-    begun : (x : Entry) → Enters (pool_begun_as p i b x).begun.entry
-    begun (Entry.Refused q o) = h
-    begun Entry.Begun = tt
+    begun : (x : Grant) → Enters (pool_begun_as p i b x).begun.entry
+    begun (Err why) = h
+    begun (Ok _) = tt
 
     by21 : Bool → PoolBegun
     by21 c = elim c [ true ↦ record { pool = p; begun = refused 21 0 } | false ↦ pool_begun_as p i b b.entry ]
@@ -117,35 +116,35 @@ pool-begun-numbered p i b h = go (refuses21 p i)
     go false = begun b.entry
 
 -- the answer 0 says that a run has begun
-pub zero-begun : (x : Entry) → Enters x → (entry_numbers x).question ≡ 0 → x ≡ Entry.Begun
-unfolding Enters entry_numbers
-zero-begun Entry.Begun h z = refl
-zero-begun (Entry.Refused q p) h z = let t : true ≡ false = rw z at h in let y : ◌≡◌ {A = ℕ} 0 1 = cc in absurd (omega (arith, y))
+pub zero-begun : (x : Grant) → Enters x → (grant_numbers x).question ≡ 0 → x ≡ Ok tt
+unfolding Enters grant_numbers
+zero-begun (Ok _) h z = refl
+zero-begun (Err why) h z = let t : true ≡ false = rw z at h in let y : ◌≡◌ {A = ℕ} 0 1 = cc in absurd (omega (arith, y))
 
 -- and that the buffer was long enough
-pub entered-long : (P : Program) (level f v : ℕ) (words buffer : List ℤ) → (entered_of P level f v words buffer).entry ≡ Entry.Begun → long_enough buffer ≡ true
+pub entered-long : (P : Program) (level f v : ℕ) (words buffer : List ℤ) → (entered_of P level f v words buffer).entry ≡ Ok tt → long_enough buffer ≡ true
 unfolding entered_of question11 question19 question12 question13 refused
 entered-long P level f v words buffer = eleven (find_version P f v)
   where
     by13 : State → Bool → Begun
-    by13 s b = elim b [ true ↦ record { state = s; entry = Entry.Begun } | false ↦ refused 13 0 ]
+    by13 s b = elim b [ true ↦ record { state = s; entry = Ok tt } | false ↦ refused 13 0 ]
 
-    thirteen : (s : State) (b : Bool) → (by13 s b).entry ≡ Entry.Begun → b ≡ true
+    thirteen : (s : State) (b : Bool) → (by13 s b).entry ≡ Ok tt → b ≡ true
     thirteen s true e = refl
     thirteen s false e = let z : ◌≡◌ {A = ℕ} 0 1 = cc in absurd (omega arith)
 
-    twelve : (W : Version) (o : Option (List Given)) → (question12 W o buffer).entry ≡ Entry.Begun → long_enough buffer ≡ true
+    twelve : (W : Version) (o : Option (List Given)) → (question12 W o buffer).entry ≡ Ok tt → long_enough buffer ≡ true
     twelve W none e = let z : ◌≡◌ {A = ℕ} 0 1 = cc in absurd (omega arith)
     twelve W (some xs) e = thirteen _ (long_enough buffer) e
 
     by19 : Version → Bool → Begun
     by19 W b = elim b [ true ↦ question12 W (arguments (parameter_types W) words) buffer | false ↦ refused 19 0 ]
 
-    nineteen : (W : Version) (b : Bool) → (by19 W b).entry ≡ Entry.Begun → long_enough buffer ≡ true
+    nineteen : (W : Version) (b : Bool) → (by19 W b).entry ≡ Ok tt → long_enough buffer ≡ true
     nineteen W true e = twelve W (arguments (parameter_types W) words) e
     nineteen W false e = let z : ◌≡◌ {A = ℕ} 0 1 = cc in absurd (omega arith)
 
-    eleven : (o : Option Version) → (question11 level o words buffer).entry ≡ Entry.Begun → long_enough buffer ≡ true
+    eleven : (o : Option Version) → (question11 level o words buffer).entry ≡ Ok tt → long_enough buffer ≡ true
     eleven none e = let z : ◌≡◌ {A = ℕ} 0 1 = cc in absurd (omega arith)
     eleven (some W) e = nineteen W (leb W.level (run_level level)) e
 

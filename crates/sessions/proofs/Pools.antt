@@ -1,4 +1,5 @@
 -- A list of calls under the numbers of a pool is the list of its asks: by induction, one call at a time.
+use Rattle.std.specs.Prelude.{Err, Ok}
 use mathlib.Core.Path.{◌≡◌, refl, sym, ap, ap₂, ◌∙◌, subst}
 use mathlib.Core.List.{List, [], ◌∷◌, ◌++◌, map}
 use mathlib.Core.Option.{Option, some}
@@ -18,7 +19,6 @@ use Rattle.machine.specs.States.{over}
 use Rattle.machine.specs.Houses.{Ask, start, go_on, Asked, Heard, began, heard21, ask_in, go_on_in, started_run, House, opened, placed, serve, house_after, heard_under, history_under}
 use Rattle.machine.specs.declared.Answer.{Answer}
 use Rattle.machine.specs.declared.Begun.{Begun}
-use Rattle.machine.specs.declared.Entry.{Entry}
 use Rattle.machine.specs.declared.Pool.{Pool}
 use Rattle.machine.specs.declared.Said.{Said}
 use Rattle.machine.specs.declared.State.{State}
@@ -28,7 +28,7 @@ use Rattle.loaded.proofs.Runs.{loaded-begin, loaded-pool-begin, loaded-pool-budg
 use Rattle.soundness.specs.Pools.{SafeUnder, Demand3Pool}
 use Rattle.soundness.proofs.Pools.{demand3-pool}
 use Rattle.soundness.proofs.Types.{eqb_same}
-use Rattle.abi.specs.Answers.{answer_numbers, changed_numbers, entry_numbers, made_numbers, turn_numbers}
+use Rattle.abi.specs.Answers.{answer_numbers, grant_numbers, turn_numbers}
 use Rattle.abi.specs.Exits.{Answers, Left}
 use Rattle.abi.specs.Held.{held}
 use Rattle.abi.specs.Pools.{MakesIn}
@@ -40,6 +40,7 @@ use Rattle.sessions.specs.Pools.{asks_by, under, asks_of, PoolTold, by_begin, by
 use Rattle.sessions.proofs.Numbers.{Enters, entered-long, entered-numbered, not-8, pool-begun-numbered, pool-change-numbered}
 use Rattle.sessions.proofs.Lent.{filled}
 use Rattle.sessions.proofs.Lists.{in-force, left}
+use Rattle.machine.specs.Denials.{Grant, denied}
 
 -- ---- a budget that is refused leaves its state
 
@@ -166,62 +167,62 @@ record Does (o : Option (List ℕ)) (c : Request) (p : Pool) (i : ℕ) (S S' : F
 
 -- a start
 begins : (o : Option (List ℕ)) (image : List ℕ) (x : PoolBegun) (r : FirEntry) (S S' : FirState)
-    → Enters x.begun.entry → r ≡ entry_numbers x.begun.entry
-    → ((q k : ℕ) → x.begun.entry ≡ Entry.Refused q k → S' ≡ S) → (x.begun.entry ≡ Entry.Begun → held S' ≡ x.begun.state)
+    → Enters x.begun.entry → r ≡ grant_numbers x.begun.entry
+    → ((q k : ℕ) → x.begun.entry ≡ Err (denied q k) → S' ≡ S) → (x.begun.entry ≡ Ok tt → held S' ≡ x.begun.state)
     → run_of (cond (eqb r.question 0) (some image) o) S' ≡ started_run image x.begun.state (run_of o S) x.begun.entry
-unfolding Enters entry_numbers started_run run_of
+unfolding Enters grant_numbers started_run run_of
 begins o image x r S S' n e refused begun = rw e (go x.begun.entry refl n)
   where
-    go : (y : Entry) → x.begun.entry ≡ y → Enters y → run_of (cond (eqb (entry_numbers y).question 0) (some image) o) S' ≡ started_run image x.begun.state (run_of o S) y
-    go (Entry.Refused q k) h z = rw z (ap (run_of o) (refused q k h))
-    go Entry.Begun h z = ap (λ (s : State). some (record { image = image; state = s })) (begun h)
+    go : (y : Grant) → x.begun.entry ≡ y → Enters y → run_of (cond (eqb (grant_numbers y).question 0) (some image) o) S' ≡ started_run image x.begun.state (run_of o S) y
+    go (Err why) h z = rw z (ap (run_of o) (refused why.question why.at h))
+    go (Ok _) h z = ap (λ (s : State). some (record { image = image; state = s })) (begun h)
 
 -- a list of one
 one : {x y : PoolTold} → x ≡ y → ◌≡◌ {A = List PoolTold} (x ∷ []) (y ∷ [])
 one e = ap (λ z. z ∷ []) e
 
 -- a start that has begun: 21 does not refuse its number then, and the buffer is long enough for its first budget
-begun-asked : (p : Pool) (i : ℕ) (b : Begun) → (pool_begun_by p i b).begun.entry ≡ Entry.Begun → (refuses21 (pool_begun_by p i b).pool i ≡ false) × (b.entry ≡ Entry.Begun)
+begun-asked : (p : Pool) (i : ℕ) (b : Begun) → (pool_begun_by p i b).begun.entry ≡ Ok tt → (refuses21 (pool_begun_by p i b).pool i ≡ false) × (b.entry ≡ Ok tt)
 unfolding pool_begun_as refused noted refuses21
 begun-asked p i b = go (refuses21 p i) refl
   where
     by21 : Bool → PoolBegun
     by21 c = elim c [ true ↦ record { pool = p; begun = refused 21 0 } | false ↦ pool_begun_as p i b b.entry ]
 
-    begun : refuses21 p i ≡ false → (x : Entry) → b.entry ≡ x → (pool_begun_as p i b x).begun.entry ≡ Entry.Begun → (refuses21 (pool_begun_as p i b x).pool i ≡ false) × (x ≡ Entry.Begun)
-    begun r (Entry.Refused q o) e h = let y : Entry.Refused q o ≡ Entry.Begun = sym e ∙ h in let z : ◌≡◌ {A = ℕ} 0 1 = cc in absurd (omega arith)
-    begun r Entry.Begun e h = (r, refl)
+    begun : refuses21 p i ≡ false → (x : Grant) → b.entry ≡ x → (pool_begun_as p i b x).begun.entry ≡ Ok tt → (refuses21 (pool_begun_as p i b x).pool i ≡ false) × (x ≡ Ok tt)
+    begun r (Err why) e h = let y : Err (denied why.question why.at) ≡ (Ok tt) = sym e ∙ h in let z : ◌≡◌ {A = ℕ} 0 1 = cc in absurd (omega arith)
+    begun r (Ok _) e h = (r, refl)
 
-    go : (c : Bool) → refuses21 p i ≡ c → (by21 c).begun.entry ≡ Entry.Begun → (refuses21 (by21 c).pool i ≡ false) × (b.entry ≡ Entry.Begun)
+    go : (c : Bool) → refuses21 p i ≡ c → (by21 c).begun.entry ≡ Ok tt → (refuses21 (by21 c).pool i ≡ false) × (b.entry ≡ Ok tt)
     go true r h = let z : ◌≡◌ {A = ℕ} 0 1 = cc in absurd (omega arith)
     go false r h = begun r b.entry refl h
 
 -- a start and its first budget, by the pool, the state and the entry that the start comes to
 module _ (o : Option (List ℕ)) (image table : List ℕ) (level f v : ℕ) (words : List ℤ) (n : ℕ) (buffer last : List ℤ) (r : FirAnswer) (i : ℕ) (S S' : FirState) (p' : Pool) where
-  abbrev ran : Pool → State → Entry → PoolRan
+  abbrev ran : Pool → State → Grant → PoolRan
   ran p s y = pool_run_as (program_of image) i n buffer (record { pool = p; begun = record { state = s; entry = y } }) y
 
   -- what the two asks leave
-  abbrev left_by : Pool → State → Entry → Stayed
+  abbrev left_by : Pool → State → Grant → Stayed
   left_by p s y =
       let x = stays p i (cond (eqb r.code 8) [] (go_on (budget n buffer) ∷ [])) (started_run image s (run_of o S) y) in
       record { pool = x.pool; run = x.run; heard = began y ∷ x.heard }
 
-  record Both (p : Pool) (s : State) (y : Entry) : Type 0 where
+  record Both (p : Pool) (s : State) (y : Grant) : Type 0 where
     pool : p' ≡ (left_by p s y).pool
     goes : run_of (cond (eqb r.code 8) o (some image)) S' ≡ (left_by p s y).run
     told : told_in (run image table level f v words n buffer last r) ≡ map heard_in_numbers (left_by p s y).heard
 
-  ran-by : (p : Pool) (s : State) (y : Entry) → Answers r (ran p s y).ran S S' buffer last → p' ≡ (ran p s y).pool → (y ≡ Entry.Begun → (refuses21 p i ≡ false) × (long_enough buffer ≡ true)) → Both p s y
-  unfolding pool_run_as stays started_run run_of told_in heard_in_numbers answer_numbers entry_numbers ask_in go_on_in Left
-  ran-by p s (Entry.Refused q k) a m g =
+  ran-by : (p : Pool) (s : State) (y : Grant) → Answers r (ran p s y).ran S S' buffer last → p' ≡ (ran p s y).pool → (y ≡ Ok tt → (refuses21 p i ≡ false) × (long_enough buffer ≡ true)) → Both p s y
+  unfolding pool_run_as stays started_run run_of told_in heard_in_numbers answer_numbers grant_numbers ask_in go_on_in Left
+  ran-by p s (Err why) a m g =
       let eight : eqb r.code 8 ≡ true = ap (λ (z : FirAnswer). eqb z.code 8) a.numbers in
       record {
         pool = rw eight m;
         goes = rw eight (ap (run_of o) a.state);
         told = rw eight (one (ap (λ (z : FirAnswer). by_begin (record { offset = z.offset; question = z.question })) a.numbers));
       }
-  ran-by p s Entry.Begun a m g =
+  ran-by p s (Ok _) a m g =
       let b = pool_budget (program_of image) p i s n buffer in
       let fine : (q k : ℕ) → b.ran.answer ≡ Answer.Refused q k → ⊥ = λ q k e. pool-not-refused (program_of image) p i s n buffer (g refl).0 (g refl).1 q k e in
       let other : eqb r.code 8 ≡ false = ap (λ (z : FirAnswer). eqb z.code 8) a.numbers ∙ not-8 b.ran.answer b.ran.steps fine in
@@ -232,7 +233,7 @@ module _ (o : Option (List ℕ)) (image table : List ℕ) (level f v : ℕ) (wor
       }
 
 does : (o : Option (List ℕ)) (c : Request) (p : Pool) (i : ℕ) (S S' : FirState) (p' : Pool) → MeetsIn o c p i S S' p' → Does o c p i S S' p'
-unfolding MeetsIn image_after asks_by stays ask_in go_on_in heard21 told_in heard_in_numbers run_of pool_step pool_budget buffer_of over written pool_change changed_numbers pool_begin
+unfolding MeetsIn image_after asks_by stays ask_in go_on_in heard21 told_in heard_in_numbers run_of pool_step pool_budget buffer_of over written pool_change grant_numbers pool_begin
 does o (begin image table level f v words buffer r) p i S S' p' (t, h) =
     let k = filled image table t in
     let P = program_in image table in
@@ -242,7 +243,7 @@ does o (begin image table level f v words buffer r) p i S S' p' (t, h) =
     record {
       pool = h.1.pool ∙ ap (λ (y : PoolBegun). y.pool) e;
       run = run ∙ ap (λ (y : PoolBegun). started_run image y.begun.state (run_of o S) y.begun.entry) e;
-      told = one (ap by_begin (h.0 ∙ ap (λ (y : PoolBegun). entry_numbers y.begun.entry) e));
+      told = one (ap by_begin (h.0 ∙ ap (λ (y : PoolBegun). grant_numbers y.begun.entry) e));
     }
 does o (run image table level f v words n buffer last r) p i S S' p' (t, h) =
     let k = filled image table t in
@@ -250,7 +251,7 @@ does o (run image table level f v words n buffer last r) p i S S' p' (t, h) =
     let b = begin_of image level f v words buffer in
     let x = pool_begun_by p i b in
     let a = subst (λ (y : PoolRan). Answers r y.ran S S' buffer last) e h.0 in
-    let fine : x.begun.entry ≡ Entry.Begun → (refuses21 x.pool i ≡ false) × (long_enough buffer ≡ true) = λ g.
+    let fine : x.begun.entry ≡ Ok tt → (refuses21 x.pool i ≡ false) × (long_enough buffer ≡ true) = λ g.
     let y = begun-asked p i b g in
     (y.0, entered-long (program_in image table) level f v words buffer (ap (λ (z : Begun). z.entry) (loaded-begin image table k.size k.count k.ready k.stands level f v words buffer) ∙ y.1)) in
     let d = ran-by o image table level f v words n buffer last r i S S' p' x.pool x.begun.state x.begun.entry a (h.1 ∙ ap (λ (y : PoolRan). y.pool) e) fine in
@@ -359,7 +360,7 @@ calls-are-asks = list_of
 
 -- a pool that was made with the answer 0 has these reserves, which do not sum above 64
 made : (reserves : List ℕ) (before p : Pool) (r : FirEntry) → MakesIn r reserves before p → r.question ≡ 0 → (over_reserved reserves ≡ false) × (p ≡ fresh reserves)
-unfolding make_of made_numbers
+unfolding make_of grant_numbers
 made reserves before p r m z = go (over_reserved reserves) refl m
   where
     go : (b : Bool) → over_reserved reserves ≡ b → MakesIn r reserves before p → (over_reserved reserves ≡ false) × (p ≡ fresh reserves)

@@ -21,7 +21,7 @@ use Rattle.runs.proofs.Visits.{visit-after-keeps, visit-history-keeps}
 use Rattle.soundness.specs.Claim.{begun}
 use Rattle.soundness.proofs.Demand.{sound-safe}
 use Rattle.soundness.proofs.Histories.{Sound, sound-step, sound-taken, after-sound, begun-sound, history-sound}
-use Rattle.abi.specs.Answers.{back_numbers, said_numbers}
+use Rattle.abi.specs.Answers.{grant_numbers, said_numbers}
 use Rattle.abi.specs.Exits.{Answers}
 use Rattle.abi.specs.Held.{held}
 use Rattle.abi.specs.Trails.{Started, trail_of}
@@ -71,7 +71,7 @@ does image (back table r) S T S' T' (t, h) =
     let e = loaded-back image table k.count k.stands (trail_of T S) in
     record {
       visit = ap (λ (x : Trail). record { image = image; trail = x }) (h.trail ∙ ap (λ (x : Returned). x.trail) e);
-      told = ap by_back (h.numbers ∙ ap (λ (x : Returned). back_numbers x.back) e);
+      told = ap by_back (h.numbers ∙ ap (λ (x : Returned). grant_numbers x.back) e);
     }
 
 -- ---- lists

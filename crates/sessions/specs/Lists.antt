@@ -2,7 +2,7 @@
 use Rattle.std.specs.Prelude.{◌≡◌, List, [], ◌∷◌, ◌++◌, map, cond, ℕ, eqb, ℤ}
 use Rattle.machine.specs.Events.{Event, single, budget, change, Reply, said, gave, became, after, history, replies}
 use Rattle.soundness.specs.Claim.{Safe, begun}
-use Rattle.abi.specs.Answers.{answer_numbers, changed_numbers, said_numbers}
+use Rattle.abi.specs.Answers.{answer_numbers, grant_numbers, said_numbers}
 use Rattle.abi.specs.Calls.{BudgetCall, ChangeCall, StepCall}
 use Rattle.abi.specs.declared.answers.FirAnswer.{FirAnswer}
 use Rattle.abi.specs.declared.answers.FirEntry.{FirEntry}
@@ -63,7 +63,7 @@ told_by (update new r) = by_change r
 unfoldable pub in_numbers : Reply → Told
 in_numbers (said d) = by_steps (said_numbers d)
 in_numbers (gave a n last) = by_budget (answer_numbers a n) last
-in_numbers (became c) = by_change (changed_numbers c)
+in_numbers (became c) = by_change (grant_numbers c)
 
 -- ---- the statements
 

@@ -6,7 +6,7 @@ use Rattle.machine.specs.Pools.{RUNS, fresh, refuses21}
 use Rattle.machine.specs.Houses.{Ask, start, go_on, Asked, Heard, began, turned, spent, changed, nobody, House, opened, house_after, heard_under, history_under}
 use Rattle.machine.specs.declared.Pool.{Pool}
 use Rattle.soundness.specs.Pools.{SafeUnder}
-use Rattle.abi.specs.Answers.{answer_numbers, changed_numbers, entry_numbers, turn_numbers}
+use Rattle.abi.specs.Answers.{answer_numbers, grant_numbers, turn_numbers}
 use Rattle.abi.specs.Calls.{PoolBeginCall, PoolBudgetCall, PoolChangeCall, PoolRunCall, PoolStepCall}
 use Rattle.abi.specs.Pools.{MakesIn}
 use Rattle.abi.specs.declared.answers.FirAnswer.{FirAnswer}
@@ -124,10 +124,10 @@ told_in (update old new r) = by_change r ∷ []
 
 -- what is heard, in numbers
 unfoldable pub heard_in_numbers : Heard → PoolTold
-heard_in_numbers (began e) = by_begin (entry_numbers e)
+heard_in_numbers (began e) = by_begin (grant_numbers e)
 heard_in_numbers (turned t) = by_turn (turn_numbers t)
 heard_in_numbers (spent a n last) = by_budget (answer_numbers a n) last
-heard_in_numbers (changed c) = by_change (changed_numbers c)
+heard_in_numbers (changed c) = by_change (grant_numbers c)
 heard_in_numbers nobody = by_nobody
 
 -- what the calls under the number i tell, in order

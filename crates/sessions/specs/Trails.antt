@@ -3,7 +3,7 @@ use Rattle.std.specs.Prelude.{◌≡◌, List, [], ◌∷◌, ◌++◌, map, con
 use Rattle.machine.specs.Events.{Event, single, budget, change, after, history}
 use Rattle.machine.specs.Trails.{Visit, Move, event, step_back, MoveReply, replied, returned, move_replies, visit_after, visit_history, visit_of}
 use Rattle.soundness.specs.Claim.{Safe, begun}
-use Rattle.abi.specs.Answers.{back_numbers}
+use Rattle.abi.specs.Answers.{grant_numbers}
 use Rattle.abi.specs.Calls.{TrailBackCall, TrailBudgetCall, TrailStepCall}
 use Rattle.abi.specs.Trails.{ChangesOn, Started, trail_of}
 use Rattle.abi.specs.declared.answers.FirAnswer.{FirAnswer}
@@ -71,7 +71,7 @@ told_on (back table r) = by_back r
 -- a reply in numbers
 unfoldable pub move_in_numbers : MoveReply → TrailTold
 move_in_numbers (replied r) = onward (in_numbers r)
-move_in_numbers (returned b) = by_back (back_numbers b)
+move_in_numbers (returned b) = by_back (grant_numbers b)
 
 -- the visit that state and trail stand for under an image
 abbrev pub visit_in : List ℕ → FirState → FirTrail → Visit

@@ -10,8 +10,6 @@ use Rattle.machine.specs.Begin.{refused, begin_after, begin_of, program_of}
 use Rattle.machine.specs.Changes.{change_of}
 use Rattle.machine.specs.Events.{Run, Event, program_in, in_state, handle, after, history}
 use Rattle.machine.specs.Runs.{step_of}
-use Rattle.machine.specs.declared.Changed.{Changed}
-use Rattle.machine.specs.declared.Entry.{Entry}
 use Rattle.runs.proofs.Always.{All, handle-keeps, after-keeps, history-keeps}
 use Rattle.runs.proofs.Lives.{refused-begun}
 use Rattle.soundness.specs.Claim.{begun}
@@ -41,7 +39,7 @@ pub sound-step : (r : Run) → Sound r → Sound (in_state r (step_of (program_i
 sound-step r o = record { versions = o.versions; verdict = o.verdict; inv = step_keeps (program_in r) (safe-of r o) r.state o.inv }
 
 -- a change that is taken
-pub sound-taken : (new : List ℕ) (r : Run) → Sound r → change_of r.image new r.state ≡ Changed.Taken → Sound (record { image = new; state = r.state })
+pub sound-taken : (new : List ℕ) (r : Run) → Sound r → change_of r.image new r.state ≡ Ok tt → Sound (record { image = new; state = r.state })
 sound-taken new r o e =
     let p = taken-passed r.image new r.state e in
     record {
@@ -63,10 +61,10 @@ history-sound = history-keeps Sound sound-step sound-taken
 
 -- ---- at the start: an image whose run has begun is accepted
 
-pub begun-sound : (image : List ℕ) (level f v : ℕ) (words buffer : List ℤ) → (begin_of image level f v words buffer).entry ≡ Entry.Begun → Sound (begun image level f v words buffer)
+pub begun-sound : (image : List ℕ) (level f v : ℕ) (words buffer : List ℤ) → (begin_of image level f v words buffer).entry ≡ Ok tt → Sound (begun image level f v words buffer)
 unfolding begin_of begin_after refused
 begun-sound image level f v words buffer h = go (verdict_of image) refl h
   where
-    go : (a : Verdict) → verdict_of image ≡ a → (begin_after a (program_of image) level f v words buffer).entry ≡ Entry.Begun → Sound (record { image = image; state = (begin_after a (program_of image) level f v words buffer).state })
+    go : (a : Verdict) → verdict_of image ≡ a → (begin_after a (program_of image) level f v words buffer).entry ≡ Ok tt → Sound (record { image = image; state = (begin_after a (program_of image) level f v words buffer).state })
     go (Err why) e g = absurd (refused-begun why.question why.at g)
     go (Ok n) e g = record { versions = n; verdict = e; inv = begun-inv (program_of image) (checked image n e) level f v words buffer g }

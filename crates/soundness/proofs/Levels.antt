@@ -16,8 +16,6 @@ use Rattle.machine.specs.Events.{Run, program_in, in_state, replies}
 use Rattle.machine.specs.Runs.{step_of}
 use Rattle.machine.specs.States.{live_frames}
 use Rattle.machine.specs.declared.Begun.{Begun}
-use Rattle.machine.specs.declared.Changed.{Changed}
-use Rattle.machine.specs.declared.Entry.{Entry}
 use Rattle.machine.specs.declared.Frame.{Frame}
 use Rattle.machine.specs.declared.State.{State}
 use Rattle.runs.specs.Alike.{Alike}
@@ -60,7 +58,7 @@ module _ (level : ℕ) where
   }
 
   -- the live versions are alike in both images, so their levels are
-  pub low-taken : (new : List ℕ) (r : Run) → Low level r → change_of r.image new r.state ≡ Changed.Taken → Low level (record { image = new; state = r.state })
+  pub low-taken : (new : List ℕ) (r : Run) → Low level r → change_of r.image new r.state ≡ Ok tt → Low level (record { image = new; state = r.state })
   unfolding NoneAbove
   low-taken new r o e = record { sound = sound-taken new r o.sound e; low = λ k f w c. at k f w c (live_of r.state k f w c) }
     where
@@ -74,11 +72,11 @@ module _ (level : ℕ) where
 
 -- ---- the claims
 
-pub begun-low : (image : List ℕ) (level f v : ℕ) (words buffer : List ℤ) → (begin_of image level f v words buffer).entry ≡ Entry.Begun → AtOrBelow level (begun image level f v words buffer)
+pub begun-low : (image : List ℕ) (level f v : ℕ) (words buffer : List ℤ) → (begin_of image level f v words buffer).entry ≡ Ok tt → AtOrBelow level (begun image level f v words buffer)
 unfolding begin_of begin_after refused
 begun-low image level f v words buffer e = go (verdict_of image) e
   where
-    go : (a : Verdict) → (begin_after a (program_of image) level f v words buffer).entry ≡ Entry.Begun → NoneAbove (program_of image) (run_level level) (begin_after a (program_of image) level f v words buffer).state
+    go : (a : Verdict) → (begin_after a (program_of image) level f v words buffer).entry ≡ Ok tt → NoneAbove (program_of image) (run_level level) (begin_after a (program_of image) level f v words buffer).state
     go (Err why) g = absurd (refused-begun why.question why.at g)
     go (Ok n) g = entered-low (program_of image) level f v words buffer g
 
@@ -95,7 +93,7 @@ pub same_above : SameAbove
 unfolding SameAbove begin_of begin_after refused
 same_above image l m f v words buffer h e = go (verdict_of image) e
   where
-    go : (a : Verdict) → (begin_after a (program_of image) l f v words buffer).entry ≡ Entry.Begun → begin_after a (program_of image) m f v words buffer ≡ begin_after a (program_of image) l f v words buffer
+    go : (a : Verdict) → (begin_after a (program_of image) l f v words buffer).entry ≡ Ok tt → begin_after a (program_of image) m f v words buffer ≡ begin_after a (program_of image) l f v words buffer
     go (Err why) g = refl
     go (Ok n) g = entered-above (program_of image) l m f v words buffer h g
 

@@ -1,4 +1,5 @@
 -- Demand 3, the levels and the listed replies in the pool: under each number goes a run whose image is accepted and whose state has the invariant.
+use Rattle.std.specs.Prelude.{Err, Ok}
 use mathlib.Core.Path.{◌≡◌, refl, sym, ap, ◌∙◌, subst}
 use mathlib.Core.Logic.{◌≢◌, ◌⊎◌, inl, inr}
 use mathlib.Core.List.{List, [], ◌∷◌, map}
@@ -19,9 +20,7 @@ use Rattle.machine.specs.Allowed.{step_with, budget_with}
 use Rattle.machine.specs.Pools.{allowed, refuses21, fresh, said_in_pool, PoolStepped, PoolRan, overfull, PoolBegun, pool_begun_as}
 use Rattle.machine.specs.Houses.{Ask, start, go_on, Asked, Heard, began, turned, spent, changed, nobody, heard21, started_run, go_on_in, ask_in, House, opened, serve, house_after, heard_under, asks_under, heard_as, ask_alone, heard_alone, TriedIn, history_under}
 use Rattle.machine.specs.declared.Answer.{Answer}
-use Rattle.machine.specs.declared.Changed.{Changed}
 use Rattle.machine.specs.declared.End.{End}
-use Rattle.machine.specs.declared.Entry.{Entry}
 use Rattle.machine.specs.declared.Pool.{Pool}
 use Rattle.machine.specs.declared.Ran.{Ran}
 use Rattle.machine.specs.declared.Said.{Said}
@@ -48,6 +47,7 @@ use Rattle.soundness.proofs.Demand.{sound-safe}
 use Rattle.soundness.proofs.Histories.{Sound, sure-of, safe-of, sound-step, sound-taken, handle-sound, begun-sound}
 use Rattle.soundness.proofs.Levels.{Low, low_step, low-taken, begun-low}
 use Rattle.soundness.proofs.Results.{Entered, begin-entered, budget-told, refused-13, buffer-kept, outcome}
+use Rattle.machine.specs.Denials.{Grant}
 
 -- ---- what a stop with VECTORS keeps
 
@@ -66,7 +66,7 @@ sound-empties r o = record { versions = o.versions; verdict = o.verdict; inv = o
 abbrev Any : Ask → Type 0
 Any a = Unit {0}
 
-sound-begins : (image : List ℕ) (level f v : ℕ) (words buffer : List ℤ) → Any (start image level f v words buffer) → (begin_of image level f v words buffer).entry ≡ Entry.Begun → Sound (begun image level f v words buffer)
+sound-begins : (image : List ℕ) (level f v : ℕ) (words buffer : List ℤ) → Any (start image level f v words buffer) → (begin_of image level f v words buffer).entry ≡ Ok tt → Sound (begun image level f v words buffer)
 sound-begins image level f v words buffer _ e = begun-sound image level f v words buffer e
 
 none_of : (I : Run → Type 0) (p : Pool) (i : ℕ) → Of I ((opened p).runs i)
@@ -129,15 +129,15 @@ module _ (level : ℕ) where
   low-empties r o = record { sound = sound-empties r o.sound; low = λ k f w e. absurd (empty-calls r.state k f w e) }
 
   -- a level below is below this one
-  low-begins : (image : List ℕ) (l f v : ℕ) (words buffer : List ℤ) → StatesUpTo level (start image l f v words buffer) → (begin_of image l f v words buffer).entry ≡ Entry.Begun → Low level (begun image l f v words buffer)
+  low-begins : (image : List ℕ) (l f v : ℕ) (words buffer : List ℤ) → StatesUpTo level (start image l f v words buffer) → (begin_of image l f v words buffer).entry ≡ Ok tt → Low level (begun image l f v words buffer)
   unfolding StatesUpTo NoneAbove
   low-begins image l f v words buffer h e = record { sound = begun-sound image l f v words buffer e; low = λ k g w c. let t = begun-low image l f v words buffer e k g w c in (t.0, t.1, omega (arith, t.2, h)) }
 
-began-is : (e x : Entry) → began e ≡ began x → e ≡ x
+began-is : (e x : Grant) → began e ≡ began x → e ≡ x
 began-is e x h = cc
 
 -- the run of a start that is not refused
-started_of : (level : ℕ) (w : House) (i : ℕ) (image : List ℕ) (f v : ℕ) (words buffer : List ℤ) → let a : Asked = record { number = i; ask = start image level f v words buffer } in (serve a w).heard ≡ began Entry.Begun → Of (Low level) ((serve a w).house.runs i)
+started_of : (level : ℕ) (w : House) (i : ℕ) (image : List ℕ) (f v : ℕ) (words buffer : List ℤ) → let a : Asked = record { number = i; ask = start image level f v words buffer } in (serve a w).heard ≡ began (Ok tt) → Of (Low level) ((serve a w).house.runs i)
 unfolding serve ask_in StatesUpTo
 started_of level w i image f v words buffer h =
     subst (Of (Low level)) (sym (runs-at (record { number = i; ask = start image level f v words buffer }) w i refl))
@@ -199,10 +199,10 @@ heard21-listed (go_on (budget n buffer)) = budget21 n buffer
 heard21-listed (go_on (change new)) = change21 new
 
 module _ (p : Pool) (i : ℕ) (passes : refuses21 p i ≡ false) where
-  begun-listed : (image : List ℕ) (level f v : ℕ) (words buffer : List ℤ) (s : State) (e : Entry) → Entered e → ListedHeard (start image level f v words buffer) (began (pool_begun_as p i (record { state = s; entry = e }) e).begun.entry)
+  begun-listed : (image : List ℕ) (level f v : ℕ) (words buffer : List ℤ) (s : State) (e : Grant) → Entered e → ListedHeard (start image level f v words buffer) (began (pool_begun_as p i (record { state = s; entry = e }) e).begun.entry)
   unfolding pool_begun_as Entered
-  begun-listed image level f v words buffer s (Entry.Refused q o) h = is_refused image level f v words buffer q o h
-  begun-listed image level f v words buffer s Entry.Begun h = begins image level f v words buffer
+  begun-listed image level f v words buffer s (Err why) h = is_refused image level f v words buffer why.question why.at h
+  begun-listed image level f v words buffer s (Ok _) h = begins image level f v words buffer
 
   event-listed : (e : Event) (r : Run) → Sound r → ListedHeard (go_on e) (ask_in p i (go_on e) (some r)).heard
   unfolding ask_in go_on_in Budgets
@@ -213,7 +213,7 @@ module _ (p : Pool) (i : ℕ) (passes : refuses21 p i ≡ false) where
       let c = budgets (allowed p i) P r.state n buffer in
       subst (λ (y : PoolRan). ListedHeard (go_on (budget n buffer)) (spent y.ran.answer y.ran.steps (buffer_of y.ran buffer))) (sym (budget-is p i passes P r.state n buffer))
       (gives n buffer x (company-told P r.state n buffer x c (budget-told P (safe-of r o) r.state n buffer o.inv)) (company-13 P r.state n buffer x c (refused-13 P (safe-of r o) r.state n buffer o.inv)))
-  event-listed (change new) r o = subst (λ (c : Changed). ListedHeard (go_on (change new)) (changed c)) (sym (change-is p i passes r.image new r.state)) (changes new _ (outcome r.image new r.state))
+  event-listed (change new) r o = subst (λ (c : Grant). ListedHeard (go_on (change new)) (changed c)) (sym (change-is p i passes r.image new r.state)) (changes new _ (outcome r.image new r.state))
 
   ask-listed : (a : Ask) (x : Option Run) → Of Sound x → ListedHeard a (ask_in p i a x).heard
   unfolding ask_in
@@ -285,10 +285,10 @@ alone-moves (change new) r o = tt
 some_is : {r r' : Run} → some r ≡ some r' → r ≡ r'
 some_is e = cc
 
-started-sound : (image : List ℕ) (level f v : ℕ) (words buffer : List ℤ) (x : Option Run) → Of Sound x → (e : Entry) → (begin_of image level f v words buffer).entry ≡ e → Of Sound (started_run image (begin_of image level f v words buffer).state x e)
+started-sound : (image : List ℕ) (level f v : ℕ) (words buffer : List ℤ) (x : Option Run) → Of Sound x → (e : Grant) → (begin_of image level f v words buffer).entry ≡ e → Of Sound (started_run image (begin_of image level f v words buffer).state x e)
 unfolding started_run
-started-sound image level f v words buffer x o (Entry.Refused q p) d = o
-started-sound image level f v words buffer x o Entry.Begun d = λ r e. subst Sound (some_is e) (begun-sound image level f v words buffer d)
+started-sound image level f v words buffer x o (Err why) d = o
+started-sound image level f v words buffer x o (Ok _) d = λ r e. subst Sound (some_is e) (begun-sound image level f v words buffer d)
 
 all-move : (l : List Ask) (x : Option Run) → Of Sound x → Every (heard_alone l x)
 unfolding heard_alone ask_alone Every Moves

@@ -20,7 +20,6 @@ use Rattle.machine.specs.Changes.{answer15, changed_by, change_after, change_of}
 use Rattle.machine.specs.Events.{Run, Event, single, budget, change, program_in, handle, handle_to, replies, replies_to}
 use Rattle.machine.specs.declared.Answer.{Answer}
 use Rattle.machine.specs.declared.End.{End}
-use Rattle.machine.specs.declared.Entry.{Entry}
 use Rattle.machine.specs.declared.Ran.{Ran}
 use Rattle.machine.specs.declared.Said.{Said}
 use Rattle.machine.specs.declared.State.{State}
@@ -30,6 +29,7 @@ use Rattle.soundness.specs.Claim.{begun}
 use Rattle.soundness.proofs.Invariant.{Inv}
 use Rattle.soundness.proofs.Closing.{StepSafe, step_keeps, step-unstuck}
 use Rattle.soundness.proofs.Histories.{Sound, safe-of, handle-sound, begun-sound}
+use Rattle.machine.specs.Denials.{Grant}
 
 -- ---- refusals
 
@@ -52,9 +52,9 @@ verdict-numbered image =
     (ask-numbered 6 _ _ refl (ask-numbered 7 _ _ refl (ask-numbered 14 _ _ refl (ask-numbered 8 _ _ refl (ask-numbered 18 _ _ refl (ask-numbered 9 _ _ refl (ask-numbered 10 _ _ refl tt)))))))))))
 
 -- of an entry
-unfoldable pub Entered : Entry → Type 0
-Entered Entry.Begun = Unit {0}
-Entered (Entry.Refused q p) = Refusal q p
+unfoldable pub Entered : Grant → Type 0
+Entered (Ok _) = Unit {0}
+Entered (Err why) = Refusal why.question why.at
 
 -- question 13
 thirteenth : (s : State) (buffer : List ℤ) → Entered (question13 s buffer).entry
@@ -199,9 +199,9 @@ results image level f v words n buffer = go (begin_of image level f v words buff
     s : State
     s = (begin_of image level f v words buffer).state
 
-    go : (e : Entry) → (begin_of image level f v words buffer).entry ≡ e → Entered e → Told n buffer (run_after e (program_of image) s n buffer)
-    go (Entry.Refused q p) e h = refused-told n buffer s q p h
-    go Entry.Begun e h = let o = begun-sound image level f v words buffer e in budget-told (program_of image) (safe-of (begun image level f v words buffer) o) s n buffer o.inv
+    go : (e : Grant) → (begin_of image level f v words buffer).entry ≡ e → Entered e → Told n buffer (run_after e (program_of image) s n buffer)
+    go (Err why) e h = refused-told n buffer s why.question why.at h
+    go (Ok _) e h = let o = begun-sound image level f v words buffer e in budget-told (program_of image) (safe-of (begun image level f v words buffer) o) s n buffer o.inv
 
 -- ---- lists of events
 

@@ -1,4 +1,5 @@
 -- The state of a begun run before its first step has the invariant.
+use Rattle.std.specs.Prelude.{Ok}
 use mathlib.Core.Path.{◌≡◌, refl, sym, ap, ◌∙◌, subst}
 use mathlib.Core.Logic.{inl}
 use mathlib.Core.List.{List, [], ◌∷◌}
@@ -24,7 +25,6 @@ use Rattle.machine.specs.Begin.{Given, integer, vector, given_kind, matched, arg
 use Rattle.machine.specs.Begin as begin
 use Rattle.machine.specs.declared.Activation.{Activation}
 use Rattle.machine.specs.declared.Cache.{Cache}
-use Rattle.machine.specs.declared.Entry.{Entry}
 use Rattle.machine.specs.declared.Frame.{Frame}
 use Rattle.machine.specs.declared.Opener.{Opener}
 use Rattle.machine.specs.declared.Promise.{Promise}
@@ -247,27 +247,27 @@ module _ (P : Program) (sure : Sure P) (f w : ℕ) (W : Version) (found : find_v
 -- ---- questions 11, 19, 12 and 13
 
 -- a buffer that is long enough changes nothing
-after-13 : (P : Program) (s : State) (buffer : List ℤ) → Inv P s → (question13 s buffer).entry ≡ Entry.Begun → Inv P (question13 s buffer).state
+after-13 : (P : Program) (s : State) (buffer : List ℤ) → Inv P s → (question13 s buffer).entry ≡ Ok tt → Inv P (question13 s buffer).state
 unfolding question13 refused
 after-13 P s buffer inv h = go (long_enough buffer) refl h
   where
-    go : (b : Bool) → long_enough buffer ≡ b → (question13 s buffer).entry ≡ Entry.Begun → Inv P (question13 s buffer).state
+    go : (b : Bool) → long_enough buffer ≡ b → (question13 s buffer).entry ≡ Ok tt → Inv P (question13 s buffer).state
     go true e g = rw (e, question13) inv
     go false e g = absurd (refused-begun 13 0 (rw (e, question13) at g))
 
 -- THE LAW: a begun run of a checked program
-pub begun-inv : (P : Program) → Sure P → (level f v : ℕ) (words buffer : List ℤ) → (entered_of P level f v words buffer).entry ≡ Entry.Begun → Inv P (entered_of P level f v words buffer).state
+pub begun-inv : (P : Program) → Sure P → (level f v : ℕ) (words buffer : List ℤ) → (entered_of P level f v words buffer).entry ≡ Ok tt → Inv P (entered_of P level f v words buffer).state
 unfolding entered_of question11 question19 question12 refused
 begun-inv P sure level f v words buffer h = go (find_version P f v) refl h
   where
-    given : (W : Version) → find_version P f v ≡ some W → (o : Option (List Given)) → arguments (parameter_types W) words ≡ o → (question12 W o buffer).entry ≡ Entry.Begun → Inv P (question12 W o buffer).state
+    given : (W : Version) → find_version P f v ≡ some W → (o : Option (List Given)) → arguments (parameter_types W) words ≡ o → (question12 W o buffer).entry ≡ Ok tt → Inv P (question12 W o buffer).state
     given W e none a g = absurd (refused-begun 12 0 g)
     given W e (some xs) a g = after-13 P _ buffer (first-inv P sure f v W e xs (arguments-matched (parameter_types W) words xs a)) g
 
-    low : (W : Version) → find_version P f v ≡ some W → (b : Bool) → leb W.level (run_level level) ≡ b → (question19 level W words buffer).entry ≡ Entry.Begun → Inv P (question19 level W words buffer).state
+    low : (W : Version) → find_version P f v ≡ some W → (b : Bool) → leb W.level (run_level level) ≡ b → (question19 level W words buffer).entry ≡ Ok tt → Inv P (question19 level W words buffer).state
     low W e true l g = rw (l, question19) (given W e (arguments (parameter_types W) words) refl (rw (l, question19) at g))
     low W e false l g = absurd (refused-begun 19 0 (rw (l, question19) at g))
 
-    go : (o : Option Version) → find_version P f v ≡ o → (question11 level o words buffer).entry ≡ Entry.Begun → Inv P (question11 level o words buffer).state
+    go : (o : Option Version) → find_version P f v ≡ o → (question11 level o words buffer).entry ≡ Ok tt → Inv P (question11 level o words buffer).state
     go none e g = absurd (refused-begun 11 0 g)
     go (some W) e g = low W e (leb W.level (run_level level)) refl g

@@ -1,4 +1,5 @@
 -- A call that stays live through a list of events keeps its numbers and its version, whatever changes came between.
+use Rattle.std.specs.Prelude.{Err, Ok}
 use mathlib.Core.Path.{◌≡◌, refl, sym, ap, ap₂, ◌∙◌, subst}
 use mathlib.Core.Logic.{◌⊎◌, inl, inr}
 use mathlib.Core.List.{List, [], ◌∷◌, ◌++◌, Memᴰ}
@@ -15,7 +16,6 @@ use Rattle.machine.specs.Runs.{step_of}
 use Rattle.machine.specs.States.{live_frames}
 use Rattle.machine.specs.Steps.{Position, position_of}
 use Rattle.machine.specs.declared.Activation.{Activation}
-use Rattle.machine.specs.declared.Changed.{Changed}
 use Rattle.machine.specs.declared.Frame.{Frame}
 use Rattle.machine.specs.declared.State.{State}
 use Rattle.runs.specs.Alike.{Alike}
@@ -30,6 +30,7 @@ use Rattle.soundness.proofs.Histories.{Sound, sure-of, handle-sound, after-sound
 use Rattle.soundness.proofs.Invariant.{version_at}
 use Rattle.soundness.proofs.Levels.{live_of}
 use Rattle.soundness.proofs.Taken.{taken-passed, live_alike}
+use Rattle.machine.specs.Denials.{Grant}
 
 -- ---- one step
 
@@ -135,10 +136,10 @@ module _ (k g w : ℕ) where
       (x.call ∙ c, u.0, u.0, u.1, ap (λ (i : List ℕ). find_version (program_of i) g w) x.image ∙ u.1, alike_self u.0)
 
   -- a change
-  change-kept : (new : List ℕ) (r : Run) → Sound r → call_at r.state k ≡ some (g, w) → (c : Changed) → change_of r.image new r.state ≡ c → Kept k g w r (record { image = in_force c r.image new; state = r.state })
+  change-kept : (new : List ℕ) (r : Run) → Sound r → call_at r.state k ≡ some (g, w) → (c : Grant) → change_of r.image new r.state ≡ c → Kept k g w r (record { image = in_force c r.image new; state = r.state })
   unfolding in_force
-  change-kept new r o c (Changed.Refused q p) e = stays-kept r r o c (record { image = refl; call = refl })
-  change-kept new r o c Changed.Taken e =
+  change-kept new r o c (Err why) e = stays-kept r r o c (record { image = refl; call = refl })
+  change-kept new r o c (Ok _) e =
       let u = known r o c in
       let x = live_of r.state k g w c in
       let t = live_alike r.image new o.versions o.verdict r.state (taken-passed r.image new r.state e) k x.0 u.0 x.1 (ap₂ (find_version (program_in r)) x.2 x.3 ∙ u.1) in

@@ -19,7 +19,6 @@ use Rattle.checker.specs.Verdicts.{verdict_of, Verdict}
 use Rattle.checker.proofs.Accepted as accepted
 use Rattle.machine.specs.States.{ACTIVATIONS, live_frames}
 use Rattle.machine.specs.Begin.{program_of}
-use Rattle.machine.specs.declared.Changed.{Changed}
 use Rattle.machine.specs.declared.Frame.{Frame}
 use Rattle.machine.specs.declared.State.{State}
 use Rattle.runs.proofs.Lists.{any_at, all-at}
@@ -31,6 +30,7 @@ use Rattle.runs.specs.Alike.{bare, Alike}
 use Rattle.machine.specs.Changes.{bytes_of, same_bytes, is_live, same_in, question15, all_there, missing, answer15, changed_by, change_after, change_of}
 use Rattle.soundness.proofs.Bytes.{Own, own}
 use Rattle.soundness.proofs.Transfer.{Agree}
+use Rattle.machine.specs.Denials.{denied, Grant}
 
 -- versions whose bytes are the same are alike
 own-alike : (v w : Version) (b : List ℕ) → Own v b → Own w b → Alike v w
@@ -74,22 +74,22 @@ pub record Passed (old new : List ℕ) (s : State) : Type 0 where
   pub changed : first (question15 old new s) (program_of new) ≡ None
   pub there : all_there (program_of new) s ≡ true
 
-pub taken-passed : (old new : List ℕ) (s : State) → change_of old new s ≡ Changed.Taken → Passed old new s
+pub taken-passed : (old new : List ℕ) (s : State) → change_of old new s ≡ Ok tt → Passed old new s
 unfolding change_of change_after changed_by answer15 missing
 taken-passed old new s h = verdicts (verdict_of new) refl h
   where
-    refused-taken : (q p : ℕ) → Changed.Refused q p ≡ Changed.Taken → ⊥
+    refused-taken : (q p : ℕ) → ◌≡◌ {A = Grant} (Err (denied q p)) (Ok tt) → ⊥
     refused-taken q p e = let z : ◌≡◌ {A = ℕ} 0 1 = cc in omega arith
 
-    there_is : (n : ℕ) → verdict_of new ≡ Ok n → first (question15 old new s) (program_of new) ≡ None → (b : Bool) → all_there (program_of new) s ≡ b → changed_by (cond b None (Some (length new))) ≡ Changed.Taken → Passed old new s
+    there_is : (n : ℕ) → verdict_of new ≡ Ok n → first (question15 old new s) (program_of new) ≡ None → (b : Bool) → all_there (program_of new) s ≡ b → changed_by (cond b None (Some (length new))) ≡ Ok tt → Passed old new s
     there_is n v c true e g = record { versions = n; verdict = v; changed = c; there = e }
     there_is n v c false e g = absurd (refused-taken 15 (length new) g)
 
-    changes : (n : ℕ) → verdict_of new ≡ Ok n → (c : Found) → first (question15 old new s) (program_of new) ≡ c → changed_by (missing new s c) ≡ Changed.Taken → Passed old new s
+    changes : (n : ℕ) → verdict_of new ≡ Ok n → (c : Found) → first (question15 old new s) (program_of new) ≡ c → changed_by (missing new s c) ≡ Ok tt → Passed old new s
     changes n v None e g = there_is n v e (all_there (program_of new) s) refl g
     changes n v (Some p) e g = absurd (refused-taken 15 p g)
 
-    verdicts : (a : Verdict) → verdict_of new ≡ a → change_after a old new s ≡ Changed.Taken → Passed old new s
+    verdicts : (a : Verdict) → verdict_of new ≡ a → change_after a old new s ≡ Ok tt → Passed old new s
     verdicts (Err why) e g = absurd (refused-taken why.question why.at g)
     verdicts (Ok n) e g = changes n e (first (question15 old new s) (program_of new)) refl g
 

@@ -1,5 +1,5 @@
 -- Demand 3, as the section "What demand 3 speaks of" has it, with the changes of 02, 3 among the events: the statement alone.
-use Rattle.std.specs.Prelude.{◌≡◌, ◌≢◌, ◌⊎◌, Bool, true, false, ◌&&◌, ℕ, ◌<◌, ℤ, eqb}
+use Rattle.std.specs.Prelude.{◌≡◌, ◌≢◌, ◌⊎◌, Bool, true, false, ◌&&◌, ℕ, ◌<◌, ℤ, eqb, Ok}
 use mathlib.Core.List.{List, Memᴰ}
 use Rattle.std.proofs.Math.Option.{Option, none, some}
 use Rattle.std.proofs.Math.ListN.{get_elem?}
@@ -12,7 +12,6 @@ use Rattle.machine.specs.Steps.{Position, instruction, block_end, outside, here,
 use Rattle.machine.specs.Runs.{last_step, step_of}
 use Rattle.machine.specs.Begin.{begin_of}
 use Rattle.machine.specs.Events.{Run, Event, program_in, after, history}
-use Rattle.machine.specs.declared.Entry.{Entry}
 use Rattle.machine.specs.declared.Frame.{Frame}
 use Rattle.machine.specs.declared.Said.{Said}
 use Rattle.machine.specs.declared.State.{State}
@@ -135,6 +134,6 @@ begun image level f v words buffer = record { image = image; state = (begin_of i
 -- After every list of steps, budgets and changes from the state of every run that begin did not refuse; begin puts the questions to the image too
 unfoldable pub Demand3 : Type 0
 Demand3 =
-    (image : List ℕ) (level f v : ℕ) (words buffer : List ℤ) → (begin_of image level f v words buffer).entry ≡ Entry.Begun
+    (image : List ℕ) (level f v : ℕ) (words buffer : List ℤ) → (begin_of image level f v words buffer).entry ≡ Ok tt
     → (events : List Event)
     → let r = begun image level f v words buffer in Safe (history events r) (after events r)

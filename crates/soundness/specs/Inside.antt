@@ -1,5 +1,5 @@
 -- 01, "Stuck": a state that points outside itself or its image. No begun run comes to one: the statement alone.
-use Rattle.std.specs.Prelude.{◌≡◌, ℕ, ◌≤◌, ℤ, length}
+use Rattle.std.specs.Prelude.{◌≡◌, ℕ, ◌≤◌, ℤ, length, Ok}
 use mathlib.Core.List.{List, Memᴰ}
 use Rattle.std.proofs.Math.Option.{some}
 use Rattle.std.proofs.Math.ListN.{get_elem?}
@@ -9,7 +9,6 @@ use Rattle.machine.specs.States.{kind_in, live_activations, register, named}
 use Rattle.machine.specs.Begin.{begin_of}
 use Rattle.machine.specs.Events.{Run, Event, program_in, after, history}
 use Rattle.machine.specs.declared.Activation.{Activation}
-use Rattle.machine.specs.declared.Entry.{Entry}
 use Rattle.machine.specs.declared.Frame.{Frame}
 use Rattle.machine.specs.declared.State.{State}
 use Rattle.machine.specs.declared.Status.{Status}
@@ -40,5 +39,5 @@ pub record Inside (r : Run) : Type 0 where
 -- after every list of events of every begun run, and wherever a step was tried: a step that asked for all of these, and not only for what it needs, would be stuck in none of them either
 unfoldable pub NeverOutside : Type 0
 NeverOutside =
-    (image : List ℕ) (level f v : ℕ) (words buffer : List ℤ) → (begin_of image level f v words buffer).entry ≡ Entry.Begun
+    (image : List ℕ) (level f v : ℕ) (words buffer : List ℤ) → (begin_of image level f v words buffer).entry ≡ Ok tt
     → (events : List Event) → let r = begun image level f v words buffer in Inside (after events r) × ((b : Run) → Memᴰ b (history events r) → Inside b)

@@ -1,5 +1,5 @@
 -- Demand 3, the levels and the listed replies in the pool of 02, 10, under each number: the statements alone.
-use Rattle.std.specs.Prelude.{◌≡◌, ◌≢◌, true, false, ℕ, ◌≤◌, ℤ, length}
+use Rattle.std.specs.Prelude.{◌≡◌, ◌≢◌, true, false, ℕ, ◌≤◌, ℤ, length, Err, Ok}
 use mathlib.Core.List.{List, [], ◌∷◌, map, Memᴰ}
 use Rattle.std.proofs.Math.Option.{Option, some}
 use Rattle.machine.specs.Runs.{buffer_of}
@@ -9,9 +9,7 @@ use Rattle.machine.specs.Allowed.{step_with}
 use Rattle.machine.specs.Pools.{RUNS, allowed, over_reserved, fresh}
 use Rattle.machine.specs.Houses.{Ask, start, go_on, Asked, Heard, began, turned, spent, changed, nobody, House, opened, serve, house_after, heard_under, asks_under, TriedIn, history_under}
 use Rattle.machine.specs.declared.Answer.{Answer}
-use Rattle.machine.specs.declared.Changed.{Changed}
 use Rattle.machine.specs.declared.End.{End}
-use Rattle.machine.specs.declared.Entry.{Entry}
 use Rattle.machine.specs.declared.Frame.{Frame}
 use Rattle.machine.specs.declared.Ran.{Ran}
 use Rattle.machine.specs.declared.Said.{Said}
@@ -20,6 +18,7 @@ use Rattle.runs.specs.Company.{CompanyBut}
 use Rattle.soundness.specs.Claim.{reflective, Live, entered, is_quiet, Safe}
 use Rattle.soundness.specs.Levels.{AtOrBelow}
 use Rattle.soundness.specs.Results.{Refusal, Told, Outcome}
+use Rattle.machine.specs.Denials.{Grant, denied}
 
 -- ---- demand 3
 
@@ -49,20 +48,20 @@ StatesUpTo level (go_on e) = Unit {0}
 unfoldable pub NeverAbovePool : Type 0
 NeverAbovePool =
     (w : House) (i : ℕ) (image : List ℕ) (level f v : ℕ) (words buffer : List ℤ) → let a : Asked = record { number = i; ask = start image level f v words buffer } in
-    (serve a w).heard ≡ began Entry.Begun → (l : List Asked) → ((x : Ask) → Memᴰ x (asks_under i l) → StatesUpTo level x)
+    (serve a w).heard ≡ began (Ok tt) → (l : List Asked) → ((x : Ask) → Memᴰ x (asks_under i l) → StatesUpTo level x)
     → let u = (serve a w).house in ((r : Run) → (house_after l u).runs i ≡ some r → AtOrBelow level r) × ((t : TriedIn) → Memᴰ t (history_under i l u) → AtOrBelow level t.run)
 
 -- ---- what is heard
 
 pub data ListedHeard : Ask → Heard → Type 0 where
   -- 21, at 0
-  start21 : (image : List ℕ) (level f v : ℕ) (words buffer : List ℤ) → ListedHeard (start image level f v words buffer) (began (Entry.Refused 21 0))
+  start21 : (image : List ℕ) (level f v : ℕ) (words buffer : List ℤ) → ListedHeard (start image level f v words buffer) (began (Err (denied 21 0)))
   single21 : ListedHeard (go_on single) (turned (PoolSaid.Refused 21 0))
   budget21 : (n : ℕ) (buffer : List ℤ) → ListedHeard (go_on (budget n buffer)) (spent (Answer.Refused 21 0) 0 buffer)
-  change21 : (new : List ℕ) → ListedHeard (go_on (change new)) (changed (Changed.Refused 21 0))
+  change21 : (new : List ℕ) → ListedHeard (go_on (change new)) (changed (Err (denied 21 0)))
   -- a start has begun, or is refused by a question
-  begins : (image : List ℕ) (level f v : ℕ) (words buffer : List ℤ) → ListedHeard (start image level f v words buffer) (began Entry.Begun)
-  is_refused : (image : List ℕ) (level f v : ℕ) (words buffer : List ℤ) (q p : ℕ) → Refusal q p → ListedHeard (start image level f v words buffer) (began (Entry.Refused q p))
+  begins : (image : List ℕ) (level f v : ℕ) (words buffer : List ℤ) → ListedHeard (start image level f v words buffer) (began (Ok tt))
+  is_refused : (image : List ℕ) (level f v : ℕ) (words buffer : List ℤ) (q p : ℕ) → Refusal q p → ListedHeard (start image level f v words buffer) (began (Err (denied q p)))
   -- a single step goes on or has ended; it is not stuck
   goes_on : ListedHeard (go_on single) (turned PoolSaid.GoesOn)
   has_ended : (e : End) → ListedHeard (go_on single) (turned (PoolSaid.Ended e))
@@ -70,7 +69,7 @@ pub data ListedHeard : Ask → Heard → Type 0 where
   gives : (n : ℕ) (buffer : List ℤ) (r : Ran) → Told n buffer r → ((q p : ℕ) → r.answer ≡ Answer.Refused q p → (q ≡ 13) × (p ≡ 0))
       → ListedHeard (go_on (budget n buffer)) (spent r.answer r.steps (buffer_of r buffer))
   -- a change is taken or refused
-  changes : (new : List ℕ) (c : Changed) → Outcome c → ListedHeard (go_on (change new)) (changed c)
+  changes : (new : List ℕ) (c : Grant) → Outcome c → ListedHeard (go_on (change new)) (changed c)
   -- a number without a run
   is_nobody : (e : Event) → ListedHeard (go_on e) nobody
 

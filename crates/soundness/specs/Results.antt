@@ -1,16 +1,15 @@
 -- What a run from the start and each event of a list gives, as the sections "Questions put to an image" and "Steps" and 02, 3 have it: the statements alone.
-use Rattle.std.specs.Prelude.{◌≡◌, ◌≢◌, List, [], ◌∷◌, true, ℕ, ◌≤◌, ℤ, eqb}
+use Rattle.std.specs.Prelude.{◌≡◌, ◌≢◌, List, [], ◌∷◌, true, ℕ, ◌≤◌, ℤ, eqb, Err, Ok}
 use Rattle.layout.specs.Tests.{any}
 use Rattle.machine.specs.Runs.{buffer_of}
 use Rattle.machine.specs.Begin.{begin_of, run_of}
 use Rattle.machine.specs.Events.{Event, single, budget, change, Reply, said, gave, became, replies}
 use Rattle.machine.specs.declared.Answer.{Answer}
-use Rattle.machine.specs.declared.Changed.{Changed}
 use Rattle.machine.specs.declared.End.{End}
-use Rattle.machine.specs.declared.Entry.{Entry}
 use Rattle.machine.specs.declared.Ran.{Ran}
 use Rattle.machine.specs.declared.Said.{Said}
 use Rattle.soundness.specs.Claim.{begun}
+use Rattle.machine.specs.Denials.{Grant, denied}
 
 -- the number is one of these
 unfoldable pub Among : List ℕ → ℕ → Type 0
@@ -52,17 +51,17 @@ unfoldable pub Results : Type 0
 Results = (image : List ℕ) (level f v : ℕ) (words : List ℤ) (n : ℕ) (buffer : List ℤ) → Told n buffer (run_of image level f v words n buffer)
 
 -- a change is taken, refused by one of the questions to an image, or by 15
-pub data Outcome : Changed → Type 0 where
-  is_taken : Outcome Changed.Taken
-  is_refused_image : (q p : ℕ) → Among to_image q → Outcome (Changed.Refused q p)
-  is_refused15 : (p : ℕ) → Outcome (Changed.Refused 15 p)
+pub data Outcome : Grant → Type 0 where
+  is_taken : Outcome (Ok tt)
+  is_refused_image : (q p : ℕ) → Among to_image q → Outcome (Err (denied q p))
+  is_refused15 : (p : ℕ) → Outcome (Err (denied 15 p))
 
 -- the reply to an event is one of those listed for it: no step is stuck, and a budget is refused by 13 alone
 pub data Listed : Event → Reply → Type 0 where
   steps : (d : Said) → d ≢ Said.Stuck → Listed single (said d)
   gives : (n : ℕ) (buffer : List ℤ) (r : Ran) → Told n buffer r → ((q p : ℕ) → r.answer ≡ Answer.Refused q p → (q ≡ 13) × (p ≡ 0))
       → Listed (budget n buffer) (gave r.answer r.steps (buffer_of r buffer))
-  changes : (new : List ℕ) (c : Changed) → Outcome c → Listed (change new) (became c)
+  changes : (new : List ℕ) (c : Grant) → Outcome c → Listed (change new) (became c)
 
 -- each reply to the event at its place
 pub data AllListed : List Event → List Reply → Type 0 where
@@ -71,5 +70,5 @@ pub data AllListed : List Event → List Reply → Type 0 where
 
 -- Every event of every list, on every begun run, has such a reply
 unfoldable pub Replies : Type 0
-Replies = (image : List ℕ) (level f v : ℕ) (words buffer : List ℤ) → (begin_of image level f v words buffer).entry ≡ Entry.Begun → (events : List Event)
+Replies = (image : List ℕ) (level f v : ℕ) (words buffer : List ℤ) → (begin_of image level f v words buffer).entry ≡ Ok tt → (events : List Event)
     → AllListed events (replies events (begun image level f v words buffer))

@@ -1,5 +1,5 @@
 -- 02, request 11: what is shown of the topmost call of a run of demand 3. The statements alone.
-use Rattle.std.specs.Prelude.{◌≡◌, List, false, ℕ, ◌<◌, ℤ, length}
+use Rattle.std.specs.Prelude.{◌≡◌, List, false, ℕ, ◌<◌, ℤ, length, Ok}
 use Rattle.std.proofs.Math.Option.{some}
 use Rattle.std.proofs.Math.ListN.{get_elem?}
 use Rattle.program.specs.Program.{Version, Program}
@@ -11,7 +11,6 @@ use Rattle.machine.specs.Trails.{run_now, visit_of, Move, visit_after}
 use Rattle.machine.specs.Pools.{RUNS, over_reserved, fresh}
 use Rattle.machine.specs.Houses.{Asked, opened, house_after}
 use Rattle.machine.specs.Watches.{empty_row, integer_row, vector_row, promise_row, mark_in, newest, watch_of}
-use Rattle.machine.specs.declared.Entry.{Entry}
 use Rattle.machine.specs.declared.Frame.{Frame}
 use Rattle.machine.specs.declared.Row.{Row}
 use Rattle.machine.specs.declared.State.{State}
@@ -47,13 +46,13 @@ ShowsRun r = 0 < r.state.calls → (g : Frame) × (newest r.state ≡ some g) ×
 -- After every list of steps, budgets and changes of every begun run, ended or not.
 unfoldable pub Watched : Type 0
 Watched =
-    (image : List ℕ) (level f v : ℕ) (words buffer : List ℤ) → (begin_of image level f v words buffer).entry ≡ Entry.Begun → (events : List Event)
+    (image : List ℕ) (level f v : ℕ) (words buffer : List ℤ) → (begin_of image level f v words buffer).entry ≡ Ok tt → (events : List Event)
     → ShowsRun (after events (begun image level f v words buffer))
 
 -- With its start kept, after every list of steps, budgets, changes and steps back
 unfoldable pub WatchedBack : Type 0
 WatchedBack =
-    (image : List ℕ) (level f v : ℕ) (words buffer : List ℤ) → (begin_of image level f v words buffer).entry ≡ Entry.Begun → (moves : List Move)
+    (image : List ℕ) (level f v : ℕ) (words buffer : List ℤ) → (begin_of image level f v words buffer).entry ≡ Ok tt → (moves : List Move)
     → ShowsRun (run_now (visit_after moves (visit_of (begun image level f v words buffer))))
 
 -- and in the pool, of the run that a number has

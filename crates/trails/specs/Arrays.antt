@@ -1,14 +1,13 @@
 -- 02, request 8: a trail as two arrays for its start, two numbers for what lies behind and two arrays for its state; and the trail that they stand for, whatever they hold.
-use Rattle.std.specs.Prelude.{List, ◌≡◌, cond, ℕ, ◌+◌, ◌<◌, eqb, ℤ}
+use Rattle.std.specs.Prelude.{List, ◌≡◌, cond, ℕ, ◌+◌, ◌<◌, eqb, ℤ, Err, Ok}
 use Rattle.program.specs.Program.{Program}
 use Rattle.machine.specs.Changes.{change_of}
 use Rattle.machine.specs.Runs.{step_of}
 use Rattle.machine.specs.Trails.{REACH, back_of, behind_by, change_on, further, started, steps_by}
-use Rattle.machine.specs.declared.Back.{Back}
 use Rattle.machine.specs.declared.Behind.{Behind}
-use Rattle.machine.specs.declared.Changed.{Changed}
 use Rattle.machine.specs.declared.Trail.{Trail}
 use Rattle.store.specs.Store.{state_in}
+use Rattle.machine.specs.Denials.{Grant, denied}
 
 -- what lies behind after so many steps; none any more where `past` is not 0
 unfoldable pub behind_in : ℕ → ℕ → Behind
@@ -36,13 +35,13 @@ abbrev pub steps_from : Program → List ℕ → List ℤ → ℕ
 steps_from P b n = steps_by (state_in b n).status (step_of P (state_in b n)).said
 
 -- a change of the image that is taken is a new start; one that is refused leaves the trail as it was, byte for byte
-pub record Renews (r : Changed) (old new b : List ℕ) (n : List ℤ) (b₀ : List ℕ) (n₀ : List ℤ) (steps past : ℕ) (b₀' : List ℕ) (n₀' : List ℤ) (steps' past' : ℕ) : Type 0 where
+pub record Renews (r : Grant) (old new b : List ℕ) (n : List ℤ) (b₀ : List ℕ) (n₀ : List ℤ) (steps past : ℕ) (b₀' : List ℕ) (n₀' : List ℤ) (steps' past' : ℕ) : Type 0 where
   pub changed : r ≡ change_of old new (state_in b n)
   pub trail : trail_in b₀' n₀' steps' past' b n ≡ change_on (trail_in b₀ n₀ steps past b n) r
-  pub taken : r ≡ Changed.Taken → Starts b n b₀' n₀' steps' past'
-  pub refused : (q p : ℕ) → r ≡ Changed.Refused q p → (b₀' ≡ b₀) × (n₀' ≡ n₀) × (steps' ≡ steps) × (past' ≡ past)
+  pub taken : r ≡ Ok tt → Starts b n b₀' n₀' steps' past'
+  pub refused : (q p : ℕ) → r ≡ Err (denied q p) → (b₀' ≡ b₀) × (n₀' ≡ n₀) × (steps' ≡ steps) × (past' ≡ past)
 
 -- a step back; one that is refused leaves the state and what lies behind as they were, byte for byte
-pub record Returns (r : Back) (P : Program) (b₀ : List ℕ) (n₀ : List ℤ) (steps past : ℕ) (b : List ℕ) (n : List ℤ) (steps' : ℕ) (b' : List ℕ) (n' : List ℤ) : Type 0 where
+pub record Returns (r : Grant) (P : Program) (b₀ : List ℕ) (n₀ : List ℤ) (steps past : ℕ) (b : List ℕ) (n : List ℤ) (steps' : ℕ) (b' : List ℕ) (n' : List ℤ) : Type 0 where
   pub back : back_of P (trail_in b₀ n₀ steps past b n) ≡ record { trail = trail_in b₀ n₀ steps' past b' n'; back = r }
-  pub refused : (q p : ℕ) → r ≡ Back.Refused q p → (steps' ≡ steps) × (b' ≡ b) × (n' ≡ n)
+  pub refused : (q p : ℕ) → r ≡ Err (denied q p) → (steps' ≡ steps) × (b' ≡ b) × (n' ≡ n)

@@ -5,10 +5,9 @@
 ghost use Rattle.std.specs.Prelude.{◌≡◌, ◌+◌};
 ghost use Rattle.loaded.specs.Loaded.{program_in};
 ghost use Rattle.running.specs.Budgets.{Resumes, Steps};
-ghost use Rattle.runs.specs.Backs.{is_taken};
 ghost use Rattle.trails.specs.Arrays.{Adds, Renews, Returns, Starts, steps_from};
 
-use machine::{Back, Changed};
+use machine::Denial;
 use running::{Counted, Pause};
 
 /// The most steps that may lie behind.
@@ -91,16 +90,6 @@ pub fn step<'s>(
     counted.pause
 }
 
-/// Is the change taken?
-fn is_taken(changed: Changed) -> bool
-    ensures { result ≡ is_taken changed }
-{
-    match changed {
-        Changed::Taken => true,
-        Changed::Refused(_, _) => false,
-    }
-}
-
 /// Whether the state goes on under the new image: then it is a new start.
 pub fn change<'s, 't>(
     old: &[u8],
@@ -111,13 +100,13 @@ pub fn change<'s, 't>(
     numbers0: &'t mut [i64; 2129],
     steps: &'t mut u32,
     past: &'t mut u8,
-) -> Changed
+) -> Result<(), Denial>
     ensures { Renews result old.now new.now bytes.now numbers.now
         bytes0.old numbers0.old steps.old past.old
         bytes0.new numbers0.new steps.new past.new }
 {
     let changed = changes::change(old, new, bytes);
-    if is_taken(changed) {
+    if changed.is_ok() {
         start(bytes, numbers, bytes0, numbers0, steps, past);
         return changed;
     }
@@ -134,21 +123,27 @@ pub fn back<'s>(
     numbers0: &'s [i64; 2129],
     steps: &'s mut u32,
     past: &'s u8,
-) -> Back
+) -> Result<(), Denial>
     ensures { Returns result (program_in image.now table.now)
         bytes0.now numbers0.now steps.old past.now bytes.old numbers.old
         steps.new bytes.new numbers.new }
 {
     if *past != 0 {
-        return Back::Refused(BEHIND, 0);
+        return Err(Denial {
+            question: BEHIND,
+            at: 0,
+        });
     }
     if *steps == 0 {
-        return Back::Refused(BEHIND, 0);
+        return Err(Denial {
+            question: BEHIND,
+            at: 0,
+        });
     }
     let n = *steps - 1;
     *steps = n;
     *bytes = *bytes0;
     *numbers = *numbers0;
     running::resume(image, table, bytes, numbers, n);
-    Back::Taken
+    Ok(())
 }

@@ -1,4 +1,5 @@
 -- The lent list with its first records written, for `fill`.
+use Rattle.std.specs.Prelude.{Err, Ok}
 use mathlib.Core.Path.{◌≡◌, refl, ap, ◌∙◌}
 use mathlib.Core.Bool.{Bool, true, false}
 use mathlib.Core.List.{List}
@@ -13,9 +14,9 @@ use Rattle.machine.specs.States.{over}
 use Rattle.machine.specs.Watches.{rows_after, watch_of, watched_of}
 use Rattle.machine.specs.declared.Row.{Row}
 use Rattle.machine.specs.declared.State.{State}
-use Rattle.machine.specs.declared.Watch.{Watch}
 use Rattle.machine.proofs.Overlays.{over-next}
 use Rattle.watches.specs.Rows.{filled_by, row_at}
+use Rattle.machine.specs.Denials.{denied}
 
 module _ (P : Program) (u : State) (rows : List Row) where
   -- with its first i records written
@@ -31,7 +32,7 @@ module _ (P : Program) (u : State) (rows : List Row) where
   unfolding filled_by watched_of rows_after
   either X f g = go (leb (length (watch_of P u)) (length rows))
     where
-      go : (x : Bool) → X (filled_by (elim x [ true ↦ Watch.Filled (length (watch_of P u)) | false ↦ Watch.Refused 22 0 ])) (elim x [ true ↦ over (watch_of P u) rows | false ↦ rows ])
+      go : (x : Bool) → X (filled_by (elim x [ true ↦ Ok (length (watch_of P u)) | false ↦ Err (denied 22 0) ])) (elim x [ true ↦ over (watch_of P u) rows | false ↦ rows ])
       go true = f
       go false = g
 

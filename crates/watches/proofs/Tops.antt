@@ -1,5 +1,5 @@
 -- The topmost call by the bytes that tell it, and how many records it has.
-use Rattle.std.specs.Prelude.{None, Some, Option as Optional}
+use Rattle.std.specs.Prelude.{None, Some, Option as Optional, Err, Ok, Result}
 use mathlib.Core.Path.{◌≡◌, refl, sym, ap, ◌∙◌}
 use Rattle.loaded.specs.Answers.{Number}
 use mathlib.Core.Bool.{Bool, true, false}
@@ -19,7 +19,6 @@ use Rattle.machine.specs.States.{live_frames}
 use Rattle.machine.specs.Watches.{newest, rows_at, rows_of, watch_of, watched_of}
 use Rattle.machine.specs.declared.Row.{Row}
 use Rattle.machine.specs.declared.State.{State}
-use Rattle.machine.specs.declared.Watch.{Watch}
 use Rattle.machine.specs.Try.{at}
 use Rattle.machine.proofs.Tries.{or-stuck}
 use Rattle.runs.proofs.Watches.{rows-length}
@@ -31,6 +30,8 @@ use Rattle.loaded.specs.Answers.{version_of}
 use Rattle.loaded.specs.Loaded.{program_in, version_in}
 use Rattle.watches.specs.Rows.{Tops, filled_by}
 use Rattle.watches.specs.declared.Top.{Top}
+use Rattle.machine.specs.declared.Denial.{Denial}
+use Rattle.machine.specs.Denials.{denied}
 
 -- ---- the newest frame
 
@@ -88,11 +89,11 @@ module _ (s t b : List ℕ) {r : Optional Top} (T : Tops r t b) where
       h ∙ ap (λ (i : ℕ). min REGISTERS i) g ∙ sym (ap (λ (l : List Row). length l) (M.1 s n) ∙ rows-length (program_in s t) (state_in b n) (frame_in b n top.frame) 0 (take REGISTERS (version_in s t top.own).types) ∙ length-take REGISTERS (version_in s t top.own).types)
 
 module _ (P : Program) (u : State) (n : ℕ) {k : ℕ} (e : k ≡ length (watch_of P u)) where
-  pub enough : {w : ℕ} → w ≡ k → w ≤ n → Watch.Filled k ≡ watched_of P u n
+  pub enough : {w : ℕ} → w ≡ k → w ≤ n → Ok k ≡ watched_of P u n
   unfolding watched_of
-  enough q h = ap Watch.Filled e ∙ rw (watched_of, le-leb (length (watch_of P u)) n (omega (arith, e, q, h))) refl
+  enough q h = ap Ok e ∙ rw (watched_of, le-leb (length (watch_of P u)) n (omega (arith, e, q, h))) refl
 
-  pub too_short : {w : ℕ} → w ≡ k → n < w → Watch.Refused 22 0 ≡ watched_of P u n
+  pub too_short : {w : ℕ} → w ≡ k → n < w → Err (denied 22 0) ≡ watched_of P u n
   unfolding watched_of
   too_short q h = rw (watched_of, lt-leb (length (watch_of P u)) n (omega (arith, e, q, h))) refl
 
@@ -101,19 +102,19 @@ pub fills-inside : (P : Program) (u : State) (n : ℕ) → filled_by (watched_of
 unfolding filled_by watched_of
 fills-inside P u n = go (leb (length (watch_of P u)) n) refl
   where
-    go : (x : Bool) → leb (length (watch_of P u)) n ≡ x → filled_by (elim x [ true ↦ Watch.Filled (length (watch_of P u)) | false ↦ Watch.Refused 22 0 ]) ≤ n
+    go : (x : Bool) → leb (length (watch_of P u)) n ≡ x → filled_by (elim x [ true ↦ Ok (length (watch_of P u)) | false ↦ Err (denied 22 0) ]) ≤ n
     go true e = leb-true (length (watch_of P u)) n e
     go false e = omega arith
 
 -- how many are written, by the answer
-module _ (s t b : List ℕ) (n : ℕ) {w : Watch} (a : (m : List ℤ) → w ≡ watched_of (program_in s t) (state_in b m) n) where
+module _ (s t b : List ℕ) (n : ℕ) {w : Result ℕ Denial} (a : (m : List ℤ) → w ≡ watched_of (program_in s t) (state_in b m) n) where
   inside : filled_by w ≤ n
   inside = let h = fills-inside (program_in s t) (state_in b []) n in omega (arith, h, ap filled_by (a []))
 
-  pub some_written : {k r : ℕ} → w ≡ Watch.Filled k → r ≡ k → ((m : List ℤ) → r ≡ filled_by (watched_of (program_in s t) (state_in b m) n)) × (r ≤ n)
+  pub some_written : {k r : ℕ} → w ≡ Ok k → r ≡ k → ((m : List ℤ) → r ≡ filled_by (watched_of (program_in s t) (state_in b m) n)) × (r ≤ n)
   unfolding filled_by
   some_written e q = (λ m. q ∙ ap filled_by (sym e ∙ a m), omega (arith, inside, q, ap filled_by e))
 
-  pub none_written : {q o : ℕ} → w ≡ Watch.Refused q o → ((m : List ℤ) → 0 ≡ filled_by (watched_of (program_in s t) (state_in b m) n)) × (0 ≤ n)
+  pub none_written : {q o : ℕ} → w ≡ Err (denied q o) → ((m : List ℤ) → 0 ≡ filled_by (watched_of (program_in s t) (state_in b m) n)) × (0 ≤ n)
   unfolding filled_by
   none_written e = (λ m. ap filled_by (sym e ∙ a m), omega arith)

@@ -1,12 +1,12 @@
 -- 02, request 11: the records of the topmost call, as the code finds and writes them.
-use Rattle.std.specs.Prelude.{List, [], ◌≡◌, ℕ, ◌<◌, ℤ, get_or, take, None, Some, Option}
+use Rattle.std.specs.Prelude.{List, [], ◌≡◌, ℕ, ◌<◌, ℤ, get_or, take, None, Some, Option, Err, Ok, Result}
 use Rattle.layout.specs.Bounds.{REGISTERS}
 use Rattle.machine.specs.Watches.{empty_row, rows_from, watch_of, zeros}
 use Rattle.machine.specs.declared.Row.{Row}
-use Rattle.machine.specs.declared.Watch.{Watch}
 use Rattle.store.specs.Store.{frame_in, state_in}
 use Rattle.loaded.specs.Loaded.{program_in, version_in}
 use Rattle.watches.specs.declared.Top.{Top}
+use Rattle.machine.specs.declared.Denial.{Denial}
 
 -- a record without items
 abbrev pub plain_row : ℕ → ℕ → ℤ → ℕ → Row
@@ -17,9 +17,9 @@ abbrev pub row_at : List Row → ℕ → Row
 row_at rows k = get_or rows k (empty_row 0)
 
 -- how many records are written, by the answer: none where it is a refusal
-unfoldable pub filled_by : Watch → ℕ
-filled_by (Watch.Filled k) = k
-filled_by (Watch.Refused q o) = 0
+unfoldable pub filled_by : Result ℕ Denial → ℕ
+filled_by (Ok k) = k
+filled_by (Err why) = 0
 
 -- the topmost call by the table t and the bytes b, whatever image and numbers there are
 unfoldable pub Tops : Option Top → List ℕ → List ℕ → Type 0

@@ -12,7 +12,7 @@ ghost use Rattle.store.specs.Store.{state_in, vector_in};
 ghost use Rattle.watches.specs.Rows.{Tops, filled_by, plain_row, row_at};
 
 use loaded::lookup;
-use machine::{Row, Value, Watch};
+use machine::{Denial, Row, Value};
 use store::{cells, heap};
 
 /// How many frames, vectors and promises a state has.
@@ -91,14 +91,17 @@ pub fn count(image: &[u8], table: &[u8], bytes: &[u8; 2632]) -> u8
 }
 
 /// How many records of a list of `n` are filled, or 22 where it is too short, whatever the state's numbers are.
-pub fn watched(image: &[u8], table: &[u8], bytes: &[u8; 2632], n: usize) -> Watch
+pub fn watched(image: &[u8], table: &[u8], bytes: &[u8; 2632], n: usize) -> Result<u8, Denial>
     ensures { (m : List ℤ) → result ≡ watched_of (program_in image.now table.now) (state_in bytes.now m) n }
 {
     let k = count(image, table, bytes);
     if layout::wide(k) <= n {
-        Watch::Filled(k)
+        Ok(k)
     } else {
-        Watch::Refused(LIST, 0)
+        Err(Denial {
+            question: LIST,
+            at: 0,
+        })
     }
 }
 
@@ -107,8 +110,8 @@ fn fills(image: &[u8], table: &[u8], bytes: &[u8; 2632], n: usize) -> usize
     ensures { ((m : List ℤ) → result ≡ filled_by (watched_of (program_in image.now table.now) (state_in bytes.now m) n)) × (result ≤ n) }
 {
     match watched(image, table, bytes, n) {
-        Watch::Filled(k) => layout::wide(k),
-        Watch::Refused(_, _) => 0,
+        Ok(k) => layout::wide(k),
+        Err(_) => 0,
     }
 }
 

@@ -3,10 +3,10 @@ use mathlib.Core.Path.{sym, ◌∙◌}
 use Rattle.trails.proofs.Starting.{change-refused, change-taken}
 use Rattle.trails.proofs.change.Goals as goal
 
-pub returns-then-is_taken : goal.returns-then-is_taken
-returns-then-is_taken c =
+pub returns-then-is_ok : goal.returns-then-is_ok
+returns-then-is_ok c =
     change-taken _ _ _ _ _ _ _ _ _ _ _ _ _ c.change-changed.ensures
-    (sym c.is_taken.ensures ∙ c.if-is_taken.true) c.start.ensures
+    (sym c.is_ok.ensures.value ∙ c.if-is_ok.true) c.start.ensures
 
 pub returns : goal.returns
-returns c = change-refused _ _ _ _ _ _ _ _ _ c.change-changed.ensures (sym c.is_taken.ensures ∙ c.if-is_taken.false)
+returns c = change-refused _ _ _ _ _ _ _ _ _ c.change-changed.ensures (sym c.is_ok.ensures.value ∙ c.if-is_ok.false)

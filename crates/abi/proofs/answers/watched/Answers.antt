@@ -2,12 +2,12 @@
 use Rattle.abi.specs.Answers.{watched_numbers}
 use Rattle.abi.proofs.answers.watched.Goals as goal
 
-pub returns-in-Filled : goal.returns-in-Filled
+pub returns-in-Ok : goal.returns-in-Ok
 unfolding watched_numbers
-returns-in-Filled c =
-    rw c.in-Filled.is
+returns-in-Ok c =
+    rw c.in-Ok.is
 
-pub returns-in-Refused : goal.returns-in-Refused
+pub returns-in-Err : goal.returns-in-Err
 unfolding watched_numbers
-returns-in-Refused c =
-    rw c.in-Refused.is
+returns-in-Err c =
+    rw c.in-Err.is

@@ -4,4 +4,4 @@ use Rattle.abi.proofs.entry.begun.Goals as goal
 
 pub returns : goal.returns
 returns c =
-    begins _ _ _ _ _ _ _ _ c.entry.ensures c.begin.ensures
+    begins _ _ _ _ _ _ _ _ c.grant.ensures c.begin.ensures

@@ -3,8 +3,8 @@ use Rattle.abi.proofs.pool.back.Goals as goal
 
 pub returns-then-refuses : goal.returns-then-refuses
 returns-then-refuses c =
-    λ hs. back-refused _ _ (fails _ hs _ c.refuses.ensures c.if-refuses.true) c.back.ensures
+    λ hs. back-refused _ _ (fails _ hs _ c.refuses.ensures c.if-refuses.true) c.grant.ensures
 
 pub returns : goal.returns
 returns c =
-    λ hs. back_none _ _ (passes _ hs _ c.refuses.ensures c.if-refuses.false) c.back-2.ensures
+    λ hs. back_none _ _ (passes _ hs _ c.refuses.ensures c.if-refuses.false) c.grant-2.ensures

@@ -3,7 +3,7 @@ use Rattle.abi.proofs.pool.change.Goals as goal
 
 pub returns-then-refuses : goal.returns-then-refuses
 returns-then-refuses c =
-    λ n hs. change-refused _ _ (fails _ hs _ c.refuses.ensures c.if-refuses.true) _ _ _ c.changed.ensures
+    λ n hs. change-refused _ _ (fails _ hs _ c.refuses.ensures c.if-refuses.true) _ _ _ c.grant.ensures
 
 pub returns : goal.returns
 returns c =

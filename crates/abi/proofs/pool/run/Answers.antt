@@ -1,10 +1,10 @@
 use Rattle.abi.proofs.Pooling.{runs-begun, runs-refused}
 use Rattle.abi.proofs.pool.run.Goals as goal
 
-pub returns-in-Refused : goal.returns-in-Refused
-returns-in-Refused c =
-    runs-refused _ _ _ _ _ _ _ _ _ _ _ c.enter.ensures _ _ c.in-Refused.is c.refused.ensures
+pub returns-in-Err : goal.returns-in-Err
+returns-in-Err c =
+    runs-refused _ _ _ _ _ _ _ _ _ _ _ c.enter.ensures _ _ c.in-Err.is c.refused.ensures
 
-pub returns-in-Begun : goal.returns-in-Begun
-returns-in-Begun c =
-    runs-begun _ _ _ _ _ _ _ _ _ _ _ c.enter.ensures c.in-Begun.is _ _ _ c.budget.ensures
+pub returns-in-Ok : goal.returns-in-Ok
+returns-in-Ok c =
+    runs-begun _ _ _ _ _ _ _ _ _ _ _ c.enter.ensures c.in-Ok.is _ _ _ c.budget.ensures

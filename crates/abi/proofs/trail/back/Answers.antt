@@ -4,4 +4,4 @@ use Rattle.abi.proofs.trail.back.Goals as goal
 
 pub returns : goal.returns
 returns c =
-    backs-on _ _ _ _ _ _ _ _ _ _ _ c.back.ensures c.back-2.ensures
+    backs-on _ _ _ _ _ _ _ _ _ _ _ c.back.ensures c.grant.ensures

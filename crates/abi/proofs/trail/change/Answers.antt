@@ -4,4 +4,4 @@ use Rattle.abi.proofs.trail.change.Goals as goal
 
 pub returns : goal.returns
 returns c =
-    changes-on _ _ _ _ _ _ _ _ _ _ _ _ _ c.change.ensures c.changed.ensures
+    changes-on _ _ _ _ _ _ _ _ _ _ _ _ _ c.change.ensures c.grant.ensures
