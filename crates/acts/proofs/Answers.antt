@@ -9,7 +9,6 @@ use native.Mathlib.Omega.{arith}
 use lib.IntN.{ℤ, pos, negsuc}
 use lib.Dec.{ltb}
 use borrow.Author.Tests.{ltb-true}
-use Rattle.layout.specs.Records.{◌!◌}
 use Rattle.machine.specs.States.{assign, free_promise, with_frame, with_register, with_stack}
 use Rattle.machine.specs.Allowed.{free_within}
 use Rattle.machine.specs.Values.{index}
@@ -21,7 +20,7 @@ use Rattle.machine.specs.declared.Value.{Value}
 use Rattle.store.specs.Answers.{end_of, whole_of, found_of}
 use Rattle.store.specs.declared.Did.{Did}
 use Rattle.store.specs.declared.Halt.{Halt}
-use Rattle.store.specs.Store.{CALLS, frame_in, state_in, Live}
+use Rattle.store.specs.Store.{frame_in, state_in, Live}
 use Rattle.store.specs.Counts.{Counted, Frees, FreesVector}
 use Rattle.store.specs.Acts.{Does, Narrow}
 use Rattle.store.proofs.Counting.{free-promise}

@@ -1,23 +1,20 @@
 -- The clauses of `execute` by what their operands are.
-use mathlib.Core.Path.{◌≡◌, refl, sym, ap, ◌∙◌}
+use mathlib.Core.Path.{◌≡◌, refl, ap, ◌∙◌}
 use mathlib.Core.List.{List}
-use mathlib.Core.Bool.{true, false, not}
 use Prim.Native.Nat.{ℕ, ◌+◌, ◌*◌, ◌≤◌, ◌<◌}
 use native.Mathlib.Omega.{arith}
 use lib.IntN.{ℤ, pos}
 use lib.ListN.{get_or, length, set}
-use lib.Dec.{eqb}
 use borrow.Author.Tests.{eq-eqb, ne_eqb}
 use Rattle.layout.specs.Records.{◌!◌}
 use Rattle.program.specs.Program.{Program, Version, DUP, FORCE, GET, LEN, USE}
-use Rattle.machine.specs.Try.{Try, got, stuck, stop, ◌>>=◌, ◌>>◌, at, end_unless}
+use Rattle.machine.specs.Try.{got, stuck, stop, ◌>>=◌, ◌>>◌, end_unless}
 use Rattle.machine.specs.Allowed.{execute_with, free_within}
 use Rattle.machine.specs.Steps.{execute, execute_to}
 use Rattle.machine.proofs.Within.{dup-within}
-use Rattle.machine.specs.States.{assign, integer, items_of, live_frames, pending, promise, vector, with_vector}
+use Rattle.machine.specs.States.{assign, integer, items_of, live_frames, promise, vector, with_vector}
 use Rattle.machine.specs.Calls.{force, opened}
 use Rattle.machine.specs.Values.{index}
-use Rattle.machine.specs.declared.Activation.{Activation}
 use Rattle.machine.specs.declared.Cache.{Cache}
 use Rattle.machine.specs.declared.End.{End}
 use Rattle.machine.specs.declared.Opener.{Opener}

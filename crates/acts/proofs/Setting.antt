@@ -2,24 +2,23 @@
 use mathlib.Core.Path.{◌≡◌, refl, sym, ap, ◌∙◌}
 use mathlib.Core.List.{List}
 use mathlib.Core.Bool.{Bool, true, false}
-use Prim.Native.Nat.{ℕ, ◌+◌, ◌*◌, ◌≤◌, ◌<◌}
+use Prim.Native.Nat.{ℕ, ◌<◌}
 use native.Mathlib.Omega.{arith}
-use lib.IntN.{ℤ, pos}
-use lib.ListN.{length, set}
+use lib.IntN.{ℤ}
+use lib.ListN.{length}
 use lib.Dec.{eqb, ltb}
 use borrow.Author.Tests.{eq-eqb, ne_eqb, ltb-true, ltb-false}
 use Rattle.layout.specs.Records.{◌!◌}
 use Rattle.program.specs.Program.{Program, Version, SET}
-use Rattle.machine.specs.Try.{Try, got, stuck, stop, ◌>>=◌, ◌>>◌, at, stuck_unless}
+use Rattle.machine.specs.Try.{got, stuck, stop, ◌>>=◌, ◌>>◌, stuck_unless}
 use Rattle.machine.specs.Steps.{execute, execute_to, alone}
-use Rattle.machine.specs.States.{a_vector, assign, integer, is_vector, items_of, register, vector, with_vector}
+use Rattle.machine.specs.States.{a_vector, integer, items_of, register, vector}
 use Rattle.machine.specs.Values.{index}
 use Rattle.machine.specs.declared.End.{End}
-use Rattle.machine.specs.declared.State.{State}
 use Rattle.machine.specs.declared.Value.{Value}
 use Rattle.store.specs.Store.{frame_in, state_in, vector_in, cell_in, Live}
 use Rattle.store.specs.Acts.{with_item}
-use Rattle.store.specs.Counts.{Counted, Ready, holding}
+use Rattle.store.specs.Counts.{Counted}
 use Rattle.store.proofs.Vectors.{vector-at}
 use Rattle.store.proofs.Frames.{assign-in, frame-live, register-in, register-out}
 use Rattle.store.proofs.Counting.{alone-count, vector-count}

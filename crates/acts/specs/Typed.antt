@@ -1,5 +1,5 @@
 -- What an instruction does in a version of a program, as far as its code is told of them.
-use Rattle.std.specs.Prelude.{List, ◌≡◌, Bool, true, false, ℕ, ℤ, Option, Some, None}
+use Rattle.std.specs.Prelude.{List, ◌≡◌, Bool, ℕ, ℤ, Option, Some, None}
 use Rattle.program.specs.Program.{Instr, Program, Version}
 use Rattle.rules.specs.Types.{kind_of, within}
 use Rattle.machine.specs.States.{kind_in, value}

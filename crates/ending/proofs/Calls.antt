@@ -1,13 +1,13 @@
 -- A call that ends, by what its parts answered.
 use mathlib.Core.Path.{◌≡◌, refl, sym, ap, ◌∙◌}
 use mathlib.Core.List.{List}
-use mathlib.Core.Bool.{Bool, true, false}
+use mathlib.Core.Bool.{true, false}
 use mathlib.Core.Option.{some}
 use Prim.Native.Nat.{ℕ, ◌+◌, ◌-◌, ◌*◌, ◌≤◌, ◌<◌}
 use native.Mathlib.Omega.{arith}
 use lib.IntN.{ℤ}
 use lib.ListN.{get_elem?}
-use lib.Dec.{eqb, ltb}
+use lib.Dec.{eqb}
 use borrow.Author.Tests.{eq-eqb, ne_eqb, lt-ltb}
 use Rattle.layout.specs.Records.{◌!◌}
 use Rattle.layout.specs.Tests.{◌and◌}
@@ -25,7 +25,7 @@ use Rattle.machine.specs.declared.Value.{Value}
 use Rattle.store.specs.Lists.{up_to}
 use Rattle.store.proofs.Lists.{get_elem?-up_to}
 use Rattle.store.specs.Store.{◌#◌, CALLS, DEPTH, activation_in, cell_in, frame_in, state_in, value_of, Live}
-use Rattle.store.proofs.Frames.{frame-live, outside, register-in, register-out}
+use Rattle.store.proofs.Frames.{outside, register-in, register-out}
 use Rattle.frames.specs.Frames.{Ending, with_less}
 use Rattle.store.specs.declared.Did.{Did}
 use Rattle.store.specs.Acts.{Does}

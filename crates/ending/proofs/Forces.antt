@@ -1,13 +1,12 @@
 -- A force that ends, by what its parts answered.
 use mathlib.Core.Path.{◌≡◌, refl, sym, ap, ◌∙◌}
 use mathlib.Core.List.{List}
-use mathlib.Core.Bool.{Bool, true, false}
+use mathlib.Core.Bool.{Bool, false}
 use mathlib.Core.Option.{some}
-use Prim.Native.Nat.{ℕ, ◌+◌, ◌-◌, ◌≤◌, ◌<◌}
+use Prim.Native.Nat.{ℕ, ◌-◌, ◌≤◌, ◌<◌}
 use native.Mathlib.Omega.{arith}
 use lib.IntN.{ℤ}
 use lib.ListN.{get_elem?}
-use lib.Dec.{ltb}
 use borrow.Author.Tests.{le-ltb, lt-ltb}
 use Rattle.layout.specs.Records.{◌!◌}
 use Rattle.program.specs.Program.{Program, Version}
@@ -15,12 +14,10 @@ use Rattle.machine.specs.Try.{Try, got, stuck, stop, ◌>>=◌, ◌>>◌, at, or
 use Rattle.machine.specs.Calls.{back, finish}
 use Rattle.machine.specs.States.{an_integer, assign, full, integer, live_frames, register, value, with_promise, with_stack}
 use Rattle.machine.specs.declared.Activation.{Activation}
-use Rattle.machine.specs.declared.End.{End}
 use Rattle.machine.specs.declared.Frame.{Frame}
 use Rattle.machine.specs.declared.Opener.{Opener}
 use Rattle.machine.specs.declared.State.{State}
 use Rattle.machine.specs.declared.Value.{Value}
-use Rattle.store.specs.Lists.{up_to}
 use Rattle.store.proofs.Lists.{get_elem?-up_to}
 use Rattle.store.specs.Store.{CALLS, DEPTH, activation_in, frame_in, promise_in, state_in, Live}
 use Rattle.store.specs.Acts.{with_cache}

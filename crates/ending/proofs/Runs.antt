@@ -10,7 +10,7 @@ use lib.Seq.{get_or-set_same, get_or-set_other}
 use lib.Dec.{eqb}
 use borrow.Author.Tests.{eqb-true, eqb-false}
 use Rattle.layout.specs.Records.{◌!◌}
-use Rattle.machine.specs.Try.{Try, got, stuck, ◌>>=◌}
+use Rattle.machine.specs.Try.{Try, got, ◌>>=◌}
 use Rattle.machine.specs.Calls.{closed, done}
 use Rattle.machine.specs.Pools.{overfull}
 use Rattle.machine.specs.States.{items_of, with_end, with_stack}
@@ -27,7 +27,7 @@ use Rattle.store.specs.Counts.{Ready}
 use Rattle.store.proofs.Kept.{by_parts, delays-kept, frames-kept, result-kept, stack-kept, vectors-kept}
 use Rattle.store.proofs.Vectors.{vector-at, vector-outside}
 use Rattle.ending.specs.declared.Ended.{Ended}
-use Rattle.ending.specs.Ends.{Comes, Left, Over, RunEnds, closed_bytes, done_integer, done_vector, stop_byte, stopped_by}
+use Rattle.ending.specs.Ends.{Comes, Left, RunEnds, closed_bytes, done_integer, done_vector, stop_byte, stopped_by}
 
 -- ---- the arrays of an ended run
 

@@ -2,7 +2,6 @@ use Rattle.changes.proofs.Owners.{below_next, all_live, one-gone}
 use Rattle.layout.proofs.Bools.{found_some, found_none}
 use Rattle.program.proofs.Lookups.{version-found, version-missing}
 use Rattle.program.proofs.Tables.{listed-right}
-use mathlib.Core.Bool.{true}
 use mathlib.Core.Path.{sym, ◌∙◌}
 use native.Mathlib.Omega.{arith}
 use Rattle.changes.proofs.all_there.Goals as goal

@@ -1,5 +1,4 @@
 use Rattle.changes.proofs.Owners.{below_next, none-live, one-live}
-use mathlib.Core.Bool.{false}
 use mathlib.Core.Path.{sym, ◌∙◌}
 use native.Mathlib.Omega.{arith}
 use Rattle.changes.proofs.is_live.Goals as goal

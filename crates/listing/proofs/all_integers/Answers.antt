@@ -1,5 +1,4 @@
 use Rattle.listing.proofs.Gathering.{gather-begun, gather-done, gather-next, gather-ends}
-use mathlib.Core.Path.{◌∙◌}
 use Rattle.listing.proofs.all_integers.Goals as goal
 
 pub loop-r-init : goal.loop-r-init
