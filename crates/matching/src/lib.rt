@@ -104,7 +104,7 @@ fn register_kind(image: &[u8], table: &[u8], bytes: &[u8; 2632], k: usize, r: u8
 
 // ---- types
 
-/// Is what the register `a` of the frame `k` holds of a kind within that of the register `d` of the version `own`? For MOVE and CAST.
+/// Is what the register `a` of the frame `k` holds of a kind within that of the register `d` of the version `own`? For MOVE and CAST; none where it is stuck.
 /// Requires a frame below 32: the loop has asked it of the frame that is worked on, and a test would cost each step.
 pub fn typed(
     image: &[u8],
@@ -131,7 +131,7 @@ pub fn typed(
     ))
 }
 
-/// Is what the register `r` of the frame `k` holds of the kind that the version `own` returns? For the ends of calls.
+/// Is what the register `r` of the frame `k` holds of the kind that the version `own` returns? For the ends of calls; none where it is stuck.
 /// Requires a frame below 32: the loop has asked it of the frame that is worked on, and a test would cost each end of a call.
 pub fn returned(
     image: &[u8],
