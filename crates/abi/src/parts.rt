@@ -86,8 +86,7 @@ pub fn watched(image: &[u8], table: &[u8], bytes: &[u8; 2632], n: usize) -> FirW
 fn put_items(numbers: &[i64; 2129], n: usize, buffer: &mut [i64])
     ensures { buffer.new ≡ over (take n (result_in numbers.now)) buffer.old }
 {
-    let mut j: usize = 0;
-    while j < Vector::ITEMS {
+    for j in 0..Vector::ITEMS {
         if n <= j {
             return;
         }
@@ -95,7 +94,6 @@ fn put_items(numbers: &[i64; 2129], n: usize, buffer: &mut [i64])
             return;
         }
         buffer[j] = numbers[RESULT + j];
-        j += 1;
     }
 }
 

@@ -17,9 +17,8 @@ use Rattle.layout.specs.Records.{◌!◌, size_at, kind_at, body_at, rec_at, cho
 use Rattle.layout.specs.Tests.{◌and◌, all}
 use Rattle.layout.proofs.Bools.{and-on, and-off, and_both}
 use Rattle.layout.proofs.Rows.{Rows, choose-each}
-use Rattle.program.specs.Places.{view_at, version_at, block_at, instr_at, table_of, listed_in}
+use Rattle.program.specs.Places.{view_at, version_at, block_at, instr_at, version_place}
 use Rattle.program.proofs.Lookups.{version-found, version-missing}
-use Rattle.program.proofs.Tables.{listed-right}
 use Rattle.program.specs.Program.{Instr, Line, Version, Program, View, nowhere, arguments, instr_by, level_of, line_of, find_version}
 use Rattle.program.proofs.Held.{find-numbers}
 use Rattle.program.proofs.Views.{Whole, at-version, at_block, at-line}
@@ -266,12 +265,12 @@ module _ (P : Program) (known : List ℕ) (f w : ℕ) where
 
 -- ---- look-up in the table
 
-module _ (s : List ℕ) {t : List ℕ} (tabled : t ≡ table_of s) (f w : ℕ) {o : Found} (looked : o ≡ listed_in s t f w) where
+module _ (s : List ℕ) (f w : ℕ) {o : Found} (looked : o ≡ version_place s f w) where
   pub found_at : (v : ℕ) → o ≡ Some v → find_version (program_of s) f w ≡ some (version_at s v)
-  found_at v e = (version-found s f w v (sym (listed-right s t f w tabled) ∙ sym looked ∙ e)).0
+  found_at v e = (version-found s f w v (sym looked ∙ e)).0
 
   pub missing_at : o ≡ None → find_version (program_of s) f w ≡ none
-  missing_at e = version-missing s f w (sym (listed-right s t f w tabled) ∙ sym looked ∙ e)
+  missing_at e = version-missing s f w (sym looked ∙ e)
 
 -- ---- what a CALL names
 

@@ -1,6 +1,5 @@
 //! The order of the list, and the rows as they are written.
 ghost use Rattle.std.specs.Prelude.{◌≡◌, ◌+◌, ◌*◌, ◌/◌, ◌%◌, ◌<◌, ◌≤◌, length, set, [], map};
-ghost use Rattle.program.specs.Places.{table_of};
 ghost use Rattle.machine.specs.Begin.{program_of};
 ghost use Rattle.bounds.specs.Bounds.{bounded, by_number, entry_of, report};
 ghost use Rattle.bounds.specs.Counts.{Begin, Begins, Ready, Stands, Worth, first_place, free_at, open_at};
@@ -8,6 +7,7 @@ ghost use Rattle.bounds.specs.Rows.{numbers_after, rest_from, steps_after};
 
 use crate::{NONE, counts};
 use program::lookup;
+use program::lookup::Tabled;
 
 /// Where the blocks of the version at `v` begin: behind its record and its level.
 fn start(image: &[u8], v: usize) -> usize
@@ -24,10 +24,11 @@ fn start(image: &[u8], v: usize) -> usize
 }
 
 /// Where the blocks of each version of the table begin.
-fn starts(image: &[u8], table: &[usize; 128]) -> [usize; 128]
-    requires { table.now ≡ table_of image.now }
-    ensures { Begins image.now result 128 }
+fn starts(tabled: Tabled) -> [usize; 128]
+    ensures { Begins tabled.entry.image.now result 128 }
 {
+    let image = tabled.image;
+    let table = tabled.table;
     let mut places = [0usize; 128];
     for k in 0..lookup::TABLE {
         places[k] = start(image, table[k]);
@@ -36,31 +37,32 @@ fn starts(image: &[u8], table: &[usize; 128]) -> [usize; 128]
 }
 
 /// Is a version at the place `k` of the table, and not listed?
-fn is_open(image: &[u8], table: &[usize; 128], known: &[u64; 128], k: usize) -> bool
-    requires { (table.now ≡ table_of image.now) × (k < 128) }
-    ensures { result ≡ open_at image.now known.now k }
+fn is_open(tabled: Tabled, known: &[u64; 128], k: usize) -> bool
+    requires { k < 128 }
+    ensures { result ≡ open_at tabled.entry.image.now known.now k }
 {
+    let image = tabled.image;
+    let table = tabled.table;
     table[k] < image.len() && known[k] == 0
 }
 
 /// The place of the first version in order of number that is free to be listed. The counts go on from where they stand.
 fn next_free(
-    image: &[u8],
-    table: &[usize; 128],
+    tabled: Tabled,
     known: &[u64; 128],
     places: &mut [usize; 128],
     sums: &mut [u64; 128],
 ) -> Option<usize>
-    requires table_value { table.now ≡ table_of image.now }
-    requires ready { Ready image.now known.now places.old sums.old }
-    ensures { (result ≡ first_place (free_at image.now known.now) 128 0) × Ready image.now known.now places.new sums.new
-        × Worth image.now known.now sums.new result }
+    requires { Ready tabled.image.now known.now places.old sums.old }
+    ensures { (result ≡ first_place (free_at tabled.entry.image.now known.now) 128 0) × Ready tabled.entry.image.now known.now places.new sums.new
+        × Worth tabled.entry.image.now known.now sums.new result }
 {
+    let table = tabled.table;
     for k in 0..lookup::TABLE {
-        if !is_open(image, table, known, k) {
+        if !is_open(tabled, known, k) {
             continue;
         }
-        let c = counts::count(image, table, known, table[k], places[k], sums[k]);
+        let c = counts::count(tabled, known, table[k], places[k], sums[k]);
         places[k] = c.at;
         sums[k] = c.steps;
         if c.whole {
@@ -82,21 +84,20 @@ fn put_row(numbers: &mut [u8; 128], steps: &mut [u64; 64], row: usize, k: usize,
 
 /// Lists the versions with a bound, each as soon as it is the first that is free, and keeps their numbers.
 fn list_bounded(
-    image: &[u8],
-    table: &[usize; 128],
+    tabled: Tabled,
     known: &mut [u64; 128],
     numbers: &mut [u8; 128],
     steps: &mut [u64; 64],
 ) -> usize
-    requires { (table.now ≡ table_of image.now) × Stands known.old [] × (length (by_number (program_of image.now)) ≤ 64) }
-    ensures { (result ≡ length (bounded (program_of image.now))) × Stands known.new (bounded (program_of image.now))
-        × (numbers.new ≡ numbers_after numbers.old 0 (map entry_of (bounded (program_of image.now))))
-        × (steps.new ≡ steps_after steps.old 0 (map entry_of (bounded (program_of image.now)))) }
+    requires { Stands known.old [] × (length (by_number (program_of tabled.image.now)) ≤ 64) }
+    ensures { (result ≡ length (bounded (program_of tabled.entry.image.now))) × Stands known.new (bounded (program_of tabled.entry.image.now))
+        × (numbers.new ≡ numbers_after numbers.old 0 (map entry_of (bounded (program_of tabled.entry.image.now))))
+        × (steps.new ≡ steps_after steps.old 0 (map entry_of (bounded (program_of tabled.entry.image.now)))) }
 {
-    let mut places = starts(image, table);
+    let mut places = starts(tabled);
     let mut sums = [0u64; 128];
     for row in 0..layout::bounds::ALL_VERSIONS {
-        let Some(k) = next_free(image, table, known, &mut places, &mut sums) else {
+        let Some(k) = next_free(tabled, known, &mut places, &mut sums) else {
             return row;
         };
         let n = sums[k];
@@ -108,21 +109,20 @@ fn list_bounded(
 
 /// Lists the versions that are not listed from the row `from` on, in order of number, with no bound.
 fn list_rest(
-    image: &[u8],
-    table: &[usize; 128],
+    tabled: Tabled,
     known: &[u64; 128],
     numbers: &mut [u8; 128],
     steps: &mut [u64; 64],
     from: usize,
 ) -> usize
-    requires { (table.now ≡ table_of image.now) × (from + length (rest_from image.now known.now 128 0) ≤ 64) }
-    ensures { (result ≡ from + length (rest_from image.now known.now 128 0))
-        × (numbers.new ≡ numbers_after numbers.old from (rest_from image.now known.now 128 0))
-        × (steps.new ≡ steps_after steps.old from (rest_from image.now known.now 128 0)) }
+    requires { (from + length (rest_from tabled.image.now known.now 128 0) ≤ 64) }
+    ensures { (result ≡ from + length (rest_from tabled.entry.image.now known.now 128 0))
+        × (numbers.new ≡ numbers_after numbers.old from (rest_from tabled.entry.image.now known.now 128 0))
+        × (steps.new ≡ steps_after steps.old from (rest_from tabled.entry.image.now known.now 128 0)) }
 {
     let mut row = from;
     for k in 0..lookup::TABLE {
-        if !is_open(image, table, known, k) {
+        if !is_open(tabled, known, k) {
             continue;
         }
         put_row(numbers, steps, row, k, NONE);
@@ -138,7 +138,11 @@ pub fn list(image: &[u8], numbers: &mut [u8; 128], steps: &mut [u64; 64]) -> usi
         × (steps.new ≡ steps_after steps.old 0 (report (program_of image.now))) }
 {
     let table = lookup::versions(image);
+    let tabled = Tabled {
+        image,
+        table: &table,
+    };
     let mut known = [0u64; 128];
-    let row = list_bounded(image, &table, &mut known, numbers, steps);
-    list_rest(image, &table, &known, numbers, steps, row)
+    let row = list_bounded(tabled, &mut known, numbers, steps);
+    list_rest(tabled, &known, numbers, steps, row)
 }

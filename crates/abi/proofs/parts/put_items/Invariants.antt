@@ -8,6 +8,3 @@ use Rattle.abi.proofs.parts.put_items.Given as goal
 
 abbrev pub invariant-loop-j : goal.invariant-loop-j
 invariant-loop-j l = (l.j ≤ l.n) × (l.j ≤ 16) × (l.buffer ≡ over (take l.j (result_in l.numbers)) l.initial.buffer) × (length l.buffer ≡ length l.initial.buffer)
-
-abbrev pub decreases-loop-j : goal.decreases-loop-j
-decreases-loop-j l = 16 - l.j

@@ -5,7 +5,7 @@ use lib.ListN.{length}
 use Rattle.bounds.proofs.counts.count.Given as goal
 
 abbrev pub invariant-loop-p : goal.invariant-loop-p
-invariant-loop-p l = Counted l.image l.known l.own l.from l.steps → Counted l.image l.known l.own l.p l.sum
+invariant-loop-p l = Counted l.tabled.image.now l.known l.own l.from l.steps → Counted l.tabled.image.now l.known l.own l.p l.sum
 
 abbrev pub decreases-loop-p : goal.decreases-loop-p
-decreases-loop-p l = length l.image - l.p
+decreases-loop-p l = length l.tabled.image.now - l.p

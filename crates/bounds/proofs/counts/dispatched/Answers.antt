@@ -10,7 +10,7 @@ loop-w-init c =
 pub returns-then-n-eq0 : goal.returns-then-n-eq0
 returns-then-n-eq0 c =
     sym (c.loop-w.invariant.1
-    ∙ from-open _ _ _ _ _ _ c.loop-w-test.true _ (found_at _ c.requires _ _ c.listed.ensures _ c.in-Some.is)
+    ∙ from-open _ _ _ _ _ _ c.loop-w-test.true _ (found_at _ _ _ c.version.ensures _ c.in-Some.is)
     (sym c.allows.ensures ∙ c.if-not-allows.false) c.kept-n.ensures c.if-n-eq0.true)
 
 pub loop-w-preserved : goal.loop-w-preserved
@@ -18,7 +18,7 @@ loop-w-preserved c = (
   c.loop-w.invariant.0,
   c.loop-w.invariant.1
       ∙ from_more _ _ _ _ _ _ c.loop-w-test.true _
-      (found_at _ c.requires _ _ c.listed.ensures _ c.in-Some.is) (sym c.allows.ensures ∙ c.if-not-allows.false)
+      (found_at _ _ _ c.version.ensures _ c.in-Some.is) (sym c.allows.ensures ∙ c.if-not-allows.false)
       c.kept-n.ensures c.if-n-eq0.false (c.max-greatest.ensures ∙ max-greater _ _),
 )
 
@@ -26,12 +26,12 @@ pub loop-w-preserved-then-not-allows : goal.loop-w-preserved-then-not-allows
 loop-w-preserved-then-not-allows c = (
   c.loop-w.invariant.0,
   c.loop-w.invariant.1
-      ∙ from-passed _ _ _ _ _ _ c.loop-w-test.true _ (found_at _ c.requires _ _ c.listed.ensures _ c.in-Some.is) (sym c.allows.ensures ∙ c.if-not-allows.true),
+      ∙ from-passed _ _ _ _ _ _ c.loop-w-test.true _ (found_at _ _ _ c.version.ensures _ c.in-Some.is) (sym c.allows.ensures ∙ c.if-not-allows.true),
 )
 
 pub loop-w-preserved-in_default : goal.loop-w-preserved-in_default
 loop-w-preserved-in_default c =
-    (c.loop-w.invariant.0, c.loop-w.invariant.1 ∙ from-missing _ _ _ _ _ _ c.loop-w-test.true (missing_at _ c.requires _ _ c.listed.ensures c.in_default.is))
+    (c.loop-w.invariant.0, c.loop-w.invariant.1 ∙ from-missing _ _ _ _ _ _ c.loop-w-test.true (missing_at _ _ _ c.version.ensures c.in_default.is))
 
 pub returns : goal.returns
 returns c =

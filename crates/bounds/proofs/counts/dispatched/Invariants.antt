@@ -10,6 +10,6 @@ use mathlib.Core.Path.{◌≡◌}
 use Rattle.bounds.proofs.counts.dispatched.Given as goal
 
 abbrev pub invariant-loop-w : goal.invariant-loop-w
-invariant-loop-w l = (l.f ≡ body_at l.image l.at ! 1)
-    × (most (kept l.known) 1 (fitting (program_of l.image) (body_at l.image l.at ! 1) (allows (version_at l.image l.own).level (body_at l.image l.at ! 2) (body_at l.image l.at ! 3) (arguments (body_at l.image l.at) 5 (body_at l.image l.at ! 4))) 4 0)
-    ≡ from (program_of l.image) l.known l.f (allows (version_at l.image l.own).level (body_at l.image l.at ! 2) (body_at l.image l.at ! 3) (arguments (body_at l.image l.at) 5 (body_at l.image l.at ! 4))) l.greatest l.w l.greatest l.w)
+invariant-loop-w l = (l.f ≡ body_at l.tabled.image.now l.at ! 1)
+    × (most (kept l.known) 1 (fitting (program_of l.tabled.image.now) (body_at l.tabled.image.now l.at ! 1) (allows (version_at l.tabled.image.now l.own).level (body_at l.tabled.image.now l.at ! 2) (body_at l.tabled.image.now l.at ! 3) (arguments (body_at l.tabled.image.now l.at) 5 (body_at l.tabled.image.now l.at ! 4))) 4 0)
+    ≡ from (program_of l.tabled.image.now) l.known l.f (allows (version_at l.tabled.image.now l.own).level (body_at l.tabled.image.now l.at ! 2) (body_at l.tabled.image.now l.at ! 3) (arguments (body_at l.tabled.image.now l.at) 5 (body_at l.tabled.image.now l.at ! 4))) l.greatest l.w l.greatest l.w)

@@ -7,11 +7,11 @@ use Rattle.bounds.proofs.order.list.Goals as goal
 
 pub list_bounded-row-requires : goal.list_bounded-row-requires
 list_bounded-row-requires c =
-    (c.versions-table.ensures, stands-none (replicate 128 0) (length-replicate {A = ℕ} 128 0) (λ k h. get_or-replicate {A = ℕ} 128 k 0 0 h), c.requires)
+    (stands-none (replicate 128 0) (length-replicate {A = ℕ} 128 0) (λ k h. get_or-replicate {A = ℕ} 128 k 0 0 h), c.requires)
 
 pub list_rest-requires : goal.list_rest-requires
 list_rest-requires c =
-    (c.versions-table.ensures, rest-fits _ _ c.list_bounded-row.ensures.1 c.requires c.list_bounded-row.ensures.0)
+    rest-fits _ _ c.list_bounded-row.ensures.1 c.requires c.list_bounded-row.ensures.0
 
 pub returns : goal.returns
 returns c =

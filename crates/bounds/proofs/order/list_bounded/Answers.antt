@@ -7,10 +7,10 @@ use Rattle.bounds.proofs.order.list_bounded.Goals as goal
 
 pub loop-row-init : goal.loop-row-init
 loop-row-init c =
-    filled-first _ _ _ _ _ _ c.requires.1 c.requires.2 c.starts-places.ensures (length-replicate {A = ℕ} 128 0) (λ k h. get_or-replicate {A = ℕ} 128 k 0 0 h)
+    filled-first _ _ _ _ _ _ c.requires.0 c.requires.1 c.starts-places.ensures (length-replicate {A = ℕ} 128 0) (λ k h. get_or-replicate {A = ℕ} 128 k 0 0 h)
 
 pub next_free-requires : goal.next_free-requires
-next_free-requires c = record { table_value = c.requires.0; ready = c.loop-row.invariant.ready }
+next_free-requires c = c.loop-row.invariant.ready
 
 pub returns-in_default : goal.returns-in_default
 returns-in_default c =

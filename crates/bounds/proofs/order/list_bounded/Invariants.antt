@@ -3,4 +3,4 @@ use Rattle.bounds.proofs.Filling.{Filled}
 use Rattle.bounds.proofs.order.list_bounded.Given as goal
 
 abbrev pub invariant-loop-row : goal.invariant-loop-row
-invariant-loop-row l = Filled l.image l.initial.numbers l.initial.steps l.known l.numbers l.steps l.places l.sums l.row
+invariant-loop-row l = Filled l.tabled.image.now l.initial.numbers l.initial.steps l.known l.numbers l.steps l.places l.sums l.row

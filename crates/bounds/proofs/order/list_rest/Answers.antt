@@ -9,11 +9,11 @@ loop-k-init c =
 
 pub put_row-requires : goal.put_row-requires
 put_row-requires c =
-    (rest-room _ _ _ _ _ _ _ _ _ c.loop-k.invariant c.loop-k-test.true (sym c.is_open.ensures ∙ c.if-not-is_open.false) c.requires.1, c.loop-k-test.true)
+    (rest-room _ _ _ _ _ _ _ _ _ c.loop-k.invariant c.loop-k-test.true (sym c.is_open.ensures ∙ c.if-not-is_open.false) c.requires, c.loop-k-test.true)
 
 pub overflow_add-row : goal.overflow_add-row
 overflow_add-row c =
-    omega (arith, rest-room _ _ _ _ _ _ _ _ _ c.loop-k.invariant c.loop-k-test.true (sym c.is_open.ensures ∙ c.if-not-is_open.false) c.requires.1)
+    omega (arith, rest-room _ _ _ _ _ _ _ _ _ c.loop-k.invariant c.loop-k-test.true (sym c.is_open.ensures ∙ c.if-not-is_open.false) c.requires)
 
 pub loop-k-preserved : goal.loop-k-preserved
 loop-k-preserved c =

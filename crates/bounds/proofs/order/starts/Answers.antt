@@ -15,7 +15,7 @@ bounds-places-k c =
 
 pub loop-k-preserved : goal.loop-k-preserved
 loop-k-preserved c =
-    begins-more _ _ _ c.loop-k-test.true c.loop-k.invariant (entry-is c.requires _) c.start.ensures
+    begins-more _ _ _ c.loop-k-test.true c.loop-k.invariant (entry-is c.args.tabled.listed _) c.start.ensures
 
 pub returns : goal.returns
 returns c =

@@ -3,4 +3,4 @@ use Rattle.bounds.specs.Counts.{Begins}
 use Rattle.bounds.proofs.order.starts.Given as goal
 
 abbrev pub invariant-loop-k : goal.invariant-loop-k
-invariant-loop-k l = Begins l.image l.places l.k
+invariant-loop-k l = Begins l.tabled.image.now l.places l.k
