@@ -70,8 +70,8 @@ WORDS
 tools=$(dirname "$(rt doc)")/toolchain/bin
 "$tools/clang" --no-default-config -S -emit-llvm -x ir "$module" -Xclang -disable-llvm-passes -o "$out/right.ll"
 while IFS='|' read -r fault from to expected; do
-    # A difference has no sign of its own: those of the crate that computes with integers are meant.
-    sed "/^define .*@\"integers::/,/^}/s/ = $from / = $to /" "$out/right.ll" >"$out/wrong.ll"
+    # A difference has no sign of its own: those of the crate that computes with integers and of the checked ones that it calls are meant.
+    sed -E "/^define .*@\"(integers|core::int::checked::i64)::/,/^}/s/ = $from / = $to /" "$out/right.ll" >"$out/wrong.ll"
     ! cmp -s "$out/right.ll" "$out/wrong.ll" || fail "the module has no $from"
     "$tools/clang" --no-default-config -w -O2 -c -x ir "$out/wrong.ll" -o "$out/wrong.o"
     cc "${strict[@]}" "$out/replay.o" "$out/wrong.o" -o "$out/wrong"
@@ -79,7 +79,7 @@ while IFS='|' read -r fault from to expected; do
 done <<'WORDS'
 quotients without a sign|sdiv i64|udiv i64|fir_step: state.numbers\[2\] is
 comparisons without a sign|icmp slt i64|icmp ult i64|fir_step: code is
-differences that are sums|sub i64|add i64|fir_step: code is
+differences that are sums|sub i64|add i64|fir_step: state.numbers\[2\] is
 WORDS
 
 # Changes a byte of the cases into another.
