@@ -2,7 +2,7 @@
 use mathlib.Core.Path.{◌≡◌, refl, sym, subst}
 use mathlib.Core.Bool.{Bool, true, false, cond}
 use mathlib.Core.List.{List, []}
-use Prim.Native.Nat.{ℕ, ◌+◌, ◌*◌, ◌<◌}
+use Prim.Native.Nat.{ℕ, min, ◌+◌, ◌*◌, ◌<◌}
 use native.Mathlib.Decide.{dec_lt}
 use native.Mathlib.Omega.{arith}
 use lib.IntN.{ℤ}
@@ -20,6 +20,15 @@ use Rattle.store.specs.Store.{CALLS, frame_in, state_in}
 use Rattle.store.proofs.Lists.{take-up_to, take-all-up_to}
 use Rattle.changes.specs.Owners.{live_calls, owned_by}
 use Rattle.changes.proofs.Lists.{any-up_to-none, any-up_to-some, any-up_to-same, all-up_to, all-up_to-not, all-up_to-same}
+
+-- the count of frames, if it is one of a state
+pub min-live : (b : List ℕ) → min (b ! CALLS) 32 ≡ live_calls b
+unfolding live_calls
+min-live b = go (ltb (b ! CALLS) 32) refl
+  where
+    go : (t : Bool) → ltb (b ! CALLS) 32 ≡ t → min (b ! CALLS) 32 ≡ cond t (b ! CALLS) 32
+    go true e = let l = ltb-true _ _ e in omega arith
+    go false e = let l = ltb-false _ _ e in omega arith
 
 -- what holds of each number below k and of k
 pub below_next : (T : ℕ → Type 0) (k : ℕ) → ((j : ℕ) → j < k → T j) → T k → (j : ℕ) → j < k + 1 → T j

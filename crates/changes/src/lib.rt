@@ -3,7 +3,7 @@
 
 ghost use Rattle.std.specs.Prelude.{List, ◌≡◌, ◌≤◌, eqb, ℤ, length};
 ghost use Rattle.layout.specs.Tests.{◌and◌};
-ghost use Rattle.program.specs.Places.{table_of, asked};
+ghost use Rattle.program.specs.Places.{asked};
 ghost use Rattle.program.specs.Search.{first};
 ghost use Rattle.machine.specs.Begin.{program_of};
 ghost use Rattle.machine.specs.Changes.{same_bytes, is_live, same_in, question15, all_there, answer15, change_of};
@@ -15,6 +15,7 @@ use checker::questions;
 use layout::kinds;
 use layout::records::Records;
 use machine::Denial;
+use program::lookup::Tabled;
 use program::{Here, lookup, pass};
 
 /// How many frames a state has.
@@ -62,24 +63,16 @@ fn same_version(old: &[u8], p: usize, new: &[u8], q: usize) -> bool
 }
 
 /// Has the version `w` of the function `f` the same bytes in both images?
-fn same_in(
-    old: &[u8],
-    before: &[usize; 128],
-    new: &[u8],
-    after: &[usize; 128],
-    f: usize,
-    w: usize,
-) -> bool
-    requires { (before.now ≡ table_of old.now) × (after.now ≡ table_of new.now) }
-    ensures { result ≡ same_in old.now new.now f w }
+fn same_in(old: Tabled, new: Tabled, f: usize, w: usize) -> bool
+    ensures { result ≡ same_in old.entry.image.now new.entry.image.now f w }
 {
-    let Some(p) = lookup::listed(old, before, f, w) else {
+    let Some(p) = old.version(f, w) else {
         return false;
     };
-    let Some(q) = lookup::listed(new, after, f, w) else {
+    let Some(q) = new.version(f, w) else {
         return false;
     };
-    same_version(old, p, new, q)
+    same_version(old.image, p, new.image, q)
 }
 
 /// How many frames are those of live calls.
@@ -87,17 +80,14 @@ fn live_calls(bytes: &[u8; 2632]) -> usize
     ensures { (result ≡ live_calls bytes.now) × (result ≤ 32) }
 {
     let n = layout::byte(bytes, CALLS);
-    if n < FRAMES { n } else { FRAMES }
+    n.min(FRAMES)
 }
 
 /// Are these two the numbers `f` and `w`?
 fn are(function: usize, version: usize, f: usize, w: usize) -> bool
     ensures { result ≡ (eqb function f and eqb version w) }
 {
-    if function != f {
-        return false;
-    }
-    version == w
+    function == f && version == w
 }
 
 /// Has the version `w` of the function `f` a live frame?
@@ -116,57 +106,38 @@ fn is_live(bytes: &[u8; 2632], f: usize, w: usize) -> bool
 }
 
 /// Is the record at `p` of the new image none that 15 refuses, where the pass stands at `here`? Only a VERSION is asked.
-fn kept_at(
-    old: &[u8],
-    before: &[usize; 128],
-    new: &[u8],
-    after: &[usize; 128],
-    bytes: &[u8; 2632],
-    here: Here,
-    p: usize,
-) -> bool
-    requires { (before.now ≡ table_of old.now) × (after.now ≡ table_of new.now) }
-    ensures { result ≡ asked (question15 old.now new.now (owned_by bytes.now)) new.now here p }
+fn kept_at(old: Tabled, new: Tabled, bytes: &[u8; 2632], here: Here, p: usize) -> bool
+    ensures { result ≡ asked (question15 old.entry.image.now new.entry.image.now (owned_by bytes.now)) new.entry.image.now here p }
 {
-    if layout::kind_at(new, p) != kinds::VERSION {
+    let image = new.image;
+    if layout::kind_at(image, p) != kinds::VERSION {
         return true;
     }
-    let f = layout::field(new, p, 0);
-    let w = layout::field(new, p, 1);
+    let f = layout::field(image, p, 0);
+    let w = layout::field(image, p, 1);
     if is_live(bytes, f, w) {
-        same_in(old, before, new, after, f, w)
+        same_in(old, new, f, w)
     } else {
         true
     }
 }
 
 /// The new image's first version with a live frame that differs.
-fn question_15(
-    old: &[u8],
-    before: &[usize; 128],
-    new: &[u8],
-    after: &[usize; 128],
-    bytes: &[u8; 2632],
-) -> Option<usize>
-    requires { (before.now ≡ table_of old.now) × (after.now ≡ table_of new.now) }
-    ensures { result ≡ first (question15 old.now new.now (owned_by bytes.now)) (program_of new.now) }
+fn question_15(old: Tabled, new: Tabled, bytes: &[u8; 2632]) -> Option<usize>
+    ensures { result ≡ first (question15 old.entry.image.now new.entry.image.now (owned_by bytes.now)) (program_of new.entry.image.now) }
 {
-    pass::first_failing(
-        new,
-        |here, p| kept_at(old, before, new, after, bytes, here, p),
-    )
+    pass::first_failing(new.image, |here, p| kept_at(old, new, bytes, here, p))
 }
 
 /// Is the version of each live call one of the new image?
-fn all_there(new: &[u8], after: &[usize; 128], bytes: &[u8; 2632]) -> bool
-    requires { after.now ≡ table_of new.now }
-    ensures { result ≡ all_there (program_of new.now) (owned_by bytes.now) }
+fn all_there(new: Tabled, bytes: &[u8; 2632]) -> bool
+    ensures { result ≡ all_there (program_of new.entry.image.now) (owned_by bytes.now) }
 {
     let live = live_calls(bytes);
     for k in 0..live {
         let function = layout::byte(bytes, 32 * k + FUNCTION);
         let version = layout::byte(bytes, 32 * k + VERSION);
-        let Some(_) = lookup::listed(new, after, function, version) else {
+        let Some(_) = new.version(function, version) else {
             return false;
         };
     }
@@ -179,10 +150,18 @@ fn answer_15(old: &[u8], new: &[u8], bytes: &[u8; 2632]) -> Option<usize>
 {
     let before = lookup::versions(old);
     let after = lookup::versions(new);
-    if let Some(p) = question_15(old, &before, new, &after, bytes) {
+    let held = Tabled {
+        image: old,
+        table: &before,
+    };
+    let offered = Tabled {
+        image: new,
+        table: &after,
+    };
+    if let Some(p) = question_15(held, offered, bytes) {
         return Some(p);
     }
-    if all_there(new, &after, bytes) {
+    if all_there(offered, bytes) {
         None
     } else {
         Some(new.len())

@@ -1,7 +1,6 @@
 use Rattle.changes.proofs.Owners.{below_next, all_live, one-gone}
 use Rattle.layout.proofs.Bools.{found_some, found_none}
 use Rattle.program.proofs.Lookups.{version-found, version-missing}
-use Rattle.program.proofs.Tables.{listed-right}
 use mathlib.Core.Path.{sym, ◌∙◌}
 use native.Mathlib.Omega.{arith}
 use Rattle.changes.proofs.all_there.Goals as goal
@@ -29,15 +28,13 @@ overflow_add-k-in-loop-k c =
 pub returns-in_default : goal.returns-in_default
 returns-in_default c =
     let inside = rw c.live_calls-live.ensures.0 at c.loop-k-test.true in
-    let right = listed-right _ _ _ _ c.requires in
-    let place = sym (c.listed.ensures ∙ right) ∙ c.in_default.is in
+    let place = sym c.version.ensures ∙ c.in_default.is in
     let gone = rw (c.byte-function.ensures.0, c.byte-version.ensures.0) at (version-missing _ _ _ place) in
     sym (one-gone _ _ c.loop-k.k inside (found_none _ gone))
 
 pub loop-k-preserved : goal.loop-k-preserved
 loop-k-preserved c =
-    let right = listed-right _ _ _ _ c.requires in
-    let place = sym (c.listed.ensures ∙ right) ∙ c.in-Some.is in
+    let place = sym c.version.ensures ∙ c.in-Some.is in
     let there = rw (c.byte-function.ensures.0, c.byte-version.ensures.0) at (version-found _ _ _ _ place).0 in
     let before = c.loop-k.invariant.1 in
     (omega (arith, c.loop-k-test.true), below_next _ _ before (found_some _ there))

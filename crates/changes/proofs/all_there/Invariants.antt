@@ -9,4 +9,4 @@ use mathlib.Core.Path.{◌≡◌}
 use Rattle.changes.proofs.all_there.Given as goal
 
 abbrev pub invariant-loop-k : goal.invariant-loop-k
-invariant-loop-k l = (l.k ≤ l.live) × ((j : ℕ) → j < l.k → found (find_version (program_of l.new) (l.bytes ! (32 * j + 24)) (l.bytes ! (32 * j + 25))) (λ (v : Version). true) ≡ true)
+invariant-loop-k l = (l.k ≤ l.live) × ((j : ℕ) → j < l.k → found (find_version (program_of l.new.image.now) (l.bytes ! (32 * j + 24)) (l.bytes ! (32 * j + 25))) (λ (v : Version). true) ≡ true)

@@ -1,5 +1,5 @@
 -- `changes::version_end`: the loop goes along the records behind the VERSION; the next version from `p` on ends this one.
-use Prim.Native.Nat.{◌-◌, ◌≤◌}
+use Prim.Native.Nat.{◌≤◌}
 use Rattle.changes.specs.Parts.{end_from, end_at}
 use lib.ListN.{length}
 use mathlib.Core.Path.{◌≡◌}
