@@ -1,24 +1,38 @@
 -- Filling a register again (02, 9): the verdict and the text before, and that an image which was accepted is accepted, with the same text.
-use Rattle.std.specs.Prelude.{◌≡◌, ℕ, Err, Ok}
+use Rattle.std.specs.Prelude.{◌≡◌, ℕ, length, Err, Ok}
 use mathlib.Core.List.{List, [], ◌∷◌, ◌++◌, flat_map}
 use Rattle.std.proofs.Math.Option.{Option-elim}
 use Rattle.layout.specs.Records.{records}
+use Rattle.layout.specs.Found.{Found}
+use Rattle.layout.specs.Questions.{question1, question2, question3, question4, question5}
 use Rattle.layout.specs.declared.Form.{Form}
 use Rattle.sets.specs.Sets.{size}
 use Rattle.program.specs.Program.{Version, Program, program}
 use Rattle.program.specs.Search.{Question, first, free}
+use Rattle.program.specs.Questions.{question7}
+use Rattle.program.specs.Skips.{question14}
+use Rattle.rules.specs.Questions.{question6, question8, question18, question9}
 use Rattle.rules.specs.Before.{body_action₀, flows₀}
 use Rattle.writer.specs.Text.{text, decimal}
-use Rattle.checker.specs.Verdicts.{verdict_in, verdict_with, Verdict}
+use Rattle.checker.specs.Verdicts.{ask, verdict_in, Verdict}
 use Rattle.checker.specs.Reports.{line_text, refusal, report_text}
 
 -- 10 before
 abbrev pub question10₀ : Program → Question
 question10₀ P = record { of_version = flows₀ P; of_block = free; of_instr = free }
 
+-- the verdict in a form, where `last` is what question 10 finds. Written out, so that a question more or less in `verdict_in` changes nothing here
+abbrev pub ending_with : Form → Found → List ℕ → Verdict
+ending_with form last s =
+    let rs = records s in
+    let P = program rs in
+    ask 1 (question1 s) (ask 2 (question2 rs) (ask 3 (question3 form rs) (ask 4 (question4 (length s) rs) (ask 5 (question5 rs)
+    (ask 6 (first question6 P) (ask 7 (first (question7 P) P) (ask 14 (question14 rs) (ask 8 (first (question8 P) P) (ask 18 (first (question18 P) P) (ask 9 (first (question9 P) P)
+    (ask 10 last (Ok (length P)))))))))))))
+
 -- the verdict before
 unfoldable pub verdict₀ : Form → List ℕ → Verdict
-verdict₀ form s = let P = program (records s) in verdict_with form s P (first (question10₀ P) P)
+verdict₀ form s = ending_with form (first (question10₀ (program (records s))) (program (records s))) s
 
 -- the four counts of a version before
 unfoldable pub counts₀ : Program → Version → List ℕ

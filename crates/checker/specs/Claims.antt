@@ -4,11 +4,15 @@ use Rattle.std.proofs.Math.Option.{some}
 use Rattle.std.proofs.Math.ListN.{get_elem?}
 use Rattle.layout.specs.Bounds.{ALL-VERSIONS}
 use Rattle.layout.specs.Records.{records}
+use Rattle.layout.specs.Questions.{question1, question2, question3, question4, question5}
 use Rattle.layout.specs.declared.Form.{Form}
 use Rattle.program.specs.Program.{Version, program, program_by}
 use Rattle.program.specs.Search.{first}
+use Rattle.program.specs.Questions.{question7}
+use Rattle.program.specs.Skips.{question14}
+use Rattle.rules.specs.Questions.{question6, question8, question9, question18}
 use Rattle.rules.specs.Flows.{question10}
-use Rattle.checker.specs.Verdicts.{verdict_in, verdict_with, Verdict, refused}
+use Rattle.checker.specs.Verdicts.{ask, verdict_in, Verdict, refused}
 use Rattle.checker.specs.Reports.{version_line, refusal, answer, report_in}
 
 -- what `check` prints has at most 1,100 bytes, of any image in either form
@@ -27,7 +31,12 @@ RefusalsShort = (form : Form) (s : List ℕ) (q p : ℕ) → verdict_in form s �
 
 -- all questions in order, those to a program put to the one that this form makes of the records
 unfoldable pub verdict_by : Form → List ℕ → Verdict
-verdict_by form s = let P = program_by form (records s) in verdict_with form s P (first (question10 P) P)
+verdict_by form s =
+    let rs = records s in
+    let P = program_by form rs in
+    ask 1 (question1 s) (ask 2 (question2 rs) (ask 3 (question3 form rs) (ask 4 (question4 (length s) rs) (ask 5 (question5 rs)
+    (ask 6 (first question6 P) (ask 7 (first (question7 P) P) (ask 14 (question14 rs) (ask 8 (first (question8 P) P) (ask 18 (first (question18 P) P) (ask 9 (first (question9 P) P)
+    (ask 10 (first (question10 P) P) (Ok (length P)))))))))))))
 
 -- the two forms differ in question 3 alone: the verdict in a form, which asks the program of the 64-bit form, is that with the form's own program, the offset included
 unfoldable pub OwnProgram : Type 0

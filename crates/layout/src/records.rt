@@ -68,6 +68,7 @@ impl<'a> Iterator for Records<'a> {
 
 /// Goes along the records of an image: each turn makes what follows of what the records before it left. It ends where a turn
 /// gives nothing, or a record is not whole, and gives that place.
+/// Requires a closure that may be called with any arguments, which no code can test.
 pub fn along<S: Copy, F: Fn(S, Spot) -> Option<S>>(
     image: &[u8],
     start: S,
@@ -102,6 +103,7 @@ pub struct Fields<'a> {
 
 impl<'a> Fields<'a> {
     /// `n` fields of the record at `p`, from the field `from` on, each `step` behind the one before.
+    /// Requires numbers below 256: callers have bytes or constants at hand, and a test would cost each record.
     pub fn of(image: &'a [u8], p: usize, from: usize, step: usize, n: usize) -> Self
         requires { (from < 256) × (step < 256) × (n < 256) }
         ensures { every (body_at result.image.now result.place) result.next result.step result.many ≡ every (body_at image.now p) from step n }

@@ -1,5 +1,5 @@
 -- Lists of places: what a read, a write and a search make of a place inside and of one outside.
-use Rattle.std.specs.Prelude.{None, Some}
+use Rattle.std.specs.Prelude.{Err, None, Ok, Some}
 use mathlib.Core.Path.{◌≡◌, refl, sym, ◌∙◌}
 use mathlib.Core.Bool.{Bool, true, false}
 use mathlib.Core.List.{List, map, [], ◌∷◌}
@@ -36,12 +36,12 @@ module _ (xs : List Place) (i n : ℕ) (sized : length xs ≡ n) where
   read-outside h = rw (get_none xs i (omega arith))
 
   -- `by` makes a frame of the places
-  module _ (by : List Place → Frame) (c : Place) where
-    pub write-inside : i < n → Some (by (set xs i c)) ≡ written_of (put xs i c >>= λ (ys : List Place). got (by ys))
+  module _ (f : Frame) (by : List Place → Frame) (c : Place) where
+    pub write-inside : i < n → Ok (by (set xs i c)) ≡ written_of f (put xs i c >>= λ (ys : List Place). got (by ys))
     unfolding written_of put stuck_unless ◌>>=◌ ◌>>◌
     write-inside h = rw (lt-ltb i (length xs) (omega arith))
 
-    pub write-outside : n ≤ i → None ≡ written_of (put xs i c >>= λ (ys : List Place). got (by ys))
+    pub write-outside : n ≤ i → Err f ≡ written_of f (put xs i c >>= λ (ys : List Place). got (by ys))
     unfolding written_of put stuck_unless ◌>>=◌ ◌>>◌
     write-outside h = rw (le-ltb i (length xs) (omega arith))
 

@@ -1,5 +1,5 @@
 -- What the methods of a frame answer.
-use Rattle.std.specs.Prelude.{List, Bool, true, false, ℕ, ℤ, None, Option, Some}
+use Rattle.std.specs.Prelude.{List, Bool, true, false, ℕ, ℤ, Err, None, Ok, Option, Result, Some}
 use Rattle.std.specs.Ordering.{int_eq}
 use Rattle.layout.specs.Tests.{any}
 use Rattle.machine.specs.Try.{Try, got, stuck, stop, ◌>>=◌, at}
@@ -20,11 +20,11 @@ read_of (got v) = Some v
 read_of stuck = None
 read_of (stop e) = None
 
--- a write as a writer answers it: no write ends a run
-unfoldable pub written_of : Try Frame → Option Frame
-written_of (got g) = Some g
-written_of stuck = None
-written_of (stop e) = None
+-- a write to the frame f as a writer answers it: the frame as it was where it has no such place; no write ends a run
+unfoldable pub written_of : Frame → Try Frame → Result Frame Frame
+written_of f (got g) = Ok g
+written_of f stuck = Err f
+written_of f (stop e) = Err f
 
 -- the value is none
 unfoldable pub is_empty : Value → Bool

@@ -247,29 +247,29 @@ impl Frame {
         read(&self.names, x)
     }
 
-    /// The frame with the register `d` put to the value, where it has one.
-    pub fn with_register(mut self, d: u8, value: Value) -> Option<Frame>
-        ensures { result ≡ written_of (with_register self d value) }
+    /// The frame with the register `d` put to the value; as it was where it has no such register.
+    pub fn with_register(mut self, d: u8, value: Value) -> Result<Frame, Frame>
+        ensures { result ≡ written_of self (with_register self d value) }
     {
         let i = usize::from(d);
         if i < Frame::REGISTERS {
             self.registers[i] = Place { value };
-            Some(self)
+            Ok(self)
         } else {
-            None
+            Err(self)
         }
     }
 
-    /// The frame with the name `x` put to the value, where it has one.
-    pub fn with_name(mut self, x: u8, value: Value) -> Option<Frame>
-        ensures { result ≡ written_of (with_name self x value) }
+    /// The frame with the name `x` put to the value; as it was where it has no such name.
+    pub fn with_name(mut self, x: u8, value: Value) -> Result<Frame, Frame>
+        ensures { result ≡ written_of self (with_name self x value) }
     {
         let i = usize::from(x);
         if i < Frame::NAMES {
             self.names[i] = Place { value };
-            Some(self)
+            Ok(self)
         } else {
-            None
+            Err(self)
         }
     }
 

@@ -34,6 +34,7 @@ pub fn moved(image: &[u8], here: Here, p: usize) -> Here
 
 /// Puts a question to a program: the offset of the first record to which `asks` says no, told where the pass stands behind it.
 /// What is no whole record ends the pass.
+/// Requires a closure that may be called with any arguments, which no code can test.
 pub fn first_failing<F: Fn(Here, usize) -> bool>(image: &[u8], asks: F) -> Option<usize>
     requires { F.IsAlwaysCallable asks }
     ensures { (q : Question) → Asks (F.post asks) q image.now → result ≡ first q (program (records image.now)) }

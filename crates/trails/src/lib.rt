@@ -105,12 +105,13 @@ pub fn change<'s, 't>(
         bytes0.old numbers0.old steps.old past.old
         bytes0.new numbers0.new steps.new past.new }
 {
-    let changed = changes::change(old, new, bytes);
-    if changed.is_ok() {
-        start(bytes, numbers, bytes0, numbers0, steps, past);
-        return changed;
+    match changes::change(old, new, bytes) {
+        Ok(()) => {
+            start(bytes, numbers, bytes0, numbers0, steps, past);
+            Ok(())
+        }
+        Err(why) => Err(why),
     }
-    changed
 }
 
 /// A step back: the state that one step less gives from the start, or 20 where none lies behind.

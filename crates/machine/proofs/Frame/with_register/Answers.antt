@@ -6,8 +6,8 @@ use Rattle.machine.proofs.Frame.with_register.Goals as goal
 
 pub returns-then-i-lt-REGISTERS : goal.returns-then-i-lt-REGISTERS
 unfolding with_register
-returns-then-i-lt-REGISTERS c = let h = c.from-i.ensures in rw h (write-inside _ _ _ (search (rules, length-mapped)) _ _ (rw h at c.if-i-lt-REGISTERS.true))
+returns-then-i-lt-REGISTERS c = let h = c.from-i.ensures in rw h (write-inside _ _ _ (search (rules, length-mapped)) _ _ _ (rw h at c.if-i-lt-REGISTERS.true))
 
 pub returns-else-i-lt-REGISTERS : goal.returns-else-i-lt-REGISTERS
 unfolding with_register
-returns-else-i-lt-REGISTERS c = let h = c.from-i.ensures in write-outside _ _ _ (search (rules, length-mapped)) _ _ (rw h at c.if-i-lt-REGISTERS.false)
+returns-else-i-lt-REGISTERS c = let h = c.from-i.ensures in write-outside _ _ _ (search (rules, length-mapped)) _ _ _ (rw h at c.if-i-lt-REGISTERS.false)
