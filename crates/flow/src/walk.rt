@@ -14,8 +14,8 @@ use program::lookup::Tabled;
 
 /// What the block `b` of the version at `v` does: its instructions one after the other, then it reads its result register.
 #[cycle(walk_block_walk_instruction)]
-fn walk_block(tabled: Tabled, v: usize, b: usize) -> Option<Action>
-    ensures { flowed result ≡ block_action (program (records tabled.entry.image.now)) (version_at tabled.entry.image.now v) b }
+fn walk_block(tabled: &Tabled, v: usize, b: usize) -> Option<Action>
+    ensures { flowed result ≡ block_action (program (records tabled.now.image.now)) (version_at tabled.now.image.now v) b }
 {
     let image = tabled.image;
     let Some(q) = lookup::block(image, v, b) else {
@@ -54,18 +54,18 @@ fn walk_block(tabled: Tabled, v: usize, b: usize) -> Option<Action>
 
 /// What the instruction at `p` does, in the block `b` of the version at `v`: a PROM enters a block above its own.
 #[cycle(walk_block_walk_instruction)]
-fn walk_instruction(tabled: Tabled, v: usize, b: usize, p: usize) -> Option<Action>
-    ensures { flowed result ≡ acts (program (records tabled.entry.image.now)) (version_at tabled.entry.image.now v) b (instr_at tabled.entry.image.now p) }
+fn walk_instruction(tabled: &Tabled, v: usize, b: usize, p: usize) -> Option<Action>
+    ensures { flowed result ≡ acts (program (records tabled.now.image.now)) (version_at tabled.now.image.now v) b (instr_at tabled.now.image.now p) }
 {
     let image = tabled.image;
     if layout::kind_at(image, p) != kinds::PROM {
-        return instructions::instruction(tabled, p, None);
+        return instructions::instruction(*tabled, p, None);
     }
     let block = layout::field(image, p, 1);
     if block <= b {
-        return instructions::instruction(tabled, p, None);
+        return instructions::instruction(*tabled, p, None);
     }
-    instructions::instruction(tabled, p, walk_block(tabled, v, block))
+    instructions::instruction(*tabled, p, walk_block(tabled, v, block))
 }
 
 /// What the body of the version at `v` does. The table is the image's: its callers make it once for many versions.
@@ -73,5 +73,5 @@ fn walk_instruction(tabled: Tabled, v: usize, b: usize, p: usize) -> Option<Acti
 pub(crate) fn body_action(tabled: Tabled, v: usize) -> Option<Action>
     ensures { flowed result ≡ body_action (program (records tabled.entry.image.now)) (version_at tabled.entry.image.now v) }
 {
-    walk_block(tabled, v, 0)
+    walk_block(&tabled, v, 0)
 }

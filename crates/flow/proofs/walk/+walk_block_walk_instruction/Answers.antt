@@ -16,7 +16,7 @@ walk_block-returns-in_default t c =
 
 pub walk_block-overflow_add-p : goal.walk_block-overflow_add-p
 walk_block-overflow_add-p t c =
-    omega (arith, past-below _ _ 18446744073709551616 c.size_at.ensures (omega (arith, c.in-Some.known_told-1-own.given)) (omega (arith, c.well_formed.0.0)))
+    omega (arith, past-below _ _ 18446744073709551616 c.size_at.ensures (omega (arith, c.in-Some.known_told-1-own.given)) (omega arith))
 
 pub walk_block-loop-at-init : goal.walk_block-loop-at-init
 unfolding flowed
@@ -42,17 +42,17 @@ walk_block-bounds-taken-t-in-loop-at t c =
 pub walk_block-overflow_add-p-in-loop-at : goal.walk_block-overflow_add-p-in-loop-at
 walk_block-overflow_add-p-in-loop-at t c =
     let h = stands _ _ (sym c.is_line.ensures ∙ c.loop-at-test.true) in let z = size_in _ _ c.size_at-p.ensures (λ z. h.whole (sym c.size_at-p.ensures ∙ z)) in omega
-    (arith, z, c.well_formed.0.0)
+    (arith, z)
 
 pub walk_block-overflow_add-i : goal.walk_block-overflow_add-i
 walk_block-overflow_add-i t c =
     let h = stands _ _ (sym c.is_line.ensures ∙ c.loop-at-test.true) in let z = size_in _ _ c.size_at-p.ensures (λ z. h.whole (sym c.size_at-p.ensures ∙ z)) in omega
-    (arith, z, c.loop-at.invariant.3, c.well_formed.0.0)
+    (arith, z, c.loop-at.invariant.3)
 
 pub walk_block-loop-at-smaller : goal.walk_block-loop-at-smaller
 walk_block-loop-at-smaller t c =
     let h = stands _ _ (sym c.is_line.ensures ∙ c.loop-at-test.true) in let z = size_in _ _ c.size_at-p.ensures (λ z. h.whole (sym c.size_at-p.ensures ∙ z)) in omega
-    (arith, z, c.well_formed.0.0)
+    (arith, z)
 
 pub walk_block-loop-at-preserved : goal.walk_block-loop-at-preserved
 walk_block-loop-at-preserved t c =
