@@ -454,7 +454,7 @@ typedef struct fir_mended {
  * not be the one that the author has in mind.
  *
  * An accepted image is named accepted. Every other refusal, by 14 and 18 too, is returned as it is, with FIR_NOT_SOUGHT. The
- * image stays untouched: the library tries changes in a copy, so that the call takes 45,136 bytes of stack, 36,112 more than
+ * image stays untouched: the library tries changes in a copy, so that the call takes 42,848 bytes of stack, 35,088 more than
  * fir_check (on x86-64).
  *
  * Example:

@@ -187,6 +187,7 @@ fn allowed(
 }
 
 /// Question 11 to an entrance, then 19, 12 and 13: the number of the version that is entered, or the question that refuses it.
+#[inline(never)] // its stack is given back before the state is written
 fn questions(
     image: &[u8],
     table: &[u8],
@@ -285,6 +286,7 @@ fn fill(words: &[i64], bytes: &mut [u8; 2632], numbers: &mut [i64; 2129])
 }
 
 /// Writes the state of a run of the version under the number `k` before its first step, over whatever was there.
+#[inline(never)] // its stack is given back once the state is written
 fn start(k: u8, words: &[i64], bytes: &mut [u8; 2632], numbers: &mut [i64; 2129])
     ensures { (ts : List ℕ) (xs : List Given) → arguments ts words.now ≡ some xs
         → (bytes.new ≡ first_bytes (k / 4) (k % 4) xs) × (numbers.new ≡ first_numbers xs) }

@@ -116,10 +116,10 @@ fn promising(image: &[u8], p: usize, entered: Option<Action>) -> Option<Action>
 }
 
 /// The registers that the CALL at `p` empties: none where its version is not there.
-fn call_empties(tabled: Tabled, p: usize) -> u16
+fn call_empties(tabled: &Tabled, p: usize) -> u16
     ensures { set_of REGISTERS result
-        ≡ those REGISTERS (Option-elim (find_version (program (records tabled.entry.image.now)) (body_at tabled.entry.image.now p ! 1) (body_at tabled.entry.image.now p ! 2)) []
-        (λ c. emptied (given c (fields (body_at tabled.entry.image.now p) 4 (body_at tabled.entry.image.now p ! 3))))) }
+        ≡ those REGISTERS (Option-elim (find_version (program (records tabled.now.image.now)) (body_at tabled.now.image.now p ! 1) (body_at tabled.now.image.now p ! 2)) []
+        (λ c. emptied (given c (fields (body_at tabled.now.image.now p) 4 (body_at tabled.now.image.now p ! 3))))) }
 {
     let image = tabled.image;
     let f = layout::field(image, p, 1);
@@ -131,8 +131,8 @@ fn call_empties(tabled: Tabled, p: usize) -> u16
 }
 
 /// CALL: it reads its operands, and empties those of owned parameters.
-fn calling(tabled: Tabled, p: usize) -> Option<Action>
-    ensures { flowed result ≡ alone (program (records tabled.entry.image.now)) (instr_of kind.CALL (body_at tabled.entry.image.now p)) }
+fn calling(tabled: &Tabled, p: usize) -> Option<Action>
+    ensures { flowed result ≡ alone (program (records tabled.now.image.now)) (instr_of kind.CALL (body_at tabled.now.image.now p)) }
 {
     let image = tabled.image;
     let reads = named(image, p, 4, 1, layout::field(image, p, 3));
@@ -155,8 +155,8 @@ fn skipping(image: &[u8], p: usize) -> Option<Action>
 }
 
 /// What the instruction at `p` does, where `entered` is what the block does that a PROM names. The table is the image's.
-pub(crate) fn instruction(tabled: Tabled, p: usize, entered: Option<Action>) -> Option<Action>
-    ensures { flowed result ≡ action_of (λ block. flowed entered) (touch (program (records tabled.entry.image.now)) (instr_at tabled.entry.image.now p)) }
+pub(crate) fn instruction(tabled: &Tabled, p: usize, entered: Option<Action>) -> Option<Action>
+    ensures { flowed result ≡ action_of (λ block. flowed entered) (touch (program (records tabled.now.image.now)) (instr_at tabled.now.image.now p)) }
 {
     let image = tabled.image;
     match layout::kind_at(image, p) {

@@ -36,7 +36,6 @@ pub fn flows_at(tabled: Tabled, here: Here, p: usize) -> bool
 }
 
 /// Question 10: does flow hold in each version, with its body's R within the parameters?
-#[inline(never)] // its table is not on the stack beside that of another question
 pub fn question_10(image: &[u8]) -> Option<usize>
     ensures { result ≡ first (question10 (program (records image.now))) (program (records image.now)) }
 {

@@ -59,13 +59,13 @@ fn walk_instruction(tabled: &Tabled, v: usize, b: usize, p: usize) -> Option<Act
 {
     let image = tabled.image;
     if layout::kind_at(image, p) != kinds::PROM {
-        return instructions::instruction(*tabled, p, None);
+        return instructions::instruction(tabled, p, None);
     }
     let block = layout::field(image, p, 1);
     if block <= b {
-        return instructions::instruction(*tabled, p, None);
+        return instructions::instruction(tabled, p, None);
     }
-    instructions::instruction(*tabled, p, walk_block(tabled, v, block))
+    instructions::instruction(tabled, p, walk_block(tabled, v, block))
 }
 
 /// What the body of the version at `v` does. The table is the image's: its callers make it once for many versions.

@@ -168,6 +168,7 @@ fn search_function(image: &[u8], f: usize) -> bool
 }
 
 /// The table of the versions that the bounds allow: the offset of each at 4 × function + version, the image length where there is none.
+#[inline(never)] // its stack, with the table that it fills, is given back before the table is used
 pub fn versions(image: &[u8]) -> [usize; 128]
     ensures { result ≡ table_of image.now }
 {

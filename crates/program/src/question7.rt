@@ -232,7 +232,6 @@ fn exists_at(tabled: Tabled, here: Here, p: usize) -> bool
 }
 
 /// Question 7: does all exist that the records name, and is every block but 0 named by exactly one PROM in its version?
-#[inline(never)] // its table leaves the stack before the next question
 pub fn question_7(image: &[u8]) -> Option<usize>
     ensures { result ≡ first (question7 (program (records image.now))) (program (records image.now)) }
 {

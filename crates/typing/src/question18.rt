@@ -44,7 +44,6 @@ fn stays_down_at(tabled: Tabled, here: Here, p: usize) -> bool
 }
 
 /// Question 18: does a version CALL only versions of its level or lower?
-#[inline(never)] // its table leaves the stack before the next question
 pub fn question_18(image: &[u8]) -> Option<usize>
     ensures { result ≡ first (question18 (program (records image.now))) (program (records image.now)) }
 {

@@ -36,7 +36,6 @@ pub fn fits_at(tabled: Tabled, here: Here, p: usize) -> bool
 }
 
 /// Question 8: do types fit?
-#[inline(never)] // its table leaves the stack before the next question
 pub fn question_8(image: &[u8]) -> Option<usize>
     ensures { result ≡ first (question8 (program (records image.now))) (program (records image.now)) }
 {

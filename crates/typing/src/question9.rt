@@ -97,7 +97,6 @@ pub fn covers_at(tabled: Tabled, here: Here, p: usize) -> bool
 }
 
 /// Question 9: does each block's mark cover its effect?
-#[inline(never)] // its table leaves the stack before the next question
 pub fn question_9(image: &[u8]) -> Option<usize>
     ensures { result ≡ first (question9 (program (records image.now))) (program (records image.now)) }
 {

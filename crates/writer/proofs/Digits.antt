@@ -41,6 +41,11 @@ digits-enough (suc k) n h =
     ∙ ap (λ (front : List ℕ). front ++ ((48 + n % 10) ∷ [])) (digits-enough k (n / 10) tenth)
     ∙ sym (digits_more (suc k) n above))
 
+-- a digit at least where one is asked for
+digits-some : (k n : ℕ) → 1 ≤ length (digits (suc k) n)
+unfolding digits
+digits-some k n = rw length-append (omega arith)
+
 -- no more digits than asked for
 digits-most : (k n : ℕ) → length (digits k n) ≤ k
 unfolding digits
@@ -58,6 +63,10 @@ decimal-one n h = digits-one 19 n h
 pub decimal-more : (n : ℕ) → 10 ≤ n → n < 10 ^ 20 → decimal n ≡ decimal (n / 10) ++ ((48 + n % 10) ∷ [])
 decimal-more n h most =
     digits_more 19 n h ∙ ap (λ (front : List ℕ). front ++ ((48 + n % 10) ∷ [])) (sym (digits-enough 18 (n / 10) (omega arith)))
+
+-- a digit at least
+pub decimal-some : (n : ℕ) → 1 ≤ length (decimal n)
+decimal-some n = digits-some 19 n
 
 -- at most 20 digits
 pub decimal-most : (n : ℕ) → length (decimal n) ≤ 20

@@ -44,10 +44,11 @@ fn put_digits(out: &mut [u8], at: usize, size: usize, n: usize)
     ensures { out.new ≡ placed out.old at (decimal n) }
 {
     let mut front = n;
-    for place in (at..at + size).rev() {
+    for place in (at + 1..at + size).rev() {
         out[place] = last_digit(front);
         front /= 10;
     }
+    out[at] = last_digit(front);
 }
 
 /// Puts the decimal digits of `n` from the place `at` on, where they fit.
